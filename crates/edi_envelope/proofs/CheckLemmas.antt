@@ -9,6 +9,7 @@ use Rattle.std.proofs.lemmas.List.Folds.{list_any-append}
 use Rattle.edi_base.specs.Seen.{is_among, has_twice}
 use Rattle.edi_segments.specs.declared.segment.Segment.{Segment}
 use Rattle.std.specs.Prelude.{if◌then◌else◌}
+use Rattle.std.proofs.Math.Bool.{or-false}
 use Rattle.edi_envelope.specs.declared.fault.EnvelopeFault.{EnvelopeFault}
 use Rattle.edi_envelope.specs.declared.fault.EnvelopeFault.TheVariants.{InterchangeFrame}
 use Rattle.edi_envelope.specs.declared.header.HeaderMarks.{HeaderMarks}
@@ -20,7 +21,7 @@ use Rattle.edi_envelope.specs.declared.check.Stage.{Stage}
 use Rattle.edi_envelope.specs.declared.check.Stage.TheVariants.{Start, Between, Message, Lost, Ended, Broken}
 use Rattle.edi_envelope.specs.declared.check.Place.TheVariants as place
 use Rattle.edi_envelope.specs.Segments.{is_unb, is_unz, is_unh, is_unt, component, first_segment, last_segment, has_tag}
-use Rattle.edi_envelope.specs.Header.{is_header}
+use Rattle.edi_envelope.specs.Header.{is_valid_header}
 use Rattle.edi_envelope.specs.Blocks.{blocks}
 use Rattle.edi_envelope.specs.Message.{is_frame, reference_of}
 use Rattle.edi_envelope.specs.Reference.{kept}
@@ -144,10 +145,6 @@ module _ (before : List Segment) (unh : Segment) (body : List Segment) (s : Segm
 
 -- ---- where the check stands next
 
-or_false : (b : Bool) → (b || false) ≡ b
-or_false true = refl
-or_false false = refl
-
 if_not : (t f x y : Bool) → t ≡ false → f ≡ true → (if t then x else not f && y) ≡ false
 if_not t f x y is up = rw (is, up) refl
 
@@ -162,7 +159,7 @@ first_outside : (s : Segment) (h : HeaderMarks) (outside : Bool) → h ≡ marks
 unfolding is_outside_set
 first_outside s h outside marks is =
     is ∙ ap (λ (k : HeaderMarks). k.seven_bit && has_high_data s) marks
-    ∙ ap (λ b. (marks_of s).seven_bit && b) (sym (or_false (has_high_data s)))
+    ∙ ap (λ b. (marks_of s).seven_bit && b) (sym (or-false (has_high_data s)))
 
 follows_frame : (s : Segment) (more : List Segment) → is_unt s ≡ false → is_frame s ≡ true → follows true (s ∷ more) ≡ false
 follows_frame s more not_t frame = if_not (is_unt s) (is_frame s) (follows false more) (follows true more) not_t frame
@@ -195,7 +192,7 @@ refuses old s new bad checked = record {
   falls = λ fine. absurd (true≢false (sym fine ∙ bad));
 }
 
-header_of : (new : EnvelopeCheck) (s : Segment) → is_sound new ≡ true → new.header ≡ marks_of s → is_header s ≡ true
+header_of : (new : EnvelopeCheck) (s : Segment) → is_sound new ≡ true → new.header ≡ marks_of s → is_valid_header s ≡ true
 header_of new s fine marks =
     ap (λ (k : HeaderMarks). k.taken) (sym marks) ∙ (and_parts _ _ (and_parts _ _ (and_parts _ _ (and_parts _ _ fine).0).0).0).0
 

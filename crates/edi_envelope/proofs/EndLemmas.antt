@@ -16,7 +16,7 @@ use Rattle.edi_envelope.specs.declared.check.EnvelopeCheck.{EnvelopeCheck}
 use Rattle.edi_envelope.specs.declared.check.Marks.{Marks}
 use Rattle.edi_envelope.specs.Segments.{is_unz, component, first_segment, last_segment, between}
 use Rattle.edi_envelope.specs.Limits.{is_reference}
-use Rattle.edi_envelope.specs.Header.{is_header, is_test}
+use Rattle.edi_envelope.specs.Header.{is_valid_header, is_test}
 use Rattle.edi_envelope.specs.Blocks.{blocks}
 use Rattle.edi_envelope.specs.Message.{is_within_limits, is_counted, is_closed, reference_of}
 use Rattle.edi_envelope.specs.Reference.{kept}
@@ -52,7 +52,7 @@ outside_more (u ∷ m) s h old new f before is =
 -- the conditions of segments as they are defined
 abbrev exact : List Segment → Marks
 exact xs = record {
-  interchange_header = not (is_header (first_segment xs));
+  interchange_header = not (is_valid_header (first_segment xs));
   message_header = not (list_all is_within_limits (messages_in xs));
   segment_count = not (list_all is_counted (messages_in xs));
   message_reference = not (list_all is_closed (messages_in xs));
@@ -73,11 +73,11 @@ unfolding fault_of
 fault_of-row xs f r = rw (f, r) refl
 
 fault_of-lost : (xs : List Segment) (h : HeaderMarks) → is_framed xs ≡ true →
-    is_row_of_messages xs ≡ false → h.taken ≡ is_header (first_segment xs)
+    is_row_of_messages xs ≡ false → h.taken ≡ is_valid_header (first_segment xs)
     → fault_of xs ≡ Some (lost_fault h)
 unfolding fault_of
 fault_of-lost xs h f r taken =
-    elim (cases_Bool (is_header (first_segment xs))) [
+    elim (cases_Bool (is_valid_header (first_segment xs))) [
       | inl is ↦ rw (f, r, is, taken ∙ is) refl
       | inr not_so ↦ rw (f, not_so, taken ∙ not_so) refl
     ]
@@ -138,13 +138,13 @@ module _ (u : Segment) (m : List Segment) (z : Segment) (h : HeaderMarks) (f : F
   row_is : is_row_of_messages whole ≡ follows false m
   row_is = is_row_of whole ∙ ap is_row (between_of u m z) ∙ row_follows m
 
-  taken_is : h.taken ≡ is_header u
+  taken_is : h.taken ≡ is_valid_header u
   taken_is = ap (λ (k : HeaderMarks). k.taken) f.header_is
 
   lost_at : follows false m ≡ false → IsEnded whole (Some (lost_fault h))
   lost_at row = closes (Some (lost_fault h)) (fault_of-lost whole h framed (row_is ∙ row) taken_is)
 
-reference_in : (unb : Segment) → is_header unb ≡ true → is_reference (component unb 4 0) ≡ true
+reference_in : (unb : Segment) → is_valid_header unb ≡ true → is_reference (component unb 4 0) ≡ true
 reference_in unb h = (and_parts _ _ (and_parts _ _ h).0).1
 
 pub ends_lost : (lent : List Segment) (z : Segment) (h : HeaderMarks) →

@@ -5,7 +5,7 @@ use Rattle.edi_segments.specs.declared.segment.Segment.{Segment}
 use Rattle.edi_envelope.specs.Segments.{component}
 use Rattle.edi_base.specs.Limits.{are_digits}
 use Rattle.edi_envelope.specs.Limits.{is_reference}
-use Rattle.edi_envelope.specs.Header.{has_partner, is_header}
+use Rattle.edi_envelope.specs.Header.{has_partner, is_valid_header}
 use Rattle.edi_envelope.proofs.LimitLemmas.{has_length_bounds}
 
 pub record HasPlaces (unb : Segment) : Type 0 where
@@ -24,7 +24,7 @@ digits_length n bytes h = let b = has_length_bounds n n bytes (and_parts _ _ h).
 reference_length : (bytes : List ℕ) → is_reference bytes ≡ true → 0 < length bytes
 reference_length bytes h = (has_length_bounds 1 14 bytes (and_parts _ _ h).0).0
 
-pub header_places : (unb : Segment) → is_header unb ≡ true → HasPlaces unb
+pub header_places : (unb : Segment) → is_valid_header unb ≡ true → HasPlaces unb
 header_places unb h =
     let to_reference = and_parts _ _ (and_parts _ _ h).0 in
     let to_date = and_parts _ _ to_reference.0 in

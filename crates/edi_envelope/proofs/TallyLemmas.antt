@@ -6,6 +6,7 @@ use Rattle.std.specs.Str.{bytes_eq}
 use Rattle.std.proofs.lemmas.Bool.{and_parts, true≢false}
 use Rattle.std.proofs.lemmas.List.{map_push}
 use Rattle.std.proofs.lemmas.List.Folds.{list_all-append, list_any-append}
+use Rattle.std.proofs.Math.Bool.{and-true, or_assoc}
 use Rattle.edi_base.specs.Limits.{is_count, is_count_of}
 use Rattle.edi_base.specs.Seen.{is_among, has_twice}
 use Rattle.edi_base.proofs.Twice.{bytes_eq-sym}
@@ -20,22 +21,14 @@ use Rattle.edi_envelope.specs.Check.{has_identity, has_count, Heads, Trails}
 use Rattle.edi_envelope.proofs.ReferenceLemmas.{kept-eq}
 use Rattle.edi_envelope.proofs.RowLemmas.{at_end}
 
-and_true : (b : Bool) → (b && true) ≡ b
-and_true true = refl
-and_true false = refl
-
 pub all_more : {X : Type 0} (p : X → Bool) (xs : List X) (x : X) → list_all p (xs ++ x ∷ []) ≡ (list_all p xs && p x)
-all_more p xs x = list_all-append p xs (x ∷ []) ∙ ap (λ b. list_all p xs && b) (and_true (p x))
-
-or_again : (b c d : Bool) → (b || (c || d)) ≡ ((b || c) || d)
-or_again true c d = refl
-or_again false c d = refl
+all_more p xs x = list_all-append p xs (x ∷ []) ∙ ap (λ b. list_all p xs && b) (and-true (p x))
 
 or_shuffle : (a b c d : Bool) → ((a || b) || (c || d)) ≡ ((b || c) || (a || d))
 or_shuffle true true c d = refl
 or_shuffle true false true d = refl
 or_shuffle true false false d = refl
-or_shuffle false b c d = or_again b c d
+or_shuffle false b c d = sym (or_assoc b c d)
 
 or_turned : (a b : Bool) → (a || (b || false)) ≡ (b || a)
 or_turned true true = refl

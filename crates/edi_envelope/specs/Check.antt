@@ -23,7 +23,7 @@ use Rattle.edi_envelope.specs.declared.check.Stage.TheVariants.{Start, Between, 
 use Rattle.edi_envelope.specs.declared.check.EnvelopeCheck.{EnvelopeCheck}
 use Rattle.edi_envelope.specs.Segments.{is_unb, is_unz, is_unh, is_unt, component, first_segment, last_segment}
 use Rattle.edi_envelope.specs.Limits.{is_reference, is_identifier}
-use Rattle.edi_envelope.specs.Header.{is_header, is_test, is_seven_bit_set}
+use Rattle.edi_envelope.specs.Header.{is_valid_header, is_test, is_seven_bit_set}
 use Rattle.edi_envelope.specs.Blocks.{blocks}
 use Rattle.edi_envelope.specs.Message.{is_frame, is_counted, is_closed, reference_of}
 use Rattle.edi_envelope.specs.Reference.{kept}
@@ -58,7 +58,7 @@ follows true (segment ∷ rest) =
 -- what UNB says of itself
 abbrev pub marks_of : Segment → HeaderMarks
 marks_of unb = record {
-  taken = is_header unb;
+  taken = is_valid_header unb;
   test = is_test unb;
   seven_bit = is_seven_bit_set unb;
   reference = kept (component unb 4 0);
@@ -178,7 +178,7 @@ IsBegun lent = (list_any is_unh (drop 1 lent) ≡ true) × (is_unt (last_segment
 -- where a segment stands after those that have come, of which none is UNZ
 abbrev pub Placed : Place → List Segment → Segment → Type 0
 Placed place.Refused lent segment = Unit {0}
-Placed place.Header lent segment = (lent ≡ []) × (is_unb segment ≡ true) × (is_header segment ≡ true)
+Placed place.Header lent segment = (lent ≡ []) × (is_unb segment ≡ true) × (is_valid_header segment ≡ true)
 Placed place.MessageHeader lent segment = IsGoingOn lent × (is_unh segment ≡ true)
 Placed place.Inside lent segment = IsGoingOn lent × IsBegun lent × (is_frame segment ≡ false) × (is_unz segment ≡ false)
 Placed place.MessageTrailer lent segment = IsGoingOn lent × IsBegun lent × (is_unt segment ≡ true)
@@ -188,7 +188,7 @@ Placed place.Trailer lent segment = IsGoingOn lent × (is_unz segment ≡ true)
 pub record Steps (old : EnvelopeCheck) (stands : Place) (segment : Segment) (new : EnvelopeCheck) : Type 0 where
   pub checked : (lent : List Segment) → Checked lent old → Checked (lent ++ segment ∷ []) new
   pub placed : (lent : List Segment) → Checked lent old → is_fine new ≡ true → Placed stands lent segment
-  pub taken : stands ≡ place.Header → is_fine new ≡ true → is_header segment ≡ true
+  pub taken : stands ≡ place.Header → is_fine new ≡ true → is_valid_header segment ≡ true
   pub refuses : stands ≡ place.Refused → is_fine new ≡ false
   pub falls : is_fine new ≡ true → is_fine old ≡ true
 

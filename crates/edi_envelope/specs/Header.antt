@@ -29,8 +29,8 @@ abbrev pub is_test : Segment → Bool
 is_test unb = bytes_eq (component unb 10 0) (codes "1")
 
 -- the header is as this project takes it
-abbrev pub is_header : Segment → Bool
-is_header unb =
+abbrev pub is_valid_header : Segment → Bool
+is_valid_header unb =
     has_syntax unb && has_partner unb 1 && has_partner unb 2 && has_date_and_time unb
     && is_reference (component unb 4 0)
     && ((length (component unb 10 0) == 0) || is_test unb)

@@ -15,7 +15,7 @@ use Rattle.edi_envelope.specs.declared.fault.EnvelopeFault.TheVariants.{Memory}
 use Rattle.edi_envelope.specs.declared.interchange.Interchange.{Interchange}
 use Rattle.edi_envelope.specs.Segments.{is_unb, is_unz, component, first_segment, last_segment, between}
 use Rattle.edi_base.specs.Limits.{is_count_of}
-use Rattle.edi_envelope.specs.Header.{is_header, is_test, is_seven_bit_set, head_of}
+use Rattle.edi_envelope.specs.Header.{is_valid_header, is_test, is_seven_bit_set, head_of}
 use Rattle.edi_envelope.specs.Blocks.{before_message, blocks}
 use Rattle.edi_base.specs.Seen.{has_twice}
 use Rattle.edi_envelope.specs.Message.{is_block, is_within_limits, is_counted, is_closed, reference_of, message_of}
@@ -49,7 +49,7 @@ is_outside_set segments = is_seven_bit_set (first_segment segments) && list_any 
 -- Each condition, of all segments of the interchange. Each is defined also where another one holds.
 abbrev pub holds : EnvelopeFault → List Segment → Bool
 holds InterchangeFrame segments = not (is_framed segments)
-holds InterchangeHeader segments = not (is_header (first_segment segments))
+holds InterchangeHeader segments = not (is_valid_header (first_segment segments))
 holds MessageFrame segments = not (is_row_of_messages segments)
 holds MessageHeader segments = not (list_all is_within_limits (messages_in segments))
 holds SegmentCount segments = not (list_all is_counted (messages_in segments))

@@ -6,7 +6,7 @@ ghost use Rattle.edi_segments.specs.declared.segment.Segment.{Segment};
 ghost use Rattle.edi_segments.specs.Segment.{element_at};
 ghost use Rattle.edi_segments.specs.SegmentRef.{segment_in};
 ghost use Rattle.edi_envelope.specs.Segments.{has_tag};
-ghost use Rattle.edi_envelope.specs.Header.{is_header};
+ghost use Rattle.edi_envelope.specs.Header.{is_valid_header};
 ghost use Rattle.edi_envelope.specs.Interchange.{fault_of, has_high, has_high_data};
 ghost use Rattle.edi_envelope.specs.Check.{Checked, Placed, Steps, is_sound, is_fine, marks_at, lowest_of, lost_fault};
 
@@ -165,7 +165,8 @@ impl EnvelopeCheck {
 
     // Whether a byte is outside of the character set, of this segment or of one before.
     fn is_outside(&self, segment: &SegmentRef<'_>) -> bool
-        ensures { result ≡ (self.now.outside || (self.now.header.seven_bit && has_high_data (segment_in segment.now))) }
+        ensures { result ≡ (self.now.outside ||
+            (self.now.header.seven_bit && has_high_data (segment_in segment.now))) }
     {
         self.outside || (self.header.seven_bit && has_high_data(segment))
     }
@@ -346,7 +347,8 @@ impl EnvelopeCheck {
             OnOk result (Checked (lent ++ segment_in segment.now ∷ []) self.new) }
         ensures placed { (lent : List Segment) → Checked lent self.old →
             IfOk result (λ place. Placed place lent (segment_in segment.now)) }
-        ensures taken { IfOk result (λ place. place ≡ Place.Header → IsTrue (is_header (segment_in segment.now))) }
+        ensures taken { IfOk result (λ place.
+            place ≡ Place.Header → IsTrue (is_valid_header (segment_in segment.now))) }
         ensures refused { IfOk result (λ place. (place ≡ Place.Refused) ↔ (is_fine self.new ≡ false)) }
         ensures for_good { is_fine self.new ≡ true → is_fine self.old ≡ true }
         ensures ran_out { OnErr result (is_fine self.new ≡ false) }

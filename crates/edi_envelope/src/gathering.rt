@@ -2,7 +2,7 @@
 
 ghost use Rattle.std.specs.Prelude.{◌≡◌, ◌≢◌, ◌∷◌, ◌++◌, List, [], None, IsTrue, OnOk, MatchOption};
 ghost use Rattle.edi_segments.specs.declared.segment.Segment.{Segment};
-ghost use Rattle.edi_envelope.specs.Header.{is_header};
+ghost use Rattle.edi_envelope.specs.Header.{is_valid_header};
 ghost use Rattle.edi_envelope.specs.Check.{Placed};
 ghost use Rattle.edi_envelope.specs.Gathered.{Keeps, Whole, Gathers, IsOf};
 
@@ -51,7 +51,8 @@ impl Gathered {
 
     /// Ends the last message, where UNZ has come.
     pub(crate) fn end(&mut self, alloc: Global) -> Result<(), MemoryFault>
-        ensures { (lent : List Segment) (unz : Segment) → Gathers lent self.old → Placed Place.Trailer lent unz →
+        ensures { (lent : List Segment) (unz : Segment) → Gathers lent self.old →
+            Placed Place.Trailer lent unz →
             OnOk result (Gathers (lent ++ unz ∷ []) self.new) }
     {
         self.close(alloc)
@@ -64,8 +65,9 @@ impl Gathered {
         place: Place,
         segment: Segment,
     ) -> Result<(), MemoryFault>
-        requires { place ≡ Place.Header → IsTrue (is_header segment) }
-        ensures { (lent : List Segment) → Gathers lent self.old → place ≢ Place.Refused → Placed place lent segment →
+        requires { place ≡ Place.Header → IsTrue (is_valid_header segment) }
+        ensures { (lent : List Segment) → Gathers lent self.old → place ≢ Place.Refused →
+            Placed place lent segment →
             OnOk result (Gathers (lent ++ segment ∷ []) self.new) }
     {
         match place {

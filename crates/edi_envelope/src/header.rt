@@ -48,8 +48,8 @@ fn is_test(unb: &SegmentRef<'_>) -> bool
 }
 
 // Whether UNB is as it is taken.
-fn is_header(unb: &SegmentRef<'_>) -> bool
-    ensures { result ≡ spec.is_header (segment_in unb.now) }
+fn is_valid_header(unb: &SegmentRef<'_>) -> bool
+    ensures { result ≡ spec.is_valid_header (segment_in unb.now) }
 {
     has_syntax(unb)
         && has_partner(unb, 1)
@@ -88,7 +88,7 @@ impl HeaderMarks {
         ensures { result ≡ marks_of (segment_in unb.now) }
     {
         HeaderMarks {
-            taken: is_header(unb),
+            taken: is_valid_header(unb),
             test: is_test(unb),
             seven_bit: is_seven_bit_set(unb),
             reference: kept(unb.component(4, 0)),
@@ -118,7 +118,7 @@ fn take_first(elements: &mut Vec<Items<Items<u8>>>, place: usize) -> Items<u8>
 
 /// What UNB says. Partners and control reference are moved out of it.
 pub(crate) fn head_of(unb: Segment) -> Head
-    requires { IsTrue (spec.is_header unb) }
+    requires { IsTrue (spec.is_valid_header unb) }
     ensures { result ≡ spec.head_of unb }
 {
     let syntax = array_of(unb.component(0, 0));

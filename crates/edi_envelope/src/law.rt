@@ -12,5 +12,6 @@ pub fn lowest_condition()
     ensures fault { (tokens : Tokens) (fault : EnvelopeFault) →
         (interchange_of tokens ≡ Err fault) ↔ IsLowest fault tokens.segments }
     ensures interchange { (tokens : Tokens) (interchange : Interchange) →
-        (interchange_of tokens ≡ Ok interchange) ↔ (IsFaultless tokens.segments × IsInterchange tokens interchange) }
+        (interchange_of tokens ≡ Ok interchange) ↔
+        (IsFaultless tokens.segments × IsInterchange tokens interchange) }
 {}

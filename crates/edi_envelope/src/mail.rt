@@ -7,7 +7,7 @@ ghost use Rattle.edi_envelope.specs.Mail.{unb_from, unz_of, with_one, renumbered
 use crate::interchange::RawMessage;
 use edi_base::copied;
 use edi_moment::{Moment, date_digits, time_digits};
-use edi_tokens::{Elements, Items, MemoryFault, Segment, append_text};
+use edi_tokens::{Elements, Items, MemoryFault, Segment, append_segments};
 use std::alloc::Global;
 use std::array;
 
@@ -63,7 +63,8 @@ fn header(
     moment: Moment,
     reference: &[u8],
 ) -> Result<Segment, MemoryFault>
-    ensures { IfOk result (λ segment. segment ≡ unb_from hub.now owner.now (date_text moment) (time_text moment) reference.now) }
+    ensures { IfOk result (λ segment.
+        segment ≡ unb_from hub.now owner.now (date_text moment) (time_text moment) reference.now) }
 {
     let mut elements = Items::new(alloc);
     elements.push(pair(alloc, b"UNOC", b"3")?)?;
@@ -139,8 +140,10 @@ pub fn wrap(
     requires hub { All (λ digit. IsTrue (is_digit digit)) hub.now }
     requires owner { All (λ digit. IsTrue (is_digit digit)) owner.now }
     requires number { (1 ≤ number) × (number ≤ last_number) }
-    ensures segments { IfOk result (λ segments. segments ≡ mail_segments hub.now owner.now moment number message.now) }
-    ensures text { IfOk result (λ segments. text segments ≡ mail_interchange hub.now owner.now moment number message.now) }
+    ensures segments { IfOk result (λ segments.
+        segments ≡ mail_segments hub.now owner.now moment number message.now) }
+    ensures text { IfOk result (λ segments.
+        text segments ≡ mail_interchange hub.now owner.now moment number message.now) }
 {
     let reference = format!(in alloc; "{number}")?;
     let mut segments = Items::new(alloc);
@@ -158,9 +161,9 @@ fn put_numbered(alloc: Global, out: &mut Vec<u8>, segment: &Segment) -> Result<(
 {
     if segment.tag == *b"UNH" || segment.tag == *b"UNT" {
         let numbered = [numbered_segment(alloc, segment)?];
-        append_text(out, &numbered)?;
+        append_segments(out, &numbered)?;
     } else {
-        append_text(out, array::from_ref(segment))?;
+        append_segments(out, array::from_ref(segment))?;
     }
     Ok(())
 }

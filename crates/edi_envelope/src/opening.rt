@@ -36,7 +36,8 @@ impl Opening {
 
     // Takes the next segment, which is moved.
     fn take(&mut self, alloc: Global, segment: Segment) -> Result<(), MemoryFault>
-        ensures { (lent : List Segment) → Stands lent self.old → OnOk result (Stands (lent ++ segment ∷ []) self.new) }
+        ensures { (lent : List Segment) → Stands lent self.old →
+            OnOk result (Stands (lent ++ segment ∷ []) self.new) }
     {
         let place = self.check.next(&SegmentRef::of(&segment))?;
         self.gathered.keep(alloc, place, segment)
@@ -78,7 +79,8 @@ impl Opening {
 pub fn open(alloc: Global, tokens: Tokens) -> Result<Interchange, EnvelopeFault>
     ensures interchange { IfOk result (λ interchange. spec.interchange_of tokens ≡ Ok interchange) }
     ensures few { IfOk result (λ interchange. length interchange.messages ≤ 999) }
-    ensures fault { IfErr result (λ fault. fault ≢ EnvelopeFault.Memory → spec.interchange_of tokens ≡ Err fault) }
+    ensures fault { IfErr result (λ fault.
+        fault ≢ EnvelopeFault.Memory → spec.interchange_of tokens ≡ Err fault) }
 {
     let Tokens { service, segments } = tokens;
     let mut opening = Opening::new(alloc);
@@ -93,7 +95,8 @@ fn read<R: Source>(alloc: Global, lender: &mut Lender, reader: &mut R) -> Result
     ensures told { Reads (R.remaining reader.old) lender.old result lender.new }
     ensures some { ReadsSome lender.old result lender.new }
     ensures flag { stopped lender.old ≡ None → Flagged result (R.failed reader.old) (R.failed reader.new) }
-    ensures bound { TakesOf (R.remaining reader.old) (R.remaining reader.new) (room_of lender.old) (room_of lender.new) }
+    ensures bound { TakesOf (R.remaining reader.old) (R.remaining reader.new)
+        (room_of lender.old) (room_of lender.new) }
     ensures ends { AtEnd (R.remaining reader.old) lender.old → AtEnd (R.remaining reader.new) lender.new }
     ensures stops { Stops R.remaining (token_told result) reader.old lender.old reader.new lender.new }
     ensures origin { R.origin reader.new ≡ R.origin reader.old }
@@ -113,13 +116,15 @@ pub fn open_lent<R: Source>(
     reader: &mut R,
 ) -> Result<Interchange, OpenFault>
     // Of a text of which nothing was lent.
-    ensures interchange { (all : List ℕ) → Fed (R.remaining reader.old) all [] lender.old → Opens result (opened all) }
+    ensures interchange { (all : List ℕ) → Fed (R.remaining reader.old) all [] lender.old →
+        Opens result (opened all) }
     // Whatever is known of the reader, of some text.
     ensures some { Came [] lender.old → (all : List ℕ) × Opens result (opened all) }
     ensures few { IfOk result (λ interchange. length interchange.messages ≤ 999) }
     // A failed read is told where the reader answered an error, and else its flag stays.
     ensures flag { stopped lender.old ≡ None → Flagged result (R.failed reader.old) (R.failed reader.new) }
-    ensures bound { TakesOf (R.remaining reader.old) (R.remaining reader.new) (room_of lender.old) (room_of lender.new) }
+    ensures bound { TakesOf (R.remaining reader.old) (R.remaining reader.new)
+        (room_of lender.old) (room_of lender.new) }
     ensures ends { AtEnd (R.remaining reader.old) lender.old → AtEnd (R.remaining reader.new) lender.new }
     // The lender stops with the fault that it told, and after any other answer goes on.
     ensures stops { Stops R.remaining (token_told result) reader.old lender.old reader.new lender.new }
@@ -132,14 +137,18 @@ pub fn open_lent<R: Source>(
 
 /// The same of a feeder's text.
 pub fn open_feed<R: Source>(alloc: Global, feeder: &mut Feeder<R>) -> Result<Interchange, OpenFault>
-    ensures interchange { (all : List ℕ) → Fed (R.remaining feeder.old.reader) all [] feeder.old.lender → Opens result (opened all) }
+    ensures interchange { (all : List ℕ) →
+        Fed (R.remaining feeder.old.reader) all [] feeder.old.lender → Opens result (opened all) }
     ensures some { Came [] feeder.old.lender → (all : List ℕ) × Opens result (opened all) }
     ensures few { IfOk result (λ interchange. length interchange.messages ≤ 999) }
-    ensures flag { stopped feeder.old.lender ≡ None → Flagged result (R.failed feeder.old.reader) (R.failed feeder.new.reader) }
+    ensures flag { stopped feeder.old.lender ≡ None →
+        Flagged result (R.failed feeder.old.reader) (R.failed feeder.new.reader) }
     ensures bound { TakesOf (R.remaining feeder.old.reader) (R.remaining feeder.new.reader)
         (room_of feeder.old.lender) (room_of feeder.new.lender) }
-    ensures ends { AtEnd (R.remaining feeder.old.reader) feeder.old.lender → AtEnd (R.remaining feeder.new.reader) feeder.new.lender }
-    ensures stops { Stops R.remaining (token_told result) feeder.old.reader feeder.old.lender feeder.new.reader feeder.new.lender }
+    ensures ends { AtEnd (R.remaining feeder.old.reader) feeder.old.lender →
+        AtEnd (R.remaining feeder.new.reader) feeder.new.lender }
+    ensures stops { Stops R.remaining
+        (token_told result) feeder.old.reader feeder.old.lender feeder.new.reader feeder.new.lender }
     ensures origin { R.origin feeder.new.reader ≡ R.origin feeder.old.reader }
 {
     open_lent(alloc, &mut feeder.lender, &mut feeder.reader)

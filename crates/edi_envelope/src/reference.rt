@@ -49,7 +49,8 @@ impl References {
     /// Puts a reference in, as a set does. Whether it comes for the first time.
     pub(crate) fn insert(&mut self, reference: [u8; 14]) -> Result<bool, AllocError>
         ensures new { IfOk result (λ new. new ≡ not (is_among reference self.old)) }
-        ensures seen { OnOk result ((other : List ℕ) → is_among other self.new ≡ (bytes_eq other reference || is_among other self.old)) }
+        ensures seen { OnOk result ((other : List ℕ) →
+            is_among other self.new ≡ (bytes_eq other reference || is_among other self.old)) }
     {
         let new = self.set.insert(reference)?;
         Ok(new)

@@ -98,7 +98,8 @@ impl Trailers {
 
     /// Takes one more.
     pub(crate) fn take(&mut self, begun: Begun, unt: &SegmentRef<'_>) -> Result<(), MemoryFault>
-        ensures trails { (messages : List (List Segment)) (unh : Segment) (body : List Segment) → Trails messages self.old →
+        ensures trails { (messages : List (List Segment)) (unh : Segment) (body : List Segment) →
+            Trails messages self.old →
             begun.count ≡ length (unh ∷ body) → begun.reference ≡ reference_spec.kept (component unh 0 0) →
             OnOk result (Trails (messages ++ (unh ∷ body ++ segment_in unt.now ∷ []) ∷ []) self.new) }
         ensures falls { OnOk result (are_trails_sound self.new ≡ true → are_trails_sound self.old ≡ true) }

@@ -10,7 +10,7 @@ use Rattle.edi_messages.specs.Fault.{faults, faults_from, unless}
 use Rattle.edi_messages.specs.Parts.{line_groups}
 use Rattle.edi_messages.specs.declared.fault.MessageFault.{MessageFault}
 use Rattle.edi_messages.specs.declared.fault.MessageFault.TheVariants as fault
-use Rattle.edi_messages.proofs.Judged.{judged_is, judged_none}
+use Rattle.edi_messages.proofs.Valid.{content_is, no_fault_holds}
 use Rattle.edi_goods.specs.Despatch.{holds as despatch_holds, header_order, unit_from as despatch_unit}
 use Rattle.edi_goods.specs.Despatch.{contents_of as despatch_contents, despatch_of, lowest as despatch_lowest}
 use Rattle.edi_goods.specs.Receipt.{is_received, lines_in_unit, has_sums, has_quantities, holds as receipt_holds}
@@ -58,9 +58,9 @@ pub receipt_apart : (m : RawMessage) (receipt : Receipt)
     → has_twice (map (λ unit. unit.sscc) receipt.units) ≡ false
 unfolding receipt_of
 receipt_apart m receipt h =
-    let right = judged_none (λ f. receipt_holds f m) (receipt_contents m.segments) receipt refl h fault.Unit in
+    let right = no_fault_holds (λ f. receipt_holds f m) (receipt_contents m.segments) receipt refl h fault.Unit in
     ap (λ (r : Receipt). has_twice (map (λ unit. unit.sscc) r.units))
-    (sym (judged_is (λ f. receipt_holds f m) (receipt_contents m.segments) receipt h))
+    (sym (content_is (λ f. receipt_holds f m) (receipt_contents m.segments) receipt h))
     ∙ receipt_units_apart m.segments (not-false _ right)
 
 -- no article's sum in a unit of it is too great
@@ -69,9 +69,9 @@ pub receipt_sums : (m : RawMessage) (receipt : Receipt)
     → list_all (λ unit. has_sums unit.lines) receipt.units ≡ true
 unfolding receipt_of
 receipt_sums m receipt h =
-    let right = judged_none (λ f. receipt_holds f m) (receipt_contents m.segments) receipt refl h fault.Quantity in
+    let right = no_fault_holds (λ f. receipt_holds f m) (receipt_contents m.segments) receipt refl h fault.Quantity in
     ap (λ (r : Receipt). list_all (λ unit. has_sums unit.lines) r.units)
-    (sym (judged_is (λ f. receipt_holds f m) (receipt_contents m.segments) receipt h))
+    (sym (content_is (λ f. receipt_holds f m) (receipt_contents m.segments) receipt h))
     ∙ receipt_units_sums (read_units m.segments) (not-false _ right)
 
 -- no SSCC of a despatch advice stands twice
@@ -80,9 +80,9 @@ pub despatch_apart : (m : RawMessage) (despatch : Despatch)
     → has_twice (map (λ unit. unit.sscc) despatch.units) ≡ false
 unfolding despatch_of
 despatch_apart m despatch h =
-    let right = judged_none (λ f. despatch_holds f m) (despatch_contents m.segments) despatch refl h fault.Unit in
+    let right = no_fault_holds (λ f. despatch_holds f m) (despatch_contents m.segments) despatch refl h fault.Unit in
     ap (λ (d : Despatch). has_twice (map (λ unit. unit.sscc) d.units))
-    (sym (judged_is (λ f. despatch_holds f m) (despatch_contents m.segments) despatch h))
+    (sym (content_is (λ f. despatch_holds f m) (despatch_contents m.segments) despatch h))
     ∙ despatch_units_apart (header_order m.segments) m.segments (not-false _ right)
 
 -- the receiving advice of a message in which no condition holds

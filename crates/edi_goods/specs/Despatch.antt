@@ -6,7 +6,7 @@ use Rattle.std.specs.Option.{unwrap_or}
 use Rattle.std.specs.Str.{bytes_eq}
 use Rattle.edi_segments.specs.declared.segment.Segment.{Segment}
 use Rattle.edi_envelope.specs.declared.interchange.RawMessage.{RawMessage}
-use Rattle.edi_messages.specs.Fault.{judged}
+use Rattle.edi_messages.specs.Fault.{unless_any}
 use Rattle.edi_messages.specs.Header.{is_type, begins_as, document_number, function, has_date, party}
 use Rattle.edi_messages.specs.Lines.{gtin, quantity_of}
 use Rattle.edi_messages.specs.Parts.{header, line_groups, is_read}
@@ -38,15 +38,15 @@ has_header_reference_or_none message = none_or_one_reference (is_read order_name
 
 -- The one reference of a group is valid. Where there is not just one, the group has none at all, and the header has
 -- one.
-abbrev pub is_referred_by : Bool → Bool → Option Segment → Bool
-is_referred_by there inherited (Some rff) = is_order_reference rff
-is_referred_by there inherited None = not there && inherited
+abbrev pub is_reference_or_inherits : Bool → Bool → Option Segment → Bool
+is_reference_or_inherits there inherited (Some rff) = is_order_reference rff
+is_reference_or_inherits there inherited None = not there && inherited
 
-abbrev pub is_referred : Bool → List Segment → Bool
-is_referred inherited group = is_referred_by (has_reference group) inherited (reference group)
+abbrev pub has_reference_or_inherits : Bool → List Segment → Bool
+has_reference_or_inherits inherited group = is_reference_or_inherits (has_reference group) inherited (reference group)
 
 abbrev pub has_references : Bool → List Segment → Bool
-has_references inherited unit = list_all (is_referred inherited) (line_groups unit)
+has_references inherited unit = list_all (has_reference_or_inherits inherited) (line_groups unit)
 
 -- the order of a line: the one that its group names, or that of the header
 abbrev pub order_of_line : List ℕ → List Segment → List ℕ
@@ -102,4 +102,4 @@ contents_of message = record {
 
 -- the despatch advice of a message where no condition holds, else the lowest fault
 unfoldable pub despatch_of : RawMessage → Result Despatch MessageFault
-despatch_of m = judged (λ fault. holds fault m) (contents_of m.segments)
+despatch_of m = unless_any (λ fault. holds fault m) (contents_of m.segments)

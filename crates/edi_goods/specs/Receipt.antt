@@ -5,7 +5,7 @@ use Rattle.std.specs.Option.{unwrap_or}
 use Rattle.std.specs.Str.{bytes_eq}
 use Rattle.edi_segments.specs.declared.segment.Segment.{Segment}
 use Rattle.edi_envelope.specs.declared.interchange.RawMessage.{RawMessage}
-use Rattle.edi_messages.specs.Fault.{judged}
+use Rattle.edi_messages.specs.Fault.{unless_any}
 use Rattle.edi_messages.specs.Header.{is_type, begins_as, document_number, function, has_date, party}
 use Rattle.edi_messages.specs.Lines.{gtin, amount, quantity_of}
 use Rattle.edi_messages.specs.Parts.{line_groups, none_or_one, is_read}
@@ -111,4 +111,4 @@ contents_of message = record {
 
 -- the receiving advice of a message where no condition holds, else the lowest fault
 unfoldable pub receipt_of : RawMessage → Result Receipt MessageFault
-receipt_of m = judged (λ fault. holds fault m) (contents_of m.segments)
+receipt_of m = unless_any (λ fault. holds fault m) (contents_of m.segments)

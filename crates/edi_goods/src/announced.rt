@@ -57,9 +57,11 @@ fn despatch_items<'a, 'b>(
     alloc: Global,
     items: &'b [LineItem<'a>],
 ) -> Result<Vec<DespatchItem<'a, 'b>>, MessageFault>
-    ensures ok { IfOk result (λ lines. (lines.items ≡ items.now) × (list_all (λ group. is_some (spec.despatched group)) items.now ≡ true)) }
+    ensures ok { IfOk result (λ lines.
+        (lines.items ≡ items.now) × (list_all (λ group. is_some (spec.despatched group)) items.now ≡ true)) }
     ensures err { IfErr result (λ fault. fault ≢ MessageFault.Memory →
-        (fault ≡ MessageFault.Quantity) × (list_all (λ group. is_some (spec.despatched group)) items.now ≡ false)) }
+        (fault ≡ MessageFault.Quantity)
+        × (list_all (λ group. is_some (spec.despatched group)) items.now ≡ false)) }
 {
     let mut lines = Vec::new(alloc);
     for item in items {
@@ -74,7 +76,8 @@ pub(crate) fn despatch_units<'a, 'b>(
     alloc: Global,
     units: &'b [ItemUnit<'a>],
 ) -> Result<Vec<DespatchUnit<'a, 'b>>, MessageFault>
-    ensures ok { IfOk result (λ despatched. (despatched.items ≡ units.now) × (list_all spec.has_quantities units.now ≡ true)) }
+    ensures ok { IfOk result (λ despatched.
+        (despatched.items ≡ units.now) × (list_all spec.has_quantities units.now ≡ true)) }
     ensures err { IfErr result (λ fault. fault ≢ MessageFault.Memory →
         (fault ≡ MessageFault.Quantity) × (list_all spec.has_quantities units.now ≡ false)) }
 {
@@ -104,7 +107,8 @@ impl<'a, 'b> Model for ReferredItem<'a, 'b> {
 
     ghost view = { λ line. line.item.now };
 
-    ghost invariant = { λ line. IsReferredItem line.item.now (option_map (λ number. number.now) line.order) line.order_line line.quantity };
+    ghost invariant = { λ line. IsReferredItem line.item.now
+        (option_map (λ number. number.now) line.order) line.order_line line.quantity };
 }
 
 /// A unit with the references of its lines.
@@ -134,8 +138,9 @@ fn group_reference(
 ) -> Result<Option<NamedOrder<'_>>, MessageFault>
     ensures order { IfOk result (λ named. option_map (λ one. one.order.now) named ≡ group_order group.now) }
     ensures line { IfOk result (λ named. option_and_then (λ one. one.line) named ≡ group_line group.now) }
-    ensures ok { IfOk result (λ named. spec.is_referred inherited group.now ≡ true) }
-    ensures err { IfErr result (λ fault. (fault ≡ MessageFault.Reference) × (spec.is_referred inherited group.now ≡ false)) }
+    ensures ok { IfOk result (λ named. spec.has_reference_or_inherits inherited group.now ≡ true) }
+    ensures err { IfErr result (λ fault.
+        (fault ≡ MessageFault.Reference) × (spec.has_reference_or_inherits inherited group.now ≡ false)) }
 {
     match reference(group) {
         Some(rff) => {
@@ -157,8 +162,10 @@ fn referred_item<'a, 'b>(
     inherited: bool,
     line: &DespatchItem<'a, 'b>,
 ) -> Result<ReferredItem<'a, 'b>, MessageFault>
-    ensures ok { IfOk result (λ referred. (referred ≡ line.now) × (spec.is_referred inherited line.now ≡ true)) }
-    ensures err { IfErr result (λ fault. (fault ≡ MessageFault.Reference) × (spec.is_referred inherited line.now ≡ false)) }
+    ensures ok { IfOk result (λ referred.
+        (referred ≡ line.now) × (spec.has_reference_or_inherits inherited line.now ≡ true)) }
+    ensures err { IfErr result (λ fault.
+        (fault ≡ MessageFault.Reference) × (spec.has_reference_or_inherits inherited line.now ≡ false)) }
 {
     let (order, order_line) = match group_reference(inherited, line.item.group())? {
         Some(named) => (Some(named.order), named.line),
@@ -172,15 +179,18 @@ fn referred_item<'a, 'b>(
     })
 }
 
-// The lines, each with what it names; the fault `Reference` where one of them names no order.
+// The lines, each with what it names; the fault `Reference` where one of them has no valid reference and
+// inherits none.
 fn referred_items<'a, 'b>(
     alloc: Global,
     inherited: bool,
     items: &[DespatchItem<'a, 'b>],
 ) -> Result<Vec<ReferredItem<'a, 'b>>, MessageFault>
-    ensures ok { IfOk result (λ lines. (lines.items ≡ items.now) × (list_all (spec.is_referred inherited) items.now ≡ true)) }
+    ensures ok { IfOk result (λ lines.
+        (lines.items ≡ items.now) × (list_all (spec.has_reference_or_inherits inherited) items.now ≡ true)) }
     ensures err { IfErr result (λ fault. fault ≢ MessageFault.Memory →
-        (fault ≡ MessageFault.Reference) × (list_all (spec.is_referred inherited) items.now ≡ false)) }
+        (fault ≡ MessageFault.Reference)
+        × (list_all (spec.has_reference_or_inherits inherited) items.now ≡ false)) }
 {
     let mut lines = Vec::new(alloc);
     for item in items {
@@ -189,13 +199,15 @@ fn referred_items<'a, 'b>(
     Ok(lines)
 }
 
-/// The units, each with the references of its lines; the fault `Reference` where a line names no order.
+/// The units, each with the references of its lines; the fault `Reference` where a line has no valid reference
+/// and inherits none.
 pub(crate) fn referred_units<'a, 'b>(
     alloc: Global,
     inherited: bool,
     units: &[DespatchUnit<'a, 'b>],
 ) -> Result<Vec<ReferredUnit<'a, 'b>>, MessageFault>
-    ensures ok { IfOk result (λ referred. (referred.items ≡ units.now) × (list_all (spec.has_references inherited) units.now ≡ true)) }
+    ensures ok { IfOk result (λ referred.
+        (referred.items ≡ units.now) × (list_all (spec.has_references inherited) units.now ≡ true)) }
     ensures err { IfErr result (λ fault. fault ≢ MessageFault.Memory →
         (fault ≡ MessageFault.Reference) × (list_all (spec.has_references inherited) units.now ≡ false)) }
 {

@@ -60,7 +60,8 @@ pub struct DespatchLine {
 fn header_order(message: &[Segment]) -> Result<&[u8], MessageFault>
     ensures ok { IfOk result (λ order. (order.now ≡ spec.header_order message.now)
         × (spec.has_header_reference_or_none message.now ≡ true)) }
-    ensures err { IfErr result (λ fault. (fault ≡ MessageFault.Reference) × (spec.has_header_reference_or_none message.now ≡ false)) }
+    ensures err { IfErr result (λ fault.
+        (fault ≡ MessageFault.Reference) × (spec.has_header_reference_or_none message.now ≡ false)) }
 {
     match order(message) {
         Some(order) => Ok(order),
@@ -86,8 +87,8 @@ fn units_of(
     ensures err { IfErr result (λ fault. fault ≡ MessageFault.Memory) }
 {
     let mut read = Items::new(alloc);
-    for (place, unit) in units.iter().enumerate() {
-        let sscc = ssccs[place];
+    for (index, unit) in units.iter().enumerate() {
+        let sscc = ssccs[index];
         let lines = lines_in_unit(alloc, header_order, unit)?;
         read.push(Unit { sscc, lines })?;
     }
@@ -98,7 +99,8 @@ fn units_of(
 fn read_heading(message: &RawMessage) -> Result<Parties, MessageFault>
     ensures said { IfOk result (λ parties. (parties.buyer ≡ buyer message.now.segments)
         × (party (codes "SU") message.now.segments ≡ Some parties.supplier)) }
-    ensures ok { IfOk result (λ _. spec.lowest faults message.now ≡ spec.lowest (faults_from MessageFault.Line) message.now) }
+    ensures ok { IfOk result (λ _.
+        spec.lowest faults message.now ≡ spec.lowest (faults_from MessageFault.Line) message.now) }
     ensures err { IfErr result (λ fault. spec.lowest faults message.now ≡ Some fault) }
 {
     let segments = message.segments.as_slice();
@@ -117,7 +119,7 @@ fn read_heading(message: &RawMessage) -> Result<Parties, MessageFault>
     read_parties(segments)
 }
 
-// The units of the record, or the lowest fault of the references and of what is judged behind them.
+// The units of the record, or the lowest fault of the references and of what is checked behind them.
 fn read_referred(
     alloc: Global,
     message: &RawMessage,
@@ -127,7 +129,8 @@ fn read_referred(
     requires items { items.now ≡ read_units message.now.segments }
     requires despatched { despatched.now ≡ read_units message.now.segments }
     ensures said { IfOk result
-        (λ units. units ≡ map (spec.unit_from (spec.header_order message.now.segments)) (read_units message.now.segments)) }
+        (λ units. units ≡ map (spec.unit_from (spec.header_order message.now.segments))
+        (read_units message.now.segments)) }
     ensures units { IfOk result (λ _. has_units message.now.segments ≡ true) }
     ensures ok { IfOk result (λ _. spec.lowest (faults_from MessageFault.Reference) message.now ≡ None) }
     ensures err { IfErr result (λ fault. fault ≢ MessageFault.Memory →
@@ -148,10 +151,11 @@ fn read_referred(
     Ok(units)
 }
 
-// The units of the record, or the lowest fault of them and of what is judged behind them.
+// The units of the record, or the lowest fault of them and of what is checked behind them.
 fn read_announced(alloc: Global, message: &RawMessage) -> Result<Items<Unit>, MessageFault>
     ensures said { IfOk result
-        (λ units. units ≡ map (spec.unit_from (spec.header_order message.now.segments)) (read_units message.now.segments)) }
+        (λ units. units ≡ map (spec.unit_from (spec.header_order message.now.segments))
+        (read_units message.now.segments)) }
     ensures units { IfOk result (λ _. has_units message.now.segments ≡ true) }
     ensures ok { IfOk result (λ _. spec.lowest (faults_from MessageFault.Line) message.now ≡ None) }
     ensures err { IfErr result (λ fault. fault ≢ MessageFault.Memory →
@@ -171,7 +175,8 @@ impl Despatch {
     pub fn read(alloc: Global, message: &RawMessage) -> Result<Despatch, MessageFault>
         ensures ok { IfOk result (λ despatch. spec.despatch_of message.now ≡ Ok despatch) }
         ensures apart { IfOk result (λ despatch. has_twice (map (λ unit. unit.sscc) despatch.units) ≡ false) }
-        ensures err { IfErr result (λ fault. fault ≢ MessageFault.Memory → spec.despatch_of message.now ≡ Err fault) }
+        ensures err { IfErr result (λ fault.
+            fault ≢ MessageFault.Memory → spec.despatch_of message.now ≡ Err fault) }
     {
         let parties = read_heading(message)?;
         let units = read_announced(alloc, message)?;

@@ -19,8 +19,10 @@ pub(crate) struct Parties {
 
 // The buyer, where there is one; the fault `Parties` where there are several or it is not valid.
 fn buyer(message: &[Segment]) -> Result<Option<Gln>, MessageFault>
-    ensures ok { IfOk result (λ buyer. (buyer ≡ spec.buyer message.now) × (spec.has_buyer_or_none message.now ≡ true)) }
-    ensures err { IfErr result (λ fault. (fault ≡ MessageFault.Parties) × (spec.has_buyer_or_none message.now ≡ false)) }
+    ensures ok { IfOk result (λ buyer.
+        (buyer ≡ spec.buyer message.now) × (spec.has_buyer_or_none message.now ≡ true)) }
+    ensures err { IfErr result (λ fault.
+        (fault ≡ MessageFault.Parties) × (spec.has_buyer_or_none message.now ≡ false)) }
 {
     match party(b"BY", message) {
         Some(buyer) => Ok(Some(buyer)),
@@ -38,7 +40,8 @@ fn buyer(message: &[Segment]) -> Result<Option<Gln>, MessageFault>
 pub(crate) fn read_parties(message: &[Segment]) -> Result<Parties, MessageFault>
     ensures ok { IfOk result (λ parties. (parties.buyer ≡ spec.buyer message.now)
         × (party (codes "SU") message.now ≡ Some parties.supplier) × (spec.has_parties message.now ≡ true)) }
-    ensures err { IfErr result (λ fault. (fault ≡ MessageFault.Parties) × (spec.has_parties message.now ≡ false)) }
+    ensures err { IfErr result (λ fault.
+        (fault ≡ MessageFault.Parties) × (spec.has_parties message.now ≡ false)) }
 {
     let buyer = buyer(message)?;
     let supplier = party(b"SU", message).ok_or(MessageFault::Parties)?;

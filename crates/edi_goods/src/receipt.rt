@@ -69,8 +69,8 @@ fn units_of(
     ensures err { IfErr result (λ fault. fault ≡ MessageFault.Memory) }
 {
     let mut read = Items::new(alloc);
-    for (place, unit) in units.iter().enumerate() {
-        let sscc = ssccs[place];
+    for (index, unit) in units.iter().enumerate() {
+        let sscc = ssccs[index];
         let lines = Vec::from_slice(alloc, unit.lines())?;
         read.push(ReceiptUnit {
             sscc,
@@ -98,7 +98,8 @@ fn has_function(message: &[Segment]) -> bool
 fn read_heading(message: &RawMessage) -> Result<Parties, MessageFault>
     ensures said { IfOk result (λ parties. (parties.buyer ≡ buyer message.now.segments)
         × (party (codes "SU") message.now.segments ≡ Some parties.supplier)) }
-    ensures ok { IfOk result (λ _. spec.lowest faults message.now ≡ spec.lowest (faults_from MessageFault.Line) message.now) }
+    ensures ok { IfOk result (λ _.
+        spec.lowest faults message.now ≡ spec.lowest (faults_from MessageFault.Line) message.now) }
     ensures err { IfErr result (λ fault. spec.lowest faults message.now ≡ Some fault) }
 {
     let segments = message.segments.as_slice();
@@ -117,7 +118,7 @@ fn read_heading(message: &RawMessage) -> Result<Parties, MessageFault>
     read_parties(segments)
 }
 
-// The units of the record, or the lowest fault of them and of what is judged behind them.
+// The units of the record, or the lowest fault of them and of what is checked behind them.
 fn read_identified(
     alloc: Global,
     message: &RawMessage,
@@ -144,11 +145,12 @@ fn read_identified(
     Ok(units)
 }
 
-// The units of the record, or the lowest fault of their lines and of what is judged behind these.
+// The units of the record, or the lowest fault of their lines and of what is checked behind these.
 fn read_received(alloc: Global, message: &RawMessage) -> Result<Items<ReceiptUnit>, MessageFault>
     ensures said { IfOk result (λ units. units ≡ map spec.unit_from (read_units message.now.segments)) }
     ensures units { IfOk result (λ _. has_units message.now.segments ≡ true) }
-    ensures quantities { IfOk result (λ _. list_all spec.has_quantities (read_units message.now.segments) ≡ true) }
+    ensures quantities { IfOk result (λ _.
+        list_all spec.has_quantities (read_units message.now.segments) ≡ true) }
     ensures ok { IfOk result (λ _. spec.lowest (faults_from MessageFault.Line) message.now ≡ None) }
     ensures err { IfErr result (λ fault. fault ≢ MessageFault.Memory →
         spec.lowest (faults_from MessageFault.Line) message.now ≡ Some fault) }
@@ -167,8 +169,10 @@ impl Receipt {
     pub fn read(alloc: Global, message: &RawMessage) -> Result<Receipt, MessageFault>
         ensures ok { IfOk result (λ receipt. spec.receipt_of message.now ≡ Ok receipt) }
         ensures apart { IfOk result (λ receipt. has_twice (map (λ unit. unit.sscc) receipt.units) ≡ false) }
-        ensures sums { IfOk result (λ receipt. list_all (λ unit. spec.has_sums unit.lines) receipt.units ≡ true) }
-        ensures err { IfErr result (λ fault. fault ≢ MessageFault.Memory → spec.receipt_of message.now ≡ Err fault) }
+        ensures sums { IfOk result (λ receipt.
+            list_all (λ unit. spec.has_sums unit.lines) receipt.units ≡ true) }
+        ensures err { IfErr result (λ fault.
+            fault ≢ MessageFault.Memory → spec.receipt_of message.now ≡ Err fault) }
     {
         let parties = read_heading(message)?;
         let units = read_received(alloc, message)?;

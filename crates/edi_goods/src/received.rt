@@ -47,7 +47,8 @@ impl<'a, 'b> ReceivedUnit<'a, 'b> {
 fn received(kind: &[u8], group: &[Segment]) -> Result<Option<u32>, MessageFault>
     ensures ok { IfOk result (λ quantity. (quantity ≡ quantity_of kind.now 0 group.now)
         × (spec.is_once_or_none kind.now group.now ≡ true)) }
-    ensures err { IfErr result (λ fault. (fault ≡ MessageFault.Quantity) × (spec.is_once_or_none kind.now group.now ≡ false)) }
+    ensures err { IfErr result (λ fault.
+        (fault ≡ MessageFault.Quantity) × (spec.is_once_or_none kind.now group.now ≡ false)) }
 {
     match quantity_of(kind, 0, group) {
         Some(quantity) => Ok(Some(quantity)),
@@ -71,7 +72,8 @@ fn is_any(accepted: Option<u32>, returned: Option<u32>, destroyed: Option<u32>) 
 // A line of the record.
 fn receipt_line(item: &LineItem<'_>) -> Result<ReceiptLine, MessageFault>
     ensures ok { IfOk result (λ line. (line ≡ spec.line_of item.now) × (spec.is_received item.now ≡ true)) }
-    ensures err { IfErr result (λ fault. (fault ≡ MessageFault.Quantity) × (spec.is_received item.now ≡ false)) }
+    ensures err { IfErr result (λ fault.
+        (fault ≡ MessageFault.Quantity) × (spec.is_received item.now ≡ false)) }
 {
     let accepted = received(b"194", item.group())?;
     let returned = received(b"195", item.group())?;
@@ -89,7 +91,8 @@ fn receipt_line(item: &LineItem<'_>) -> Result<ReceiptLine, MessageFault>
 
 // The lines of a unit; the fault `Quantity` where one has no quantities.
 fn receipt_lines(alloc: Global, items: &[LineItem<'_>]) -> Result<Vec<ReceiptLine>, MessageFault>
-    ensures ok { IfOk result (λ lines. (lines.items ≡ map spec.line_of items.now) × (list_all spec.is_received items.now ≡ true)) }
+    ensures ok { IfOk result (λ lines.
+        (lines.items ≡ map spec.line_of items.now) × (list_all spec.is_received items.now ≡ true)) }
     ensures err { IfErr result (λ fault. fault ≢ MessageFault.Memory →
         (fault ≡ MessageFault.Quantity) × (list_all spec.is_received items.now ≡ false)) }
 {
@@ -163,7 +166,8 @@ pub(crate) fn received_units<'a, 'b>(
     alloc: Global,
     units: &'b [ItemUnit<'a>],
 ) -> Result<Vec<ReceivedUnit<'a, 'b>>, MessageFault>
-    ensures ok { IfOk result (λ received. (received.items ≡ units.now) × (list_all spec.has_quantities units.now ≡ true)) }
+    ensures ok { IfOk result (λ received.
+        (received.items ≡ units.now) × (list_all spec.has_quantities units.now ≡ true)) }
     ensures err { IfErr result (λ fault. fault ≢ MessageFault.Memory →
         (fault ≡ MessageFault.Quantity) × (list_all spec.has_quantities units.now ≡ false)) }
 {

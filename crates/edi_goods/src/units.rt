@@ -47,9 +47,9 @@ fn rest_len(segments: &[Segment]) -> usize
     ensures within { result ≤ length segments.now }
     ensures value { result ≡ prefix_len (λ segment. not (spec.ends_unit segment)) segments.now }
 {
-    for (place, segment) in segments.iter().enumerate() {
+    for (index, segment) in segments.iter().enumerate() {
         if is_cps(segment) || segment.tag == *b"UNT" {
-            return place;
+            return index;
         }
     }
     segments.len()
@@ -80,9 +80,9 @@ pub(crate) fn item_units(
         (fault ≡ MessageFault.Line) × (list_all spec.has_lines (spec.read_units message.now) ≡ false)) }
 {
     let mut units = Vec::new(alloc);
-    for (place, segment) in message.iter().enumerate() {
+    for (index, segment) in message.iter().enumerate() {
         if is_cps(segment) {
-            let unit = unit_of(&message[place..]);
+            let unit = unit_of(&message[index..]);
             if has_lin(unit) {
                 let items = line_items(alloc, unit)?;
                 units.push(ItemUnit { unit, items })?;
@@ -97,9 +97,9 @@ fn head_len(unit: &[Segment]) -> usize
     ensures within { result ≤ length unit.now }
     ensures value { result ≡ prefix_len (λ segment. not (is_lin segment)) unit.now }
 {
-    for (place, segment) in unit.iter().enumerate() {
+    for (index, segment) in unit.iter().enumerate() {
         if is_lin(segment) {
-            return place;
+            return index;
         }
     }
     unit.len()
@@ -157,9 +157,9 @@ pub fn outside_len(message: &[Segment]) -> usize
     ensures within { result ≤ length message.now }
     ensures value { result ≡ prefix_len (λ segment. not (is_cps segment)) message.now }
 {
-    for (place, segment) in message.iter().enumerate() {
+    for (index, segment) in message.iter().enumerate() {
         if is_cps(segment) {
-            return place;
+            return index;
         }
     }
     message.len()
@@ -175,7 +175,8 @@ fn has_line_outside(message: &[Segment]) -> bool
 
 // The SSCC of each unit.
 fn unit_ssccs(alloc: Global, units: &[ItemUnit<'_>]) -> Result<Vec<Sscc>, MessageFault>
-    ensures ok { IfOk result (λ ssccs. (ssccs.items ≡ map spec.sscc_or_none units.now) × (list_all spec.is_unit units.now ≡ true)) }
+    ensures ok { IfOk result (λ ssccs.
+        (ssccs.items ≡ map spec.sscc_or_none units.now) × (list_all spec.is_unit units.now ≡ true)) }
     ensures err { IfErr result (λ fault. fault ≢ MessageFault.Memory →
         (fault ≡ MessageFault.Unit) × (list_all spec.is_unit units.now ≡ false)) }
 {
@@ -208,8 +209,10 @@ pub(crate) fn ssccs(
     message: &[Segment],
 ) -> Result<Vec<Sscc>, MessageFault>
     requires { units.now ≡ spec.read_units message.now }
-    ensures ok { IfOk result (λ ssccs. (ssccs.items ≡ map spec.sscc_or_none units.now) × (spec.has_units message.now ≡ true)) }
-    ensures err { IfErr result (λ fault. fault ≢ MessageFault.Memory → (fault ≡ MessageFault.Unit) × (spec.has_units message.now ≡ false)) }
+    ensures ok { IfOk result (λ ssccs.
+        (ssccs.items ≡ map spec.sscc_or_none units.now) × (spec.has_units message.now ≡ true)) }
+    ensures err { IfErr result (λ fault. fault ≢ MessageFault.Memory →
+        (fault ≡ MessageFault.Unit) × (spec.has_units message.now ≡ false)) }
 {
     if has_line_outside(message) {
         return Err(MessageFault::Unit);

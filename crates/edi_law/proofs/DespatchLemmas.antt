@@ -13,7 +13,8 @@ use Rattle.edi_messages.specs.References.{has_reference, reference, order, order
 use Rattle.edi_messages.specs.References as references
 use Rattle.edi_messages.specs.declared.fault.MessageFault.{MessageFault}
 use Rattle.edi_messages.specs.declared.fault.MessageFault.TheVariants as faults
-use Rattle.edi_goods.specs.Despatch.{despatched, inherits, has_header_reference_or_none, is_referred_by, is_referred}
+use Rattle.edi_goods.specs.Despatch.{despatched, inherits, has_header_reference_or_none}
+use Rattle.edi_goods.specs.Despatch.{is_reference_or_inherits, has_reference_or_inherits}
 use Rattle.edi_goods.specs.Despatch.{has_references, order_of_line, header_order, holds, line_of, unit_from, contents_of}
 use Rattle.edi_goods.specs.Despatch.{despatch_of}
 use Rattle.edi_goods.specs.Parties.{buyer}
@@ -21,7 +22,8 @@ use Rattle.edi_goods.specs.Units.{read_units}
 use Rattle.edi_goods.specs.declared.despatch.Despatch.{Despatch}
 use Rattle.edi_goods.specs.declared.despatch.DespatchLine.{DespatchLine}
 use Rattle.edi_goods.specs.declared.despatch.Unit.{Unit as DespatchUnit}
-use Rattle.edi_law.specs.Despatch.{Inherits, IsOfOrder, IsReferred, IsRight, IsDespatchLine, IsDespatchUnit, IsDespatch}
+use Rattle.edi_law.specs.Despatch.{Inherits, IsOfOrder, HasReferenceOrInherits, IsRight}
+use Rattle.edi_law.specs.Despatch.{IsDespatchLine, IsDespatchUnit, IsDespatch}
 use Rattle.edi_law.specs.Header.{NamesParty}
 use Rattle.edi_law.specs.Lines.{IsLine, HasQuantity}
 use Rattle.edi_law.specs.Lowest.{IsLowest, IsFaultless}
@@ -33,7 +35,7 @@ use Rattle.edi_law.proofs.GoodsLemmas.{Decides-parties, buyer-from_NamesBuyer, N
 use Rattle.edi_law.proofs.HeaderLemmas.{Decides-type, Decides-begins, Decides-function, Decides-dated, Decides-party}
 use Rattle.edi_law.proofs.HeaderLemmas.{Says-party, HasBeginning-begins_as, begins_as-from_HasBeginning, document_number-from_HasBeginning}
 use Rattle.edi_law.proofs.LineLemmas.{article-from_IsLine, Says-quantity_of}
-use Rattle.edi_law.proofs.LowestLemmas.{judged_fault, judged_content}
+use Rattle.edi_law.proofs.LowestLemmas.{fault_is_lowest, content_is_faultless}
 use Rattle.edi_law.proofs.PartLemmas.{AreLineGroups-line_groups, line_groups-from_AreLineGroups, of_lines, none_passes}
 use Rattle.edi_law.proofs.PartLemmas.{Says-only, Decides-none, only_some, at_header, IsHeader-header, found-from_OneOrNone}
 use Rattle.edi_law.proofs.PartLemmas.{there-from_OneOrNone, Decides-one_or_none}
@@ -72,7 +74,7 @@ Decides-there o = Decides-is_some o (λ number. o ≡ Some number) (λ number. (
 
 one_referred : (o : Option (List ℕ)) (group : List Segment) (rff : Segment)
     → reference group ≡ Some rff
-    → Decides (references.is_order_reference rff) (IsReferred o group)
+    → Decides (references.is_order_reference rff) (HasReferenceOrInherits o group)
 one_referred o group rff there = (
   (λ e. inl (record { segment = rff; is_only = (Says-only is_rff_on group rff).0 there; is = (Decides-right rff).0 e })),
   (λ h. elim h [
@@ -86,7 +88,7 @@ one_referred o group rff there = (
 
 none_referred : (o : Option (List ℕ)) (group : List Segment)
     → reference group ≡ None
-    → Decides (not (has_reference group) && is_some o) (IsReferred o group)
+    → Decides (not (has_reference group) && is_some o) (HasReferenceOrInherits o group)
 none_referred o group there =
     let d = Decides-and (not (has_reference group)) (is_some o) (Decides-none is_rff_on group) (Decides-there o) in (
       (λ e. inr (d.0 e)),
@@ -98,22 +100,24 @@ none_referred o group there =
 
 referred_by : (o : Option (List ℕ)) (group : List Segment) (found : Option Segment)
     → reference group ≡ found
-    → Decides (is_referred_by (has_reference group) (is_some o) found) (IsReferred o group)
+    → Decides (is_reference_or_inherits (has_reference group) (is_some o) found) (HasReferenceOrInherits o group)
 referred_by o group None there = none_referred o group there
 referred_by o group (Some rff) there = one_referred o group rff there
 
-Decides-referred : (o : Option (List ℕ)) (group : List Segment) → Decides (is_referred (is_some o) group) (IsReferred o group)
-Decides-referred o group = referred_by o group (reference group) refl
+Decides-has_reference_or_inherits : (o : Option (List ℕ)) (group : List Segment)
+    → Decides (has_reference_or_inherits (is_some o) group) (HasReferenceOrInherits o group)
+Decides-has_reference_or_inherits o group = referred_by o group (reference group) refl
 
 Decides-unit_references : (o : Option (List ℕ)) (message : List Segment)
-    → Decides (list_all (has_references (is_some o)) (read_units message)) (OfUnitLines (AllByRecursion (IsReferred o)) message)
+    → Decides (list_all (has_references (is_some o)) (read_units message))
+    (OfUnitLines (AllByRecursion (HasReferenceOrInherits o)) message)
 Decides-unit_references o =
-    Decides-unit_lines (list_all (is_referred (is_some o))) (AllByRecursion (IsReferred o))
-    (Decides-all (is_referred (is_some o)) (IsReferred o) (Decides-referred o))
+    Decides-unit_lines (list_all (has_reference_or_inherits (is_some o))) (AllByRecursion (HasReferenceOrInherits o))
+    (Decides-all (has_reference_or_inherits (is_some o)) (HasReferenceOrInherits o) (Decides-has_reference_or_inherits o))
 
 Decides-references : (message : List Segment)
     → Decides (has_header_reference_or_none message && list_all (has_references (inherits message)) (read_units message))
-    ((o : Option (List ℕ)) × Inherits message o × OfUnitLines (AllByRecursion (IsReferred o)) message)
+    ((o : Option (List ℕ)) × Inherits message o × OfUnitLines (AllByRecursion (HasReferenceOrInherits o)) message)
 Decides-references message = (
   (λ e.
       let both = and_parts (has_header_reference_or_none message) _ e in
@@ -163,12 +167,13 @@ of_order_is o group number (inl one) = ap (λ found. unwrap_or found (unwrap_or 
 of_order_is o group number (inr h) =
     ap (λ found. unwrap_or found (unwrap_or o [])) (order_of_none group h.0) ∙ ap (λ found. unwrap_or found []) h.1
 
-of_order_there : (o : Option (List ℕ)) (group : List Segment) → IsReferred o group → (number : List ℕ) × IsOfOrder o group number
+of_order_there : (o : Option (List ℕ)) (group : List Segment) → HasReferenceOrInherits o group
+    → (number : List ℕ) × IsOfOrder o group number
 of_order_there o group (inl h) = (h.is.0.0, inl (record { segment = h.segment; is_only = h.is_only; is = h.is.0.1 }))
 of_order_there o group (inr h) = (h.1.0, inr (h.0, h.1.1))
 
 line_or_none : (o : Option (List ℕ)) (group : List Segment)
-    → IsReferred o group
+    → HasReferenceOrInherits o group
     → HasNone is_rff_on group ⊎ OfOnly is_rff_on group NamesLineOrNone
 line_or_none o group (inl h) = inr (record { segment = h.segment; is_only = h.is_only; is = h.is.1 })
 line_or_none o group (inr h) = inl h.0
@@ -179,7 +184,7 @@ line_by o group = line_of (unwrap_or o []) group
 lines_there : (o : Option (List ℕ)) (groups : List (List Segment))
     → AllByRecursion (λ group. (n : ℕ) × (gtin : List ℕ) × IsLine group n gtin) groups
     → AllByRecursion (λ group. (n : ℕ) × HasQuantity (codes "12") 1 group n) groups
-    → AllByRecursion (IsReferred o) groups → AllZip (IsDespatchLine o) groups (map (line_by o) groups)
+    → AllByRecursion (HasReferenceOrInherits o) groups → AllZip (IsDespatchLine o) groups (map (line_by o) groups)
 lines_there o [] line quantity referred = tt
 lines_there o (group ∷ groups) line quantity referred =
     let of_order = of_order_there o group referred.0 in (
@@ -218,7 +223,7 @@ unit_by o unit = unit_from (unwrap_or o []) unit
 units_there : (o : Option (List ℕ)) (parts : List (List Segment)) (ssccs : List (List ℕ))
     → AllByRecursion (OfLines (AllByRecursion (λ group. (n : ℕ) × (gtin : List ℕ) × IsLine group n gtin))) parts
     → AllByRecursion (OfLines (AllByRecursion (λ group. (n : ℕ) × HasQuantity (codes "12") 1 group n))) parts
-    → AllByRecursion (OfLines (AllByRecursion (IsReferred o))) parts
+    → AllByRecursion (OfLines (AllByRecursion (HasReferenceOrInherits o))) parts
     → AllZip IsUnit parts ssccs → AllZip (IsDespatchUnit o) parts (map (unit_by o) parts)
 units_there o [] ssccs line quantity referred marked = tt
 units_there o (unit ∷ parts) [] line quantity referred marked = absurd marked
@@ -298,13 +303,15 @@ contents_are message despatch h =
 
 pub fault_law : (m : RawMessage) (fault : MessageFault) → (despatch_of m ≡ Err fault) ↔ IsLowest (IsRight m) fault
 unfolding despatch_of
-fault_law m fault = judged_fault (λ f. holds f m) (IsRight m) (λ f lower. refutes m f) refl (contents_of m.segments) fault
+fault_law m fault = fault_is_lowest (λ f. holds f m) (IsRight m) (λ f lower. refutes m f) refl
+    (contents_of m.segments) fault
 
 pub despatch_law : (m : RawMessage) (despatch : Despatch)
     → (despatch_of m ≡ Ok despatch) ↔ (IsFaultless (IsRight m) × IsDespatch m.segments despatch)
 unfolding despatch_of
 despatch_law m despatch =
-    let law = judged_content (λ f. holds f m) (IsRight m) (λ f lower. refutes m f) refl (contents_of m.segments) despatch in (
+    let law = content_is_faultless (λ f. holds f m) (IsRight m) (λ f lower. refutes m f) refl
+    (contents_of m.segments) despatch in (
       (λ h. let both = law.0 h in (both.0, subst (IsDespatch m.segments) both.1 (contents_there m both.0))),
       (λ h. law.1 (h.0, contents_are m.segments despatch h.1)),
     )

@@ -1,5 +1,5 @@
 -- What is read of a line group is what is valid in it.
-use Rattle.std.proofs.Common.{◌≡◌, ◌≢◌, ℕ, ◌≤◌, Bool, true, false, not, List, [], ◌∷◌, length, ◌⊎◌, refl, sym, ap, subst, ◌∙◌}
+use Rattle.std.proofs.Common.{◌≡◌, ◌≢◌, ℕ, ◌≤◌, Bool, true, not, List, [], ◌∷◌, length, ◌⊎◌, refl, sym, ap, subst, ◌∙◌}
 use Rattle.std.specs.Prelude.{◌==◌, nat_le, nat_eq, codes, unwrap_or, option_and_then, Decides}
 use Rattle.std.specs.Str.{bytes_eq}
 use Rattle.std.proofs.lemmas.Bool.{true≢false}
@@ -12,6 +12,7 @@ use Rattle.edi_base.specs.Seen.{has_number_twice, has_twice, comes_among, comes_
 use Rattle.edi_segments.specs.declared.segment.Segment.{Segment}
 use Rattle.edi_segments.specs.Segment.{element_at}
 use Rattle.edi_envelope.specs.Segments.{component}
+use Rattle.edi_envelope.proofs.TallyLemmas.{not_not}
 use Rattle.edi_messages.specs.Lines.{number, number_or_zero, gtin_in, gtin, is_line, is_piece, from_least, amount, quantity_of}
 use Rattle.edi_messages.specs.Values.{quantity}
 use Rattle.edi_law.specs.Lines.{HasGtin, IsLine, IsAmount, HasQuantity, NoneTwice}
@@ -39,15 +40,10 @@ Says-article lin =
     (Says-when (bytes_eq (component lin 2 1) (codes "SRV")) _ (component lin 2 1 ≡ codes "SRV") _
     (bytes_eq-Decides (component lin 2 1) (codes "SRV")) (gtin_there (component lin 2 0)))
 
--- the line
-twice_not : (t : Bool) → not (not t) ≡ t
-twice_not true = refl
-twice_not false = refl
-
 Decides-no_sub_line : (elements : List (List ℕ)) → Decides (not (not (length elements == 0))) (elements ≡ [])
 Decides-no_sub_line elements =
     let d = Decides-nothing elements in
-    ((λ e. d.0 (sym (twice_not (length elements == 0)) ∙ e)), (λ h. twice_not (length elements == 0) ∙ d.1 h))
+    ((λ e. d.0 (sym (not_not (length elements == 0)) ∙ e)), (λ h. not_not (length elements == 0) ∙ d.1 h))
 
 abbrev IsLineBy : Segment → Type 0
 IsLineBy lin =

@@ -6,8 +6,8 @@ use Rattle.std.proofs.lemmas.Bool.{true≢false, true_from_ne_false}
 use Rattle.edi_base.proofs.Lowest.{holds_here, none_lower, is_found, all_false, is_none}
 use Rattle.edi_messages.specs.declared.fault.MessageFault.{MessageFault}
 use Rattle.edi_messages.specs.declared.fault.MessageFault.TheVariants as faulty
-use Rattle.edi_messages.specs.Fault.{number, faults, unless, judged}
-use Rattle.edi_messages.proofs.Judged.{rising, listed_or_false, content_found}
+use Rattle.edi_messages.specs.Fault.{number, faults, unless, unless_any}
+use Rattle.edi_messages.proofs.Valid.{rising, listed_or_false, content_found}
 use Rattle.edi_law.specs.Lowest.{IsLowest, IsFaultless}
 use Rattle.edi_law.proofs.Deciding.{Refutes}
 
@@ -54,14 +54,14 @@ module _ {X : Type 0} where
         (true_from_ne_false (p f) (λ e. h.here ((refutes f h.lower).0 e)))
         (λ g lt. right_false f g h.lower lt)
 
-    pub judged_fault : (f : MessageFault) → (judged p content ≡ Err f) ↔ IsLowest IsRight f
-    judged_fault f = (
+    pub fault_is_lowest : (f : MessageFault) → (unless_any p content ≡ Err f) ↔ IsLowest IsRight f
+    fault_is_lowest f = (
       (λ h. lowest_from f (fault_found (find p faults) content f h)),
       (λ h. ap (λ found. unless found content) (found_from f h)),
     )
 
-    pub judged_content : (right : X) → (judged p content ≡ Ok right) ↔ (IsFaultless IsRight × (content ≡ right))
-    judged_content right = (
+    pub content_is_faultless : (right : X) → (unless_any p content ≡ Ok right) ↔ (IsFaultless IsRight × (content ≡ right))
+    content_is_faultless right = (
       (λ h. let both = content_found (find p faults) content right h in
           (all_right (all_false number p faults rising (listed_or_false p no_memory) both.0), both.1)),
       (λ h. ap (λ found. unless found content)

@@ -25,7 +25,7 @@ use Rattle.edi_law.proofs.HeaderLemmas.{Decides-party, Decides-type, Decides-beg
 use Rattle.edi_law.proofs.HeaderLemmas.{Says-party, HasBeginning-begins_as, begins_as-from_HasBeginning, document_number-from_HasBeginning}
 use Rattle.edi_law.proofs.LineLemmas.{line_there, is_line-from_IsLine, number-from_IsLine, article-from_IsLine}
 use Rattle.edi_law.proofs.LineLemmas.{Says-quantity_of, Refutes-number_twice}
-use Rattle.edi_law.proofs.LowestLemmas.{judged_fault, judged_content}
+use Rattle.edi_law.proofs.LowestLemmas.{fault_is_lowest, content_is_faultless}
 use Rattle.edi_law.proofs.PartLemmas.{Refutes-lines, AreLineGroups-line_groups, line_groups-from_AreLineGroups, Decides-lines}
 use Rattle.edi_law.proofs.SummaryLemmas.{Decides-closed, Decides-controlled, Refutes-no_line}
 
@@ -166,12 +166,14 @@ contents_are message order h =
 
 pub fault_law : (m : RawMessage) (fault : MessageFault) → (order_of m ≡ Err fault) ↔ IsLowest (IsRight m) fault
 unfolding order_of
-fault_law m fault = judged_fault (λ f. holds f m) (IsRight m) (λ f lower. refutes m f) refl (contents_of m.segments) fault
+fault_law m fault = fault_is_lowest (λ f. holds f m) (IsRight m) (λ f lower. refutes m f) refl
+    (contents_of m.segments) fault
 
 pub order_law : (m : RawMessage) (order : Order) → (order_of m ≡ Ok order) ↔ (IsFaultless (IsRight m) × IsOrder m.segments order)
 unfolding order_of
 order_law m order =
-    let law = judged_content (λ f. holds f m) (IsRight m) (λ f lower. refutes m f) refl (contents_of m.segments) order in (
+    let law = content_is_faultless (λ f. holds f m) (IsRight m) (λ f lower. refutes m f) refl
+    (contents_of m.segments) order in (
       (λ h. let both = law.0 h in (both.0, subst (IsOrder m.segments) both.1 (contents_there m both.0))),
       (λ h. law.1 (h.0, contents_are m.segments order h.1)),
     )

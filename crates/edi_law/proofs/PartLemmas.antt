@@ -5,6 +5,7 @@ use Rattle.std.specs.Prelude.{is_some, ◌||◌, option_and_then, Decides}
 use Rattle.std.specs.List.{list_any, AllByRecursion, take_while}
 use Rattle.std.proofs.lemmas.Bool.{cases_Bool, true≢false, not-true, not_from_false, true_from_ne_false}
 use Rattle.std.proofs.lemmas.List.Sums.{take_while-cons}
+use Rattle.std.proofs.Math.Bool.{or-false}
 use Rattle.edi_segments.specs.declared.segment.Segment.{Segment}
 use Rattle.edi_messages.specs.Parts.{only, header, line_groups, up_to_end}
 use Rattle.edi_law.specs.Parts.{HasNone, BeginsWith, IsFront, IsOnly, IsHeader, AreParts, AreLineGroups, OfHeader, OfLines}
@@ -208,10 +209,6 @@ module _ (kind : Segment → Bool) where
 pub only_some : (kind : Segment → Bool) (part : List Segment) (s : Segment) → IsOnly kind part s → HasNone kind part → ⊥
 only_some kind part s h none = let e : None ≡ Some s = sym (ap only (none_passes kind part none)) ∙ (Says-only kind part s).1 h in absurd cc
 
-or_false : (t : Bool) → (t || false) ≡ t
-or_false true = refl
-or_false false = refl
-
 -- what the header is
 pub at_header : (Is : List Segment → Type 0) (message : List Segment) → OfHeader Is message → Is (header message)
 at_header Is message h = subst Is (sym (header-from_IsHeader h.header message h.is_header)) h.is
@@ -226,7 +223,7 @@ module _ {X : Type 0} (kind : Segment → Bool) (f : Segment → Option X) (Is :
       → found part ≡ o
       → (not (list_any kind part) || is_some o) ≡ true
       → OneOrNone kind Is part o
-  one_or_none part None there e = (Decides-none kind part).0 (sym (or_false (not (list_any kind part))) ∙ e)
+  one_or_none part None there e = (Decides-none kind part).0 (sym (or-false (not (list_any kind part))) ∙ e)
   one_or_none part (Some x) there e = (Says-of_only kind f Is each part x).0 there
 
   pub found-from_OneOrNone : (part : List Segment) (o : Option X) → OneOrNone kind Is part o → found part ≡ o

@@ -35,7 +35,7 @@ use Rattle.edi_law.proofs.HeaderLemmas.{Decides-type, Decides-begins, Decides-fu
 use Rattle.edi_law.proofs.HeaderLemmas.{function-from_HasFunction}
 use Rattle.edi_law.proofs.HeaderLemmas.{Says-party, HasBeginning-begins_as, begins_as-from_HasBeginning, document_number-from_HasBeginning}
 use Rattle.edi_law.proofs.LineLemmas.{article-from_IsLine, Says-amount}
-use Rattle.edi_law.proofs.LowestLemmas.{judged_fault, judged_content}
+use Rattle.edi_law.proofs.LowestLemmas.{fault_is_lowest, content_is_faultless}
 use Rattle.edi_law.proofs.PartLemmas.{AreLineGroups-line_groups, line_groups-from_AreLineGroups, of_lines}
 use Rattle.edi_law.proofs.PartLemmas.{found-from_OneOrNone, OneOrNone-found, Decides-one_or_none}
 use Rattle.edi_law.proofs.SumLemmas.{Decides-within}
@@ -295,13 +295,13 @@ contents_are message receipt h =
 
 pub fault_law : (m : RawMessage) (fault : MessageFault) → (receipt_of m ≡ Err fault) ↔ IsLowest (IsRight m) fault
 unfolding receipt_of
-fault_law m fault = judged_fault (λ f. holds f m) (IsRight m) (refutes m) refl (contents_of m.segments) fault
+fault_law m fault = fault_is_lowest (λ f. holds f m) (IsRight m) (refutes m) refl (contents_of m.segments) fault
 
 pub receipt_law : (m : RawMessage) (receipt : Receipt)
     → (receipt_of m ≡ Ok receipt) ↔ (IsFaultless (IsRight m) × IsReceipt m.segments receipt)
 unfolding receipt_of
 receipt_law m receipt =
-    let law = judged_content (λ f. holds f m) (IsRight m) (refutes m) refl (contents_of m.segments) receipt in (
+    let law = content_is_faultless (λ f. holds f m) (IsRight m) (refutes m) refl (contents_of m.segments) receipt in (
       (λ h. let both = law.0 h in (both.0, subst (IsReceipt m.segments) both.1 (contents_there m both.0))),
       (λ h. law.1 (h.0, contents_are m.segments receipt h.1)),
     )

@@ -18,8 +18,8 @@ use Rattle.edi_messages.specs.Values.{is_document_number}
 use Rattle.edi_messages.specs.declared.fault.MessageFault.{MessageFault}
 use Rattle.edi_messages.specs.declared.fault.MessageFault.TheVariants as faults
 use Rattle.edi_orders.specs.Response as spec
-use Rattle.edi_orders.specs.Response.{read_groups, changed, answer_by, line_answer, is_of_order, is_referred}
-use Rattle.edi_orders.specs.Response.{is_referred_by, holds, line_of, answer_of, contents_of, response_of}
+use Rattle.edi_orders.specs.Response.{read_groups, changed, answer_by, line_answer, is_of_order}
+use Rattle.edi_orders.specs.Response.{has_no_reference_or_one_to, is_reference_to, holds, line_of, answer_of, contents_of, response_of}
 use Rattle.edi_orders.specs.declared.response.Answer.{Answer}
 use Rattle.edi_orders.specs.declared.response.Answer.TheVariants as answers
 use Rattle.edi_orders.specs.declared.response.AnswerLine.{AnswerLine}
@@ -32,7 +32,8 @@ use Rattle.edi_law.specs.Lowest.{IsLowest, IsFaultless}
 use Rattle.edi_law.specs.Parts.{HasNone, OfLines, OfOnly}
 use Rattle.edi_law.specs.References.{is_rff_on, NamesOrder, NamesLineOrNone, HeaderNames}
 use Rattle.edi_law.specs.Response.{Extent, EachLine, NoneOfAll, AllOfAll, Action, Accept, Refuse, Change, HasExtent}
-use Rattle.edi_law.specs.Response.{OfReadLines, IsAction, HasAction, AreAnswered, HasChange, IsChangeRight, IsReferred}
+use Rattle.edi_law.specs.Response.{OfReadLines, IsAction, HasAction, AreAnswered, HasChange, IsChangeRight}
+use Rattle.edi_law.specs.Response.{HasNoReferenceOrOneTo}
 use Rattle.edi_law.specs.Response.{IsRight, HasAnswer, IsAnswerLine, HasAnswers, IsResponse}
 use Rattle.edi_law.specs.Segments.{says}
 use Rattle.edi_law.specs.Values.{IsDocumentNumber}
@@ -42,7 +43,7 @@ use Rattle.edi_law.proofs.HeaderLemmas.{Decides-type, Decides-begins, Decides-fu
 use Rattle.edi_law.proofs.HeaderLemmas.{Decides-dated, Decides-party, Says-party, HasBeginning-begins_as, begins_as-from_HasBeginning}
 use Rattle.edi_law.proofs.HeaderLemmas.{document_number-from_HasBeginning}
 use Rattle.edi_law.proofs.LineLemmas.{Decides-line, article-from_IsLine, Says-quantity_of}
-use Rattle.edi_law.proofs.LowestLemmas.{judged_fault, judged_content}
+use Rattle.edi_law.proofs.LowestLemmas.{fault_is_lowest, content_is_faultless}
 use Rattle.edi_law.proofs.PartLemmas.{of_lines, AreLineGroups-line_groups, line_groups-from_AreLineGroups, Decides-lines}
 use Rattle.edi_law.proofs.PartLemmas.{Decides-none, Decides-of_only, only_some}
 use Rattle.edi_law.proofs.ReferenceLemmas.{Says-order, Decides-line_or_none, NamesLine-group_line, group_line-from_NamesLine}
@@ -258,31 +259,36 @@ reference_by true line P L bytes number d k =
     Decides-and line (bytes_eq bytes number) (Decides-like line (λ l. (d.0 refl, l)) (λ (h : P × L). h.1) k) (bytes_eq-Decides bytes number)
 reference_by false line P L bytes number d k = ((λ e. absurd (true≢false (sym e))), (λ h. absurd (true≢false (sym (d.1 h.0.0)))))
 
-Decides-referred_by : (number : List ℕ) (rff : Segment)
-    → Decides (is_referred_by (Some number) (Some rff)) (NamesOrder number rff × NamesLineOrNone rff)
-Decides-referred_by number rff =
+Decides-is_reference_to : (number : List ℕ) (rff : Segment)
+    → Decides (is_reference_to (Some number) (Some rff)) (NamesOrder number rff × NamesLineOrNone rff)
+Decides-is_reference_to number rff =
     let bytes = component rff 0 1 in
-    Decides-like (is_referred_by (Some number) (Some rff))
+    Decides-like (is_reference_to (Some number) (Some rff))
     (λ h. (record { number_is = h.1; right = subst IsDocumentNumber h.1 h.0.0 }, h.0.1))
     (λ (h : NamesOrder number rff × NamesLineOrNone rff). ((subst IsDocumentNumber (sym h.0.number_is) h.0.right, h.1), h.0.number_is))
     (reference_by (is_document_number bytes) (has_line_or_none rff) (IsDocumentNumber bytes) (NamesLineOrNone rff) bytes
     number (Decides-document_number bytes) (Decides-line_or_none rff))
 
-Decides-referred : (number : List ℕ) (group : List Segment) → Decides (is_referred (Some number) group) (IsReferred number group)
-Decides-referred number group =
+Decides-has_no_reference_or_one_to : (number : List ℕ) (group : List Segment)
+    → Decides (has_no_reference_or_one_to (Some number) group) (HasNoReferenceOrOneTo number group)
+Decides-has_no_reference_or_one_to number group =
     Decides-or _ _ (Decides-none is_rff_on group)
-    (Decides-of_only is_rff_on (is_referred_by (Some number)) (λ rff. NamesOrder number rff × NamesLineOrNone rff) refl
-    (Decides-referred_by number) group)
+    (Decides-of_only is_rff_on (is_reference_to (Some number)) (λ rff. NamesOrder number rff × NamesLineOrNone rff) refl
+    (Decides-is_reference_to number) group)
 
 Decides-references : (message : List Segment)
-    → Decides (is_some (order message) && list_all (is_referred (order message)) (read_groups message))
-    ((number : List ℕ) × HeaderNames message number × OfReadLines (AllByRecursion (IsReferred number)) message)
+    → Decides (is_some (order message) && list_all (has_no_reference_or_one_to (order message)) (read_groups message))
+    ((number : List ℕ) × HeaderNames message number × OfReadLines (AllByRecursion (HasNoReferenceOrOneTo number)) message)
 Decides-references message =
-    Decides-of (order message) (HeaderNames message) (λ o. is_some o && list_all (is_referred o) (read_groups message))
-    (λ number. OfReadLines (AllByRecursion (IsReferred number)) message)
+    Decides-of (order message) (HeaderNames message)
+    (λ o. is_some o && list_all (has_no_reference_or_one_to o) (read_groups message))
+    (λ number. OfReadLines (AllByRecursion (HasNoReferenceOrOneTo number)) message)
     (Says-order message) refl
-    (λ number. Decides-read_lines (list_all (is_referred (Some number))) (AllByRecursion (IsReferred number)) refl
-    (Decides-all (is_referred (Some number)) (IsReferred number) (Decides-referred number)) message)
+    (λ number. Decides-read_lines (list_all (has_no_reference_or_one_to (Some number)))
+    (AllByRecursion (HasNoReferenceOrOneTo number))
+    refl
+    (Decides-all (has_no_reference_or_one_to (Some number))
+    (HasNoReferenceOrOneTo number) (Decides-has_no_reference_or_one_to number)) message)
 
 -- each condition
 refutes : (m : RawMessage) (fault : MessageFault) → Refutes (holds fault m) (IsRight m fault)
@@ -332,7 +338,7 @@ answer_is group (line_answers.Changed n) h =
     ∙ ap (option_map line_answers.Changed) ((Says-changed group n).1 h.1)
 
 line_or_none : (number : List ℕ) (group : List Segment)
-    → IsReferred number group
+    → HasNoReferenceOrOneTo number group
     → HasNone is_rff_on group ⊎ OfOnly is_rff_on group NamesLineOrNone
 line_or_none number group (inl none) = inl none
 line_or_none number group (inr h) = inr (record { segment = h.segment; is_only = h.is_only; is = h.is.1 })
@@ -340,7 +346,8 @@ line_or_none number group (inr h) = inr (record { segment = h.segment; is_only =
 lines_there : (number : List ℕ) (groups : List (List Segment))
     → AllByRecursion (λ group. (n : ℕ) × (gtin : List ℕ) × IsLine group n gtin) groups
     → AllByRecursion (λ group. (a : Action) × HasAction group a) groups
-    → AllByRecursion IsChangeRight groups → AllByRecursion (IsReferred number) groups → AllZip IsAnswerLine groups (map line_of groups)
+    → AllByRecursion IsChangeRight groups → AllByRecursion (HasNoReferenceOrOneTo number) groups
+    → AllZip IsAnswerLine groups (map line_of groups)
 lines_there number [] line action_ change referred = tt
 lines_there number (group ∷ groups) line action_ change referred = (
   record {
@@ -393,7 +400,7 @@ each_answered m right h =
     let line = of_lines AreAnswered message (right faults.Line h) in
     let change = of_lines (AllByRecursion IsChangeRight) message (right faults.Quantity h) in
     let reference = right faults.Reference in
-    let referred = of_lines (AllByRecursion (IsReferred reference.0)) message (reference.2 h) in
+    let referred = of_lines (AllByRecursion (HasNoReferenceOrOneTo reference.0)) message (reference.2 h) in
     record {
       groups = line_groups message;
       are_groups = AreLineGroups-line_groups message;
@@ -466,13 +473,15 @@ contents_are message response h =
 
 pub fault_law : (m : RawMessage) (fault : MessageFault) → (response_of m ≡ Err fault) ↔ IsLowest (IsRight m) fault
 unfolding response_of
-fault_law m fault = judged_fault (λ f. holds f m) (IsRight m) (λ f lower. refutes m f) refl (contents_of m.segments) fault
+fault_law m fault = fault_is_lowest (λ f. holds f m) (IsRight m) (λ f lower. refutes m f) refl
+    (contents_of m.segments) fault
 
 pub response_law : (m : RawMessage) (response : Response)
     → (response_of m ≡ Ok response) ↔ (IsFaultless (IsRight m) × IsResponse m.segments response)
 unfolding response_of
 response_law m response =
-    let law = judged_content (λ f. holds f m) (IsRight m) (λ f lower. refutes m f) refl (contents_of m.segments) response in (
+    let law = content_is_faultless (λ f. holds f m) (IsRight m) (λ f lower. refutes m f) refl
+    (contents_of m.segments) response in (
       (λ h. let both = law.0 h in (both.0, subst (IsResponse m.segments) both.1 (contents_there m both.0))),
       (λ h. law.1 (h.0, contents_are m.segments response h.1)),
     )

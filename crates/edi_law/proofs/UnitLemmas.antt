@@ -5,6 +5,7 @@ use Rattle.std.specs.Prelude.{◌==◌, codes, unwrap_or, option_and_then, Decid
 use Rattle.std.specs.List.{list_all, list_any, take_while, AllByRecursion, AllZip}
 use Rattle.std.proofs.lemmas.Bool.{cases_Bool, true≢false, and_parts, and_from, not-true, not_from_false}
 use Rattle.std.proofs.lemmas.Bool.Decides.{Decides-and, Decides-not, Decides-eqb}
+use Rattle.std.proofs.Math.Bool.{and_assoc}
 use Rattle.gs1_ids.specs.Digits.{is_key}
 use Rattle.gs1_ids.specs.Sscc.{IsSscc, sscc_of}
 use Rattle.gs1_ids.proofs.Decided.{Decides-is_key}
@@ -202,14 +203,10 @@ Decides-outside message =
           (subst (HasNone is_line_item) (sym (same ∙ front-from_IsFront is_packing h.outside message h.is_front)) h.no_line)),
     )
 
-and_apart : (a b c : Bool) → (a && b && c) ≡ (a && (b && c))
-and_apart true b c = refl
-and_apart false b c = refl
-
 pub Decides-has_units : (message : List Segment) → Decides (has_units message) (HasUnits message)
 Decides-has_units message =
     let parts = read_units message in
     let both = Decides-and (not (has_line_outside message)) (are_marked parts) (Decides-outside message)
     (Decides-units are_marked AreMarked Decides-marked message) in
-    let same = and_apart (not (has_line_outside message)) (list_all is_unit parts) (not (has_twice (map sscc_or_none parts))) in
+    let same = and_assoc (not (has_line_outside message)) (list_all is_unit parts) (not (has_twice (map sscc_or_none parts))) in
     ((λ e. let h = both.0 (sym same ∙ e) in record { outside = h.0; units = h.1 }), (λ h. same ∙ both.1 (h.outside, h.units)))

@@ -7,6 +7,7 @@ use Rattle.std.specs.Str.{bytes_eq}
 use Rattle.std.proofs.lemmas.Bool.{cases_Bool, true≢false, not-false, eqb-true, and_parts}
 use Rattle.std.proofs.lemmas.Bool.Decides.{Decides-and, Decides-or, Decides-not, Decides-like, Decides-at, Decides-eqb, Decides-ltb}
 use Rattle.std.proofs.lemmas.Slice.Eq.{bytes_eq-Decides}
+use Rattle.std.proofs.Math.Bool.{and_assoc}
 use Rattle.jiff.specs.Words.{days_in_month}
 use Rattle.edi_base.specs.Limits.{has_length, is_printable, is_digit, is_count, number_of, value_of, greatest}
 use Rattle.edi_messages.specs.Values.{is_document_number, is_line_number, line_number, whole_part, fraction, is_no_fraction}
@@ -316,10 +317,6 @@ Decides-day_and_minute bytes = (
       ∙ day_and_minute_joined h.day h.minute h.is_day h.is_minute),
 )
 
-and_apart : (a b c : Bool) → (a && b && c) ≡ (a && (b && c))
-and_apart true b c = refl
-and_apart false b c = refl
-
 and_apart_four : (a b c d : Bool) → (a && b && c && d) ≡ (a && (b && c && d))
 and_apart_four true b c d = refl
 and_apart_four false b c d = refl
@@ -328,7 +325,7 @@ pub Decides-date : (format bytes : List ℕ) → Decides (is_date format bytes) 
 Decides-date format bytes =
     Decides-or (bytes_eq format (codes "102") && length bytes == 8 && is_day bytes)
     (bytes_eq format (codes "203") && length bytes == 12 && is_day bytes && is_minute bytes)
-    (Decides-at _ _ (and_apart (bytes_eq format (codes "102")) (length bytes == 8) (is_day bytes))
+    (Decides-at _ _ (and_assoc (bytes_eq format (codes "102")) (length bytes == 8) (is_day bytes))
     (Decides-and _ _ (bytes_eq-Decides format (codes "102")) (Decides-day bytes)))
     (Decides-at _ _ (and_apart_four (bytes_eq format (codes "203")) (length bytes == 12) (is_day bytes) (is_minute bytes))
     (Decides-and _ _ (bytes_eq-Decides format (codes "203")) (Decides-day_and_minute bytes)))

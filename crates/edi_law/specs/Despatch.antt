@@ -26,8 +26,8 @@ IsOfOrder inherited group order = OfOnly is_rff_on group (NamesOrder order)
     ⊎ (HasNone is_rff_on group × (inherited ≡ Some order))
 
 -- the one reference of a group is valid, or the group has none and the header has one
-abbrev pub IsReferred : Option (List ℕ) → List Segment → Type 0
-IsReferred inherited group =
+abbrev pub HasReferenceOrInherits : Option (List ℕ) → List Segment → Type 0
+HasReferenceOrInherits inherited group =
     OfOnly is_rff_on group (λ rff. ((order : List ℕ) × NamesOrder order rff) × NamesLineOrNone rff)
     ⊎ (HasNone is_rff_on group × ((order : List ℕ) × (inherited ≡ Some order)))
 
@@ -42,7 +42,7 @@ IsRight m fault.Line = AreLines m.segments
 IsRight m fault.Quantity =
     OfUnitLines (AllByRecursion (λ group. (quantity : ℕ) × HasQuantity (codes "12") 1 group quantity)) m.segments
 IsRight m fault.Reference = (inherited : Option (List ℕ)) × Inherits m.segments inherited
-    × OfUnitLines (AllByRecursion (IsReferred inherited)) m.segments
+    × OfUnitLines (AllByRecursion (HasReferenceOrInherits inherited)) m.segments
 IsRight m fault.Unit = HasUnits m.segments
 IsRight m fault.Control = IsControlled m.segments
 IsRight m fault.WithoutLines = HasLine m.segments

@@ -1,4 +1,4 @@
--- The fault of a message, apart from the order in which anything is judged: the one with the lowest number that is
+-- The fault of a message, apart from the order in which anything is checked: the one with the lowest number that is
 -- there.
 use Rattle.std.specs.Prelude.{◌<◌}
 use Rattle.edi_messages.specs.Fault.{number}

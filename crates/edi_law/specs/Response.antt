@@ -68,8 +68,8 @@ abbrev pub IsChangeRight : List Segment → Type 0
 IsChangeRight group = HasAction group Change → (quantity : ℕ) × HasChange group quantity
 
 -- a group has no reference, or just one, which names the order of the header and a line or none
-abbrev pub IsReferred : List ℕ → List Segment → Type 0
-IsReferred order group = HasNone is_rff_on group
+abbrev pub HasNoReferenceOrOneTo : List ℕ → List Segment → Type 0
+HasNoReferenceOrOneTo order group = HasNone is_rff_on group
     ⊎ OfOnly is_rff_on group (λ rff. NamesOrder order rff × NamesLineOrNone rff)
 
 abbrev pub IsRight : RawMessage → MessageFault → Type 0
@@ -83,7 +83,7 @@ IsRight m fault.Summary = IsClosed m.segments
 IsRight m fault.Line = OfReadLines AreAnswered m.segments
 IsRight m fault.Quantity = OfReadLines (AllByRecursion IsChangeRight) m.segments
 IsRight m fault.Reference = (order : List ℕ) × HeaderNames m.segments order
-    × OfReadLines (AllByRecursion (IsReferred order)) m.segments
+    × OfReadLines (AllByRecursion (HasNoReferenceOrOneTo order)) m.segments
 IsRight m fault.Control = IsControlled m.segments
 IsRight m fault.WithoutLines = HasExtent m.segments EachLine → HasLine m.segments
 IsRight m other = ⊤

@@ -13,5 +13,6 @@ pub fn despatch_law()
     ensures fault { (message : RawMessage) (fault : MessageFault) →
         (despatch_of message ≡ Err fault) ↔ IsLowest (IsRight message) fault }
     ensures despatch { (message : RawMessage) (despatch : Despatch) →
-        (despatch_of message ≡ Ok despatch) ↔ (IsFaultless (IsRight message) × IsDespatch message.segments despatch) }
+        (despatch_of message ≡ Ok despatch) ↔
+        (IsFaultless (IsRight message) × IsDespatch message.segments despatch) }
 {}

@@ -13,5 +13,6 @@ pub fn receipt_law()
     ensures fault { (message : RawMessage) (fault : MessageFault) →
         (receipt_of message ≡ Err fault) ↔ IsLowest (IsRight message) fault }
     ensures receipt { (message : RawMessage) (receipt : Receipt) →
-        (receipt_of message ≡ Ok receipt) ↔ (IsFaultless (IsRight message) × IsReceipt message.segments receipt) }
+        (receipt_of message ≡ Ok receipt) ↔
+        (IsFaultless (IsRight message) × IsReceipt message.segments receipt) }
 {}

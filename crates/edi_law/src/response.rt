@@ -13,5 +13,6 @@ pub fn response_law()
     ensures fault { (message : RawMessage) (fault : MessageFault) →
         (response_of message ≡ Err fault) ↔ IsLowest (IsRight message) fault }
     ensures response { (message : RawMessage) (response : Response) →
-        (response_of message ≡ Ok response) ↔ (IsFaultless (IsRight message) × IsResponse message.segments response) }
+        (response_of message ≡ Ok response) ↔
+        (IsFaultless (IsRight message) × IsResponse message.segments response) }
 {}

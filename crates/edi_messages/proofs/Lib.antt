@@ -1,3 +1,3 @@
 pub mod Examples
 pub mod Found
-pub mod Judged
+pub mod Valid

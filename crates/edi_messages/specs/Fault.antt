@@ -42,5 +42,5 @@ unless None content = Ok content
 unless (Some found) content = Err found
 
 -- a record where no condition holds, else the lowest fault whose condition does
-abbrev pub judged : {X : Type 0} → (MessageFault → Bool) → X → Result X MessageFault
-judged holds content = unless (find holds faults) content
+abbrev pub unless_any : {X : Type 0} → (MessageFault → Bool) → X → Result X MessageFault
+unless_any holds content = unless (find holds faults) content

@@ -89,14 +89,15 @@ pub(crate) fn line_item(group: &[Segment]) -> Option<LineItem<'_>>
 
 /// The line items of all line groups of a message, in their order; the fault `Line` where one has none.
 pub fn line_items(alloc: Global, message: &[Segment]) -> Result<Vec<LineItem<'_>>, MessageFault>
-    ensures ok { IfOk result (λ items. (items.items ≡ line_groups message.now) × (list_all spec.is_line (line_groups message.now) ≡ true)) }
+    ensures ok { IfOk result (λ items. (items.items ≡ line_groups message.now)
+        × (list_all spec.is_line (line_groups message.now) ≡ true)) }
     ensures err { IfErr result (λ fault. fault ≢ MessageFault.Memory →
         (fault ≡ MessageFault.Line) × (list_all spec.is_line (line_groups message.now) ≡ false)) }
 {
     let mut items = Vec::new(alloc);
-    for (place, segment) in message.iter().enumerate() {
+    for (index, segment) in message.iter().enumerate() {
         if is_lin(segment) {
-            let group = group_of(&message[place..]);
+            let group = group_of(&message[index..]);
             items.push(line_item(group).ok_or(MessageFault::Line)?)?;
         }
     }

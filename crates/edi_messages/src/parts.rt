@@ -45,9 +45,9 @@ fn part_len(segments: &[Segment]) -> usize
     ensures within { result ≤ length segments.now }
     ensures value { result ≡ prefix_len (λ segment. not (spec.ends_part segment)) segments.now }
 {
-    for (place, segment) in segments.iter().enumerate() {
+    for (index, segment) in segments.iter().enumerate() {
         if ends_part(segment) {
-            return place;
+            return index;
         }
     }
     segments.len()
@@ -109,7 +109,8 @@ pub fn only_qualified<'a>(
     qualifier: &[u8],
     part: &'a [Segment],
 ) -> Option<&'a Segment>
-    ensures { option_map (λ segment. segment.now) result ≡ spec.only_qualified tag.now qualifier.now part.now }
+    ensures { option_map (λ segment. segment.now) result
+        ≡ spec.only_qualified tag.now qualifier.now part.now }
 {
     let mut found = None;
     for segment in part {

@@ -42,7 +42,8 @@ pub fn order(message: &[Segment]) -> Option<&[u8]>
 
 // The line number of a reference (1156): an absent one is none; no answer where it is wrong.
 fn line_or_none(rff: &Segment) -> Option<Option<u32>>
-    ensures some { IfSome result (λ line. (line ≡ spec.line_named rff.now) × (spec.has_line_or_none rff.now ≡ true)) }
+    ensures some { IfSome result (λ line.
+        (line ≡ spec.line_named rff.now) × (spec.has_line_or_none rff.now ≡ true)) }
     ensures none { IfNone result (spec.has_line_or_none rff.now ≡ false) }
 {
     let bytes = rff.component(0, 2);

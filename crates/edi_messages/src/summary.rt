@@ -27,9 +27,9 @@ fn only_section(message: &[Segment]) -> Option<&Segment>
 fn behind_uns(message: &[Segment]) -> &[Segment]
     ensures { result.now ≡ spec.behind_uns message.now }
 {
-    for (place, segment) in message.iter().enumerate() {
+    for (index, segment) in message.iter().enumerate() {
         if is_uns(segment) {
-            return &message[place + 1..];
+            return &message[index + 1..];
         }
     }
     &[]

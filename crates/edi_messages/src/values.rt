@@ -27,9 +27,9 @@ fn digits_len(bytes: &[u8]) -> usize
     ensures within { result ≤ length bytes.now }
     ensures value { result ≡ prefix_len is_digit bytes.now }
 {
-    for (place, byte) in bytes.iter().enumerate() {
+    for (index, byte) in bytes.iter().enumerate() {
         if !(b'0' <= *byte && *byte <= b'9') {
-            return place;
+            return index;
         }
     }
     bytes.len()

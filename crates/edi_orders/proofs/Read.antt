@@ -9,7 +9,7 @@ use Rattle.edi_envelope.specs.declared.interchange.RawMessage.{RawMessage}
 use Rattle.edi_messages.specs.Lines.{number_or_zero, is_line}
 use Rattle.edi_messages.specs.Parts.{line_groups}
 use Rattle.edi_messages.specs.declared.fault.MessageFault.TheVariants as fault
-use Rattle.edi_messages.proofs.Judged.{judged_is, judged_none}
+use Rattle.edi_messages.proofs.Valid.{content_is, no_fault_holds}
 use Rattle.edi_orders.specs.Order.{holds, line_of, contents_of, order_of}
 use Rattle.edi_orders.specs.declared.order.Order.{Order}
 use Rattle.edi_orders.specs.declared.order.OrderLine.{OrderLine}
@@ -24,8 +24,8 @@ pub order_apart : (m : RawMessage) (order : Order) → order_of m ≡ Ok order �
 unfolding order_of
 order_apart m order h =
     let groups = line_groups m.segments in
-    let right = judged_none (λ f. holds f m) (contents_of m.segments) order refl h fault.Line in
+    let right = no_fault_holds (λ f. holds f m) (contents_of m.segments) order refl h fault.Line in
     ap (λ (o : Order). has_number_twice (map (λ line. line.line) o.lines))
-    (sym (judged_is (λ f. holds f m) (contents_of m.segments) order h))
+    (sym (content_is (λ f. holds f m) (contents_of m.segments) order h))
     ∙ numbers_of groups
     ∙ (or_parts (not (list_all is_line groups)) (has_number_twice (map number_or_zero groups)) right).1

@@ -10,7 +10,7 @@ use Rattle.edi_messages.specs.Parts.{line_groups}
 use Rattle.edi_messages.specs.Header.{is_type, begins_as, document_number, function, has_date, party}
 use Rattle.edi_messages.specs.Lines.{number_or_zero, gtin, is_line, quantity_of}
 use Rattle.edi_messages.specs.Summary.{has_summary, line_count, is_controlled}
-use Rattle.edi_messages.specs.Fault.{judged}
+use Rattle.edi_messages.specs.Fault.{unless_any}
 use Rattle.edi_messages.specs.declared.fault.MessageFault.{MessageFault}
 use Rattle.edi_messages.specs.declared.fault.MessageFault.TheVariants as fault
 use Rattle.edi_orders.specs.declared.order.Order.{Order}
@@ -54,4 +54,4 @@ contents_of message = record {
 
 -- the order of a message where no condition holds, else the lowest fault
 unfoldable pub order_of : RawMessage → Result Order MessageFault
-order_of m = judged (λ fault. holds fault m) (contents_of m.segments)
+order_of m = unless_any (λ fault. holds fault m) (contents_of m.segments)

@@ -16,7 +16,7 @@ use Rattle.edi_orders.specs.declared.action.Action.{Action}
 use Rattle.edi_orders.specs.declared.action.Action.TheVariants as actions
 use Rattle.edi_orders.specs.declared.extent.Extent.{Extent}
 use Rattle.edi_orders.specs.declared.extent.Extent.TheVariants as extents
-use Rattle.edi_messages.specs.Fault.{judged}
+use Rattle.edi_messages.specs.Fault.{unless_any}
 use Rattle.edi_messages.specs.declared.fault.MessageFault.{MessageFault}
 use Rattle.edi_messages.specs.declared.fault.MessageFault.TheVariants as fault
 use Rattle.edi_orders.specs.declared.response.Response.{Response}
@@ -79,13 +79,13 @@ is_of_order (Some one) (Some other) = bytes_eq one other
 is_of_order _ _ = false
 
 -- a valid reference to the order of the header
-abbrev pub is_referred_by : Option (List ℕ) → Option Segment → Bool
-is_referred_by order None = false
-is_referred_by order (Some rff) = is_order_reference rff && is_of_order (order_named rff) order
+abbrev pub is_reference_to : Option (List ℕ) → Option Segment → Bool
+is_reference_to order None = false
+is_reference_to order (Some rff) = is_order_reference rff && is_of_order (order_named rff) order
 
--- a group has no reference, or one
-abbrev pub is_referred : Option (List ℕ) → List Segment → Bool
-is_referred order group = none_or_one_reference (is_referred_by order) group
+-- a group has no reference, or one to this order
+abbrev pub has_no_reference_or_one_to : Option (List ℕ) → List Segment → Bool
+has_no_reference_or_one_to order group = none_or_one_reference (is_reference_to order) group
 
 -- Each condition, of the whole message. Each is defined also where another one holds.
 abbrev pub holds : MessageFault → RawMessage → Bool
@@ -99,7 +99,7 @@ holds fault.Line m = not (list_all is_line (read_groups m.segments)
     && list_all (λ group. is_some (action group)) (read_groups m.segments))
 holds fault.Quantity m = not (list_all (λ group. is_some (line_answer group)) (read_groups m.segments))
 holds fault.Reference m =
-    not (is_some (order m.segments) && list_all (is_referred (order m.segments)) (read_groups m.segments))
+    not (is_some (order m.segments) && list_all (has_no_reference_or_one_to (order m.segments)) (read_groups m.segments))
 holds fault.Control m = not (is_controlled m.segments)
 holds fault.WithoutLines m = has_lines (extent m.segments) && line_count m.segments == 0
 holds other m = false
@@ -133,4 +133,4 @@ contents_of message = record {
 
 -- the response of a message where no condition holds, else the lowest fault
 unfoldable pub response_of : RawMessage → Result Response MessageFault
-response_of m = judged (λ fault. holds fault m) (contents_of m.segments)
+response_of m = unless_any (λ fault. holds fault m) (contents_of m.segments)

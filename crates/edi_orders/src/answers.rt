@@ -67,7 +67,8 @@ pub(crate) fn action_items<'a, 'b>(
     alloc: Global,
     items: &'b [LineItem<'a>],
 ) -> Result<Vec<ActionItem<'a, 'b>>, MessageFault>
-    ensures ok { IfOk result (λ lines. (lines.items ≡ items.now) × (list_all (λ group. is_some (spec.action group)) items.now ≡ true)) }
+    ensures ok { IfOk result (λ lines.
+        (lines.items ≡ items.now) × (list_all (λ group. is_some (spec.action group)) items.now ≡ true)) }
     ensures err { IfErr result (λ fault. fault ≢ MessageFault.Memory →
         (fault ≡ MessageFault.Line) × (list_all (λ group. is_some (spec.action group)) items.now ≡ false)) }
 {
@@ -109,7 +110,8 @@ pub(crate) fn answered_items<'a, 'b>(
     ensures ok { IfOk result (λ answered. (answered.items ≡ items.now)
         × (list_all (λ group. is_some (spec.line_answer group)) items.now ≡ true)) }
     ensures err { IfErr result (λ fault. fault ≢ MessageFault.Memory →
-        (fault ≡ MessageFault.Quantity) × (list_all (λ group. is_some (spec.line_answer group)) items.now ≡ false)) }
+        (fault ≡ MessageFault.Quantity)
+        × (list_all (λ group. is_some (spec.line_answer group)) items.now ≡ false)) }
 {
     let mut answered = Vec::new(alloc);
     for line in items {
@@ -125,8 +127,10 @@ pub(crate) fn answered_items<'a, 'b>(
 // The order line that a group names, where the group has no reference or one to this order.
 #[tactic(auto, using(edi_messages::proofs::Found::no_only))]
 fn order_line(order: &[u8], group: &[Segment]) -> Result<Option<u32>, MessageFault>
-    ensures ok { IfOk result (λ line. (line ≡ group_line group.now) × (spec.is_referred (Some order.now) group.now ≡ true)) }
-    ensures err { IfErr result (λ fault. (fault ≡ MessageFault.Reference) × (spec.is_referred (Some order.now) group.now ≡ false)) }
+    ensures ok { IfOk result (λ line.
+        (line ≡ group_line group.now) × (spec.has_no_reference_or_one_to (Some order.now) group.now ≡ true)) }
+    ensures err { IfErr result (λ fault.
+        (fault ≡ MessageFault.Reference) × (spec.has_no_reference_or_one_to (Some order.now) group.now ≡ false)) }
 {
     if !has_reference(group) {
         return Ok(None);
@@ -147,9 +151,10 @@ pub(crate) fn answer_lines(
     items: &[AnsweredItem<'_, '_>],
 ) -> Result<Items<AnswerLine>, MessageFault>
     ensures ok { IfOk result (λ lines. (lines ≡ map spec.line_of items.now)
-        × (list_all (spec.is_referred (Some order.now)) items.now ≡ true)) }
+        × (list_all (spec.has_no_reference_or_one_to (Some order.now)) items.now ≡ true)) }
     ensures err { IfErr result (λ fault. fault ≢ MessageFault.Memory →
-        (fault ≡ MessageFault.Reference) × (list_all (spec.is_referred (Some order.now)) items.now ≡ false)) }
+        (fault ≡ MessageFault.Reference)
+        × (list_all (spec.has_no_reference_or_one_to (Some order.now)) items.now ≡ false)) }
 {
     let mut lines = Items::new(alloc);
     for line in items {

@@ -47,7 +47,8 @@ fn order_lines(alloc: Global, items: &[LineItem<'_>]) -> Result<Items<OrderLine>
     ensures ok { IfOk result (λ lines. (lines ≡ map spec.line_of items.now)
         × (list_all (λ group. is_some (spec.ordered group)) items.now ≡ true)) }
     ensures err { IfErr result (λ fault. fault ≢ MessageFault.Memory →
-        (fault ≡ MessageFault.Quantity) × (list_all (λ group. is_some (spec.ordered group)) items.now ≡ false)) }
+        (fault ≡ MessageFault.Quantity)
+        × (list_all (λ group. is_some (spec.ordered group)) items.now ≡ false)) }
 {
     let mut lines = Items::new(alloc);
     for item in items {
@@ -72,7 +73,8 @@ struct Heading {
 fn read_heading(message: &RawMessage) -> Result<Heading, MessageFault>
     ensures said { IfOk result (λ heading. (party (codes "BY") message.now.segments ≡ Some heading.buyer)
         × (party (codes "SU") message.now.segments ≡ Some heading.supplier)) }
-    ensures ok { IfOk result (λ _. spec.lowest faults message.now ≡ spec.lowest (faults_from MessageFault.Line) message.now) }
+    ensures ok { IfOk result (λ _.
+        spec.lowest faults message.now ≡ spec.lowest (faults_from MessageFault.Line) message.now) }
     ensures err { IfErr result (λ fault. spec.lowest faults message.now ≡ Some fault) }
 {
     let segments = message.segments.as_slice();
@@ -120,7 +122,8 @@ impl Order {
     pub fn read(alloc: Global, message: &RawMessage) -> Result<Order, MessageFault>
         ensures ok { IfOk result (λ order. spec.order_of message.now ≡ Ok order) }
         ensures apart { IfOk result (λ order. twice (map (λ line. line.line) order.lines) ≡ false) }
-        ensures err { IfErr result (λ fault. fault ≢ MessageFault.Memory → spec.order_of message.now ≡ Err fault) }
+        ensures err { IfErr result (λ fault.
+            fault ≢ MessageFault.Memory → spec.order_of message.now ≡ Err fault) }
     {
         let Heading { buyer, supplier } = read_heading(message)?;
         let lines = read_lines(alloc, message)?;

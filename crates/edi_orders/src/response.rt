@@ -117,7 +117,8 @@ fn read_heading(message: &RawMessage) -> Result<Heading, MessageFault>
     ensures said { IfOk result (λ heading. (spec.extent message.now.segments ≡ Some heading.extent)
         × (party (codes "BY") message.now.segments ≡ Some heading.buyer)
         × (party (codes "SU") message.now.segments ≡ Some heading.supplier)) }
-    ensures ok { IfOk result (λ _. spec.lowest faults message.now ≡ spec.lowest (faults_from MessageFault.Line) message.now) }
+    ensures ok { IfOk result (λ _.
+        spec.lowest faults message.now ≡ spec.lowest (faults_from MessageFault.Line) message.now) }
     ensures err { IfErr result (λ fault. spec.lowest faults message.now ≡ Some fault) }
 {
     let segments = message.segments.as_slice();
@@ -174,7 +175,8 @@ impl Response {
     #[tactic(auto, unfolding(crate::specs::Response::response_of))]
     pub fn read(alloc: Global, message: &RawMessage) -> Result<Response, MessageFault>
         ensures ok { IfOk result (λ response. spec.response_of message.now ≡ Ok response) }
-        ensures err { IfErr result (λ fault. fault ≢ MessageFault.Memory → spec.response_of message.now ≡ Err fault) }
+        ensures err { IfErr result (λ fault.
+            fault ≢ MessageFault.Memory → spec.response_of message.now ≡ Err fault) }
     {
         let heading = read_heading(message)?;
         let Heading {

@@ -1,15 +1,13 @@
 -- The place that is told of a text is that of the byte, or of the end, that shows its fault by the grammar.
-use Rattle.std.proofs.Common.{◌≡◌, ℕ, zero, suc, ◌<◌, Bool, false, cond, eqb, List, [], ◌∷◌, ◌++◌, length, take, Some, Result, Ok, Err}
-use Rattle.std.proofs.Common.{refl, sym, ap, ◌∙◌, arith, inl, inr}
+use Rattle.std.proofs.Common.{◌≡◌, ℕ, ◌<◌, eqb, List, [], ◌∷◌, ◌++◌, length, take, Result, Ok, Err}
+use Rattle.std.proofs.Common.{refl, ap, ◌∙◌, arith, inl, inr}
 use Rattle.std.proofs.lemmas.List.{take_all, take_at}
-use Rattle.std.proofs.lemmas.Bool.{cases_Bool, eqb-true, eqb-false, ne_eqb}
+use Rattle.std.proofs.lemmas.Bool.{cases_Bool, eqb-true, eqb-false}
 use Rattle.edi_segments.specs.declared.fault.TokenFault.{TokenFault}
-use Rattle.edi_segments.specs.declared.fault.TokenFault.TheVariants.{TooLong}
 use Rattle.edi_segments.specs.Spelling.{text_limit}
 use Rattle.edi_segments.specs.Reading.{Reading, start, step, run, ◌>>=◌}
-use Rattle.edi_tokens.specs.Fault.{Ends, shown_at, ByteShows, EndShows}
-use Rattle.edi_tokens.proofs.Steps.{shown_is, fault_of}
-use Rattle.edi_tokens.proofs.Whole.{front_runs}
+use Rattle.edi_tokens.specs.Fault.{ByteShows, EndShows}
+use Rattle.edi_tokens.proofs.Exact.{front_at, cut_behind, stops_at}
 use Rattle.edi_places.specs.Text.{unless_fault, front, reached, place_behind, text_place}
 
 -- bytes that are all taken
@@ -45,22 +43,6 @@ stopped (a ∷ bytes) rest r m b fault e stops =
     through (Ok next) h others = let o = others next h in (ap (λ (l : List ℕ). a ∷ l) o.0, o.1)
     through (Err f) h others = absurd cc
 
-fault_is : (x : Result Reading TokenFault) (fault : TokenFault) → fault_of x ≡ Some fault → x ≡ Err fault
-fault_is (Ok n) fault e = absurd cc
-fault_is (Err f) fault e = let same : f ≡ fault = cc in ap (λ (y : TokenFault). Err y) same
-
-front_at : (front : List ℕ) (r : Reading) → Ends front r → run start front ≡ Ok r
-front_at front r e = (front_runs front r.service r.segments r.place e).is
-
--- what stands within a length of a front and more
-cut_behind : (front : List ℕ) (b : ℕ) (rest : List ℕ) (n : ℕ) → length front < n
-    → (more : List ℕ) × (take n (front ++ b ∷ rest) ≡ front ++ b ∷ more)
-cut_behind [] b rest zero short = absurd (omega arith)
-cut_behind [] b rest (suc n) short = (take n rest, refl)
-cut_behind (a ∷ front) b rest zero short = absurd (omega arith)
-cut_behind (a ∷ front) b rest (suc n) short =
-    let others = cut_behind front b rest n (omega arith) in (others.0, ap (λ (t : List ℕ). a ∷ t) others.1)
-
 placed : (bytes taken before : List ℕ) (m : Reading) → take text_limit bytes ≡ taken
     → (front start taken ≡ before) × (reached start taken ≡ m)
     → text_place bytes ≡ place_behind before m
@@ -68,14 +50,6 @@ placed bytes taken before m cut both =
     ap (λ (l : List ℕ). place_behind (front start l) (reached start l)) cut
     ∙ ap (λ (l : List ℕ). place_behind l (reached start taken)) both.0
     ∙ ap (place_behind before) both.1
-
-stops_at : (bytes : List ℕ) (fault : TokenFault) (e : ByteShows bytes fault) → length e.front < text_limit
-    → step e.reading e.byte ≡ Err fault
-stops_at bytes fault e short =
-    let early : eqb (length e.front) text_limit ≡ false = ne_eqb (length e.front) text_limit (λ same. absurd (omega arith)) in
-    let shows : shown_at e.reading.service e.reading.place e.byte ≡ Some fault =
-    sym (ap (λ (t : Bool). cond t (Some TooLong) (shown_at e.reading.service e.reading.place e.byte)) early) ∙ e.shows in
-    fault_is (step e.reading e.byte) fault (sym (shown_is e.front e.reading e.reading.place e.byte e.front_ends) ∙ shows)
 
 pub place_of_byte : (bytes : List ℕ) (fault : TokenFault) (e : ByteShows bytes fault)
     → text_place bytes ≡ place_behind e.front e.reading

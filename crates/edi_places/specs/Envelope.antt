@@ -56,8 +56,8 @@ place_in_message MessageHeader segments = if has_identity (first_segment segment
 place_in_message _ segments = first_place is_unt segments
 
 -- of the first such message
-abbrev pub message_place : EnvelopeFault → List Segment → ℕ
-message_place fault segments = place_from (begins_wrong fault) (place_in_message fault) segments
+abbrev pub first_shown_place : EnvelopeFault → List Segment → ℕ
+first_shown_place fault segments = place_from (begins_wrong fault) (place_in_message fault) segments
 
 -- the first UNH whose reference an earlier one has, where these have come before
 abbrev pub first_repeat_place : List (List ℕ) → List Segment → ℕ
@@ -67,24 +67,25 @@ first_repeat_place come (segment ∷ rest) =
     then (if is_among (component segment 0 0) come then 1 else 1 + first_repeat_place (component segment 0 0 ∷ come) rest)
     else 1 + first_repeat_place come rest
 
--- the UNH before which there are so many
-abbrev pub place_of_message : ℕ → List Segment → ℕ
-place_of_message before [] = 0
-place_of_message before (segment ∷ rest) =
-    if is_unh segment then (if before == 0 then 1 else 1 + place_of_message (before - 1) rest) else 1 + place_of_message before rest
+-- the UNH before which so many messages stand
+abbrev pub place_of_unh : ℕ → List Segment → ℕ
+place_of_unh before [] = 0
+place_of_unh before (segment ∷ rest) =
+    if is_unh segment then (if before == 0 then 1 else 1 + place_of_unh (before - 1) rest)
+    else 1 + place_of_unh before rest
 
 -- The segment that shows each fault, of all segments of the interchange. Where there is none at all, none shows E06.
 abbrev pub envelope_place : EnvelopeFault → List Segment → Option ℕ
 envelope_place InterchangeFrame segments = frame_place segments
 envelope_place InterchangeHeader segments = Some 1
 envelope_place MessageFrame segments = Some (row_place segments)
-envelope_place MessageHeader segments = Some (message_place MessageHeader segments)
-envelope_place SegmentCount segments = Some (message_place SegmentCount segments)
-envelope_place MessageReference segments = Some (message_place MessageReference segments)
+envelope_place MessageHeader segments = Some (first_shown_place MessageHeader segments)
+envelope_place SegmentCount segments = Some (first_shown_place SegmentCount segments)
+envelope_place MessageReference segments = Some (first_shown_place MessageReference segments)
 envelope_place MessageCount segments = Some (length segments)
 envelope_place ControlReference segments = Some (length segments)
 envelope_place RepeatedReference segments = Some (first_repeat_place [] segments)
 envelope_place TestIndicator segments = Some 1
-envelope_place TooManyMessages segments = Some (place_of_message 999 segments)
+envelope_place TooManyMessages segments = Some (place_of_unh 999 segments)
 envelope_place CharacterSet segments = Some (first_place has_high_data segments)
 envelope_place Memory segments = None

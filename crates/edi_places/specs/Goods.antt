@@ -9,7 +9,7 @@ use Rattle.edi_messages.specs.Lines.{is_line}
 use Rattle.edi_messages.specs.declared.fault.MessageFault.{MessageFault}
 use Rattle.edi_messages.specs.declared.fault.MessageFault.TheVariants as fault
 use Rattle.edi_goods.specs.Units.{unit_of, head, has_identifier, sscc, sscc_or_none, has_line_outside}
-use Rattle.edi_goods.specs.Despatch.{despatched, inherits, has_header_reference_or_none, is_referred}
+use Rattle.edi_goods.specs.Despatch.{despatched, inherits, has_header_reference_or_none, has_reference_or_inherits}
 use Rattle.edi_goods.specs.Receipt.{is_once_or_none, is_received}
 use Rattle.edi_places.specs.Counting.{first_place, once_place, place_from}
 use Rattle.edi_places.specs.Header.{beginning_place, date_place, goods_parties_place, reference_place, control_place}
@@ -23,7 +23,7 @@ outside message = prefix_len (λ segment. not (is_cps segment)) message
 abbrev pub despatch_shows : MessageFault → Bool → List Segment → Bool
 despatch_shows fault.Line inherited group = not (is_line group)
 despatch_shows fault.Quantity inherited group = not (is_some (despatched group))
-despatch_shows fault.Reference inherited group = not (is_referred inherited group)
+despatch_shows fault.Reference inherited group = not (has_reference_or_inherits inherited group)
 despatch_shows _ inherited group = false
 
 -- the segment of such a line group that shows it

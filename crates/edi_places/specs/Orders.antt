@@ -10,7 +10,7 @@ use Rattle.edi_messages.specs.References.{order}
 use Rattle.edi_messages.specs.declared.fault.MessageFault.{MessageFault}
 use Rattle.edi_messages.specs.declared.fault.MessageFault.TheVariants as fault
 use Rattle.edi_orders.specs.Order.{ordered}
-use Rattle.edi_orders.specs.Response.{action, line_answer, is_referred}
+use Rattle.edi_orders.specs.Response.{action, line_answer, has_no_reference_or_one_to}
 use Rattle.edi_places.specs.Counting.{once_place, place_from}
 use Rattle.edi_places.specs.Header.{beginning_place, date_place, parties_place, reference_place, summary_place, control_place}
 
@@ -66,7 +66,7 @@ order_place _ message = 1
 abbrev pub response_shows : MessageFault → List ℕ → List Segment → Bool
 response_shows fault.Line order group = not (is_line group && is_some (action group))
 response_shows fault.Quantity order group = not (is_some (line_answer group))
-response_shows fault.Reference order group = not (is_referred (Some order) group)
+response_shows fault.Reference order group = not (has_no_reference_or_one_to (Some order) group)
 response_shows _ order group = false
 
 -- the quantity of a line that is changed

@@ -184,8 +184,8 @@ fn place_in_message(fault: EnvelopeFault, segments: &[Segment]) -> usize
 }
 
 // The segment that shows a condition of one message, of the first of which it holds.
-fn message_place(fault: EnvelopeFault, segments: &[Segment]) -> usize
-    ensures { result ≡ spec.message_place fault segments.now }
+fn first_shown_place(fault: EnvelopeFault, segments: &[Segment]) -> usize
+    ensures { result ≡ spec.first_shown_place fault segments.now }
 {
     for (index, segment) in segments.iter().enumerate() {
         let rest = &segments[index..];
@@ -209,9 +209,9 @@ fn first_repeat_place(alloc: Global, segments: &[Segment]) -> Result<usize, Memo
     Ok(segments.len())
 }
 
-// The UNH before which there are so many.
-fn place_of_message(before: usize, segments: &[Segment]) -> usize
-    ensures { result ≡ spec.place_of_message before segments.now }
+// The UNH before which so many messages stand.
+fn place_of_unh(before: usize, segments: &[Segment]) -> usize
+    ensures { result ≡ spec.place_of_unh before segments.now }
 {
     let mut before = before;
     for (index, segment) in segments.iter().enumerate() {
@@ -280,10 +280,10 @@ pub fn envelope_place(
         EnvelopeFault::MessageFrame => row_place(segments),
         EnvelopeFault::MessageHeader
         | EnvelopeFault::SegmentCount
-        | EnvelopeFault::MessageReference => message_place(fault, segments),
+        | EnvelopeFault::MessageReference => first_shown_place(fault, segments),
         EnvelopeFault::MessageCount | EnvelopeFault::ControlReference => segments.len(),
         EnvelopeFault::RepeatedReference => first_repeat_place(alloc, segments)?,
-        EnvelopeFault::TooManyMessages => place_of_message(MOST_MESSAGES, segments),
+        EnvelopeFault::TooManyMessages => place_of_unh(MOST_MESSAGES, segments),
         EnvelopeFault::CharacterSet => first_high_place(segments),
     };
     Ok(Some(place))

@@ -26,8 +26,8 @@ use std::alloc::Global;
 
 // Whether a line group has one valid reference, or none where the header has one.
 #[tactic(auto, using(edi_messages::proofs::Found::no_only))]
-fn is_referred(inherited: bool, group: &[Segment]) -> bool
-    ensures { result ≡ despatch.is_referred inherited group.now }
+fn has_reference_or_inherits(inherited: bool, group: &[Segment]) -> bool
+    ensures { result ≡ despatch.has_reference_or_inherits inherited group.now }
 {
     match reference(group) {
         Some(rff) => read_reference(rff).is_some(),
@@ -42,7 +42,7 @@ fn despatch_shows(fault: MessageFault, inherited: bool, group: &[Segment]) -> bo
     match fault {
         MessageFault::Line => !has_line(group),
         MessageFault::Quantity => quantity_of(b"12", 1, group).is_none(),
-        MessageFault::Reference => !is_referred(inherited, group),
+        MessageFault::Reference => !has_reference_or_inherits(inherited, group),
         _ => false,
     }
 }
@@ -281,7 +281,8 @@ fn unit_place(alloc: Global, message: &[Segment]) -> Result<usize, MemoryFault>
 
 // The segment that shows a condition of a line group of a despatch advice.
 fn despatch_group_place(fault: MessageFault, message: &[Segment]) -> Result<usize, MemoryFault>
-    ensures { IfOk result (λ place. place ≡ spec.despatch_group_place fault (despatch.inherits message.now) message.now) }
+    ensures { IfOk result (λ place.
+        place ≡ spec.despatch_group_place fault (despatch.inherits message.now) message.now) }
 {
     let inherited = has_reference(header(message));
     let (before, units) = message.split_at(outside_len(message));

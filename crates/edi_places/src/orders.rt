@@ -23,7 +23,8 @@ use std::alloc::Global;
 fn shows_line(numbers: &mut Numbers, segment: &Segment) -> Result<bool, MemoryFault>
     ensures shows { IfOk result (λ shows. shows ≡ spec.shows_line numbers.old segment.now) }
     ensures seen { IfOk result (λ shows. shows ≡ false → (other : ℕ) →
-        comes_among nat_eq other numbers.new ≡ comes_among nat_eq other (spec.numbers_with numbers.old segment.now)) }
+        comes_among nat_eq other numbers.new
+        ≡ comes_among nat_eq other (spec.numbers_with numbers.old segment.now)) }
 {
     if !is_lin(segment) {
         return Ok(false);
@@ -142,8 +143,8 @@ fn has_answer(group: &[Segment]) -> bool
 
 // Whether a line group has no reference, or one to this order.
 #[tactic(auto, using(edi_messages::proofs::Found::no_only))]
-fn is_referred(order: &[u8], group: &[Segment]) -> bool
-    ensures { result ≡ response.is_referred (Some order.now) group.now }
+fn has_no_reference_or_one_to(order: &[u8], group: &[Segment]) -> bool
+    ensures { result ≡ response.has_no_reference_or_one_to (Some order.now) group.now }
 {
     if !has_reference(group) {
         return true;
@@ -164,7 +165,7 @@ fn response_shows(fault: MessageFault, order: &[u8], group: &[Segment]) -> bool
     match fault {
         MessageFault::Line => !(has_line(group) && has_action(group)),
         MessageFault::Quantity => !has_answer(group),
-        MessageFault::Reference => !is_referred(order, group),
+        MessageFault::Reference => !has_no_reference_or_one_to(order, group),
         _ => false,
     }
 }

@@ -33,10 +33,7 @@ use Rattle.edi_relay.specs.declared.relaying.Relaying.{Relaying}
 use Rattle.edi_relay.specs.Relay.{mail_texts, mailed, tokens_mailed, relayed, of_token, of_envelope, Relays, RelaysRead, without_read}
 use Rattle.edi_relay.specs.Mails.{Writes}
 use Rattle.edi_relay.specs.Relaying.{Stands, Reads, HasRead, stopped_after}
-
-push_some : (lent : List Segment) (s : Segment) → lent ++ s ∷ [] ≢ []
-push_some [] s = λ e. cc
-push_some (u ∷ rest) s = λ e. cc
+use Rattle.edi_relay.proofs.Written.{push_some}
 
 -- one more segment
 module _ (words : RelayWords) (mark : ℕ) (lent : List Segment) (s : Segment) (o : Relaying) (check : EnvelopeCheck) (stands : Place)

@@ -1,5 +1,5 @@
 -- What a run of `relay` took of its reader, and what it did with it.
-use Rattle.std.proofs.Common.{◌≡◌, ◌≢◌, ℕ, ◌+◌, ◌≤◌, Bool, true, zero, suc, List, [], ◌∷◌, ◌++◌}
+use Rattle.std.proofs.Common.{◌≡◌, ◌≢◌, ℕ, ◌+◌, Bool, true, List, [], ◌++◌}
 use Rattle.std.proofs.Common.{length, take, Option, Some, None, Result, Ok, Err, inl, inr}
 use Rattle.std.proofs.Common.{refl, sym, ap, subst, ◌∙◌, arith, append-nil}
 use Rattle.std.specs.Prelude.{◌⊎◌, IfSome, nat_lt, if◌then◌else◌}
@@ -14,6 +14,7 @@ use Rattle.edi_segments.specs.declared.fault.TokenFault.{TokenFault}
 use Rattle.edi_segments.specs.declared.fault.TokenFault.TheVariants as token
 use Rattle.edi_segments.specs.declared.fault.TokenFault.TheVariants.{TooLong, ServiceString, Byte, Cut, Tag, LongSegment, Read}
 use Rattle.edi_segments.specs.Reading.{run, start, finish, tokens_of, ◌>>=◌}
+use Rattle.edi_segments.proofs.Runs.{take-take_le}
 use Rattle.edi_tokens.specs.Lender.{AtEnd, Fed, IsBegun, TakesOf, room_of, stopped}
 use Rattle.edi_tokens.proofs.Lending.{takes_then}
 use Rattle.edi_relay.specs.declared.relay.RelayWords.{RelayWords}
@@ -26,12 +27,6 @@ use Rattle.edi_relay.specs.Run.{read_limit, Delivers, DeliversFront, IfToEnd, Is
 
 -- ---- one byte more than the longest text tells as much as all
 
-take_less : {A : Type 0} (m n : ℕ) (xs : List A) → m ≤ n → take m (take n xs) ≡ take m xs
-take_less zero n xs h = refl
-take_less (suc m) zero xs h = absurd (omega arith)
-take_less (suc m) (suc n) [] h = refl
-take_less (suc m) (suc n) (x ∷ xs) h = ap (λ l. x ∷ l) (take_less m n xs (omega arith))
-
 same_length : (k : List ℕ) → nat_lt text_limit (length (take read_limit k)) ≡ nat_lt text_limit (length k)
 same_length k =
     elim (cases_lt text_limit (length k)) [
@@ -43,7 +38,7 @@ same_length k =
 
 same_text : (k : List ℕ) → tokens_of (take read_limit k) ≡ tokens_of k
 same_text k =
-    let front : take text_limit (take read_limit k) ≡ take text_limit k = take_less text_limit read_limit k (omega arith) in
+    let front : take text_limit (take read_limit k) ≡ take text_limit k = take-take_le text_limit read_limit k (omega arith) in
     ap (λ (t : List ℕ). run start t >>= λ r. if nat_lt text_limit (length (take read_limit k)) then Err TooLong else finish r) front
     ∙ ap (λ (b : Bool). run start (take text_limit k) >>= λ r. if b then Err TooLong else finish r) (same_length k)
 

@@ -70,7 +70,7 @@ text_push l s =
     ap text (map_push renumbered l s) ∙ flat_map-append segment_text (map renumbered l) (renumbered s ∷ [])
     ∙ ap (λ (t : List ℕ). text (map renumbered l) ++ t) (append-nil (segment_text (renumbered s)))
 
-push_some : (last : List Segment) (s : Segment) → last ++ s ∷ [] ≢ []
+pub push_some : (last : List Segment) (s : Segment) → last ++ s ∷ [] ≢ []
 push_some [] s = λ e. cc
 push_some (u ∷ rest) s = λ e. cc
 

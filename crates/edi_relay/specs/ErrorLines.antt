@@ -1,5 +1,5 @@
 -- Lines on standard error.
-use Rattle.std.specs.Prelude.{◌≡◌, ℕ, Bool, false, List, Option}
+use Rattle.std.specs.Prelude.{◌≡◌, ◌⊎◌, ℕ, Bool, false, List, codes, Option}
 use Rattle.std.specs.Io.KnownBytes.{Appends}
 use Rattle.edi_base.specs.Buffer.{AppendsFront}
 
@@ -7,3 +7,8 @@ use Rattle.edi_base.specs.Buffer.{AppendsFront}
 pub record Tells (old new : Option (List ℕ)) (failed : Bool) (line : List ℕ) : Type 0 where
   pub front : AppendsFront old new line
   pub whole : failed ≡ false → Appends old new line
+
+-- a flag stays, or the status is 3 and the line `file` tells of it
+abbrev pub StaysOrTellsFile : Bool → Bool → ℕ → Option (List ℕ) → Option (List ℕ) → Bool → Type 0
+StaysOrTellsFile before after status old new failed =
+    (after ≡ before) ⊎ ((status ≡ 3) × Tells old new failed (codes "file\n"))

@@ -169,9 +169,11 @@ fn read<R: Source>(
 ) -> Result<Relaying, RelayFault>
     ensures told { Reads words.now (R.remaining reader.old) lender.old result lender.new }
     ensures flag { stopped lender.old ≡ None → Flagged result (R.failed reader.old) (R.failed reader.new) }
-    ensures bound { TakesOf (R.remaining reader.old) (R.remaining reader.new) (room_of lender.old) (room_of lender.new) }
+    ensures bound { TakesOf (R.remaining reader.old) (R.remaining reader.new)
+        (room_of lender.old) (room_of lender.new) }
     ensures ends { AtEnd (R.remaining reader.old) lender.old → AtEnd (R.remaining reader.new) lender.new }
-    ensures stops { Stops R.remaining (stopped_after result (stopped lender.old)) reader.old lender.old reader.new lender.new }
+    ensures stops { Stops R.remaining
+        (stopped_after result (stopped lender.old)) reader.old lender.old reader.new lender.new }
 {
     let mut relaying = Relaying::new(alloc, words)?;
     while lender.advance(reader)? {
@@ -194,10 +196,12 @@ pub fn relay_lent<R: Source>(
         RelaysRead (λ out. out.items) result (relayed all words.now) }
     // A failed read is told where the reader answered an error, and else its flag stays.
     ensures flag { stopped lender.old ≡ None → Flagged result (R.failed reader.old) (R.failed reader.new) }
-    ensures bound { TakesOf (R.remaining reader.old) (R.remaining reader.new) (room_of lender.old) (room_of lender.new) }
+    ensures bound { TakesOf (R.remaining reader.old) (R.remaining reader.new)
+        (room_of lender.old) (room_of lender.new) }
     ensures ends { AtEnd (R.remaining reader.old) lender.old → AtEnd (R.remaining reader.new) lender.new }
     // The lender stops with the token fault that it told. After any other answer it goes on, unless it had stopped before.
-    ensures stops { Stops R.remaining (stopped_after result (stopped lender.old)) reader.old lender.old reader.new lender.new }
+    ensures stops { Stops R.remaining
+        (stopped_after result (stopped lender.old)) reader.old lender.old reader.new lender.new }
 {
     let relaying = read(alloc, lender, reader, words)?;
     let out = relaying.finish()?;

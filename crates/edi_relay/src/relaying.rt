@@ -48,7 +48,8 @@ impl Relaying {
 
     /// The mail texts, or the fault of the interchange.
     pub(crate) fn finish(self) -> Result<Vec<u8>, EnvelopeFault>
-        ensures { (words : RelayWords) (tokens : Tokens) → Stands words tokens.service.decimal tokens.segments self →
+        ensures { (words : RelayWords) (tokens : Tokens) →
+            Stands words tokens.service.decimal tokens.segments self →
             IsMailed words (λ out. out.items) result (spec.interchange_of tokens) }
     {
         if let Some(fault) = self.check.fault() {

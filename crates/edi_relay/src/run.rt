@@ -6,7 +6,7 @@ ghost use Rattle.edi_base.specs.Buffer.{AppendsFront};
 ghost use Rattle.edi_base.specs.Source.{TakesAtMost};
 ghost use Rattle.edi_relay.specs.declared.relay.RelayFault.{RelayFault};
 ghost use Rattle.edi_relay.specs.Relay.{AreRelayWords};
-ghost use Rattle.edi_relay.specs.ErrorLines.{Tells};
+ghost use Rattle.edi_relay.specs.ErrorLines.{StaysOrTellsFile, Tells};
 ghost use Rattle.edi_relay.specs.Run.{Delivers, DeliversFront, IsRefused, Ran, read_limit, refusal};
 
 use crate::error_lines::tell;
@@ -41,8 +41,10 @@ fn tell_refusal<E: Sink>(fault: RelayFault, err: &mut E)
 /// Prints why an interchange was not read, and answers the exit status.
 pub fn tell_read_fault<E: Sink>(fault: ReadFault, err: &mut E) -> u8
     ensures status { result ≡ 3 }
-    ensures file { fault ≡ ReadFault.Read → Tells (E.contents err.old) (E.contents err.new) (E.failed err.new) (codes "file\n") }
-    ensures memory { fault ≡ ReadFault.Memory → Tells (E.contents err.old) (E.contents err.new) (E.failed err.new) (codes "memory\n") }
+    ensures file { fault ≡ ReadFault.Read →
+        Tells (E.contents err.old) (E.contents err.new) (E.failed err.new) (codes "file\n") }
+    ensures memory { fault ≡ ReadFault.Memory →
+        Tells (E.contents err.old) (E.contents err.new) (E.failed err.new) (codes "memory\n") }
 {
     match fault {
         ReadFault::Read => tell(b"file\n", err),
@@ -65,7 +67,8 @@ fn relay_input<R: Source>(
     words: &RelayWords,
     input: &mut R,
 ) -> Result<Vec<u8>, RelayFault>
-    ensures { Ran (λ out. out.items) words.now (R.remaining input.old) (R.remaining input.new) (R.failed input.old)
+    ensures { Ran (λ out. out.items) words.now (R.remaining input.old) (R.remaining input.new)
+        (R.failed input.old)
         (R.failed input.new) result }
 {
     let mut lender = Lender::new(alloc)?;
@@ -93,10 +96,10 @@ pub fn relay_run<R: Source, W: Sink, E: Sink>(
     requires { AreRelayWords words.now }
     ensures taken { TakesAtMost (R.remaining input.old) (R.remaining input.new) read_limit }
     ensures status { (result ≡ 0) ⊎ ((result ≡ 1) ⊎ (result ≡ 3)) }
-    ensures read { (R.failed input.new ≡ R.failed input.old)
-        ⊎ ((result ≡ 3) × Tells (E.contents err.old) (E.contents err.new) (E.failed err.new) (codes "file\n")) }
-    ensures written { (W.failed out.new ≡ W.failed out.old)
-        ⊎ ((result ≡ 3) × Tells (E.contents err.old) (E.contents err.new) (E.failed err.new) (codes "file\n")) }
+    ensures read { StaysOrTellsFile (R.failed input.old) (R.failed input.new) result
+        (E.contents err.old) (E.contents err.new) (E.failed err.new) }
+    ensures written { StaysOrTellsFile (W.failed out.old) (W.failed out.new) result
+        (E.contents err.old) (E.contents err.new) (E.failed err.new) }
     ensures stands { ((result ≡ 0) ⊎ (result ≡ 1)) →
         IfSome (R.remaining input.old) (λ known.
         Consumes (R.remaining input.old) (R.remaining input.new) (take read_limit known)) }
@@ -110,7 +113,8 @@ pub fn relay_run<R: Source, W: Sink, E: Sink>(
     ensures failed { result ≡ 3 →
         (Tells (E.contents err.old) (E.contents err.new) (E.failed err.new) (codes "file\n")
         × (((R.failed input.new ≡ true) × Keeps (W.contents out.old) (W.contents out.new))
-        ⊎ ((W.failed out.new ≡ true) × DeliversFront (R.remaining input.old) words.now (W.contents out.old) (W.contents out.new))))
+        ⊎ ((W.failed out.new ≡ true)
+        × DeliversFront (R.remaining input.old) words.now (W.contents out.old) (W.contents out.new))))
         ⊎ (Tells (E.contents err.old) (E.contents err.new) (E.failed err.new) (codes "memory\n")
         × Keeps (W.contents out.old) (W.contents out.new)) }
 {

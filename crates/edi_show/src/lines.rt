@@ -26,7 +26,8 @@ pub(crate) fn put_head(
     buyer: &[u8],
     supplier: &Gln,
 ) -> Result<(), MemoryFault>
-    ensures { OnOk result (out.new.items ≡ out.old.items ++ spec.head_lines name.now number.now buyer.now supplier.now) }
+    ensures { OnOk result (out.new.items ≡ out.old.items
+        ++ spec.head_lines name.now number.now buyer.now supplier.now) }
 {
     put_line(out, name, number)?;
     put_line(out, b"  buyer ", buyer)?;

@@ -52,11 +52,11 @@ fault_is : (x : Result Reading TokenFault) (fault : TokenFault) → fault_of x �
 fault_is (Ok n) fault e = absurd cc
 fault_is (Err f) fault e = let same : f ≡ fault = cc in ap (λ (y : TokenFault). Err y) same
 
-front_at : (front : List ℕ) (r : Reading) → Ends front r → run start front ≡ Ok r
+pub front_at : (front : List ℕ) (r : Reading) → Ends front r → run start front ≡ Ok r
 front_at front r e = (front_runs front r.service r.segments r.place e).is
 
 -- a byte that shows a fault within the longest text is not read
-stops_at : (bytes : List ℕ) (fault : TokenFault) (e : ByteShows bytes fault)
+pub stops_at : (bytes : List ℕ) (fault : TokenFault) (e : ByteShows bytes fault)
     → length e.front < text_limit
     → step e.reading e.byte ≡ Err fault
 stops_at bytes fault e short =
@@ -64,6 +64,15 @@ stops_at bytes fault e short =
     let shows : shown_at e.reading.service e.reading.place e.byte ≡ Some fault =
     sym (ap (λ (t : Bool). cond t (Some TooLong) (shown_at e.reading.service e.reading.place e.byte)) early) ∙ e.shows in
     fault_is (step e.reading e.byte) fault (sym (shown_is e.front e.reading e.reading.place e.byte e.front_ends) ∙ shows)
+
+-- a text that is cut behind a front and one byte more begins with these
+pub cut_behind : (front : List ℕ) (b : ℕ) (rest : List ℕ) (n : ℕ) → length front < n
+    → (more : List ℕ) × (take n (front ++ b ∷ rest) ≡ front ++ b ∷ more)
+cut_behind [] b rest zero short = absurd (omega arith)
+cut_behind [] b rest (suc n) short = (take n rest, refl)
+cut_behind (a ∷ front) b rest zero short = absurd (omega arith)
+cut_behind (a ∷ front) b rest (suc n) short =
+    let others = cut_behind front b rest n (omega arith) in (others.0, ap (λ (t : List ℕ). a ∷ t) others.1)
 
 shown_at_byte : (bytes : List ℕ) (fault : TokenFault) → ByteShows bytes fault → tokens_of bytes ≡ Err fault
 shown_at_byte bytes fault e =
@@ -90,15 +99,6 @@ shown_at_byte bytes fault e =
           ∙ run_stops e.front parts.0 start e.reading e.byte fault (front_at e.front e.reading e.front_ends) stops in
           ap (λ (x : Result Reading TokenFault). x >>= λ r. cond (ltb text_limit (length bytes)) (Err TooLong) (finish r)) runs
     ]
-  where
-    cut_behind : (front : List ℕ) (b : ℕ) (rest : List ℕ) (n : ℕ)
-        → length front < n
-        → (more : List ℕ) × (take n (front ++ b ∷ rest) ≡ front ++ b ∷ more)
-    cut_behind [] b rest zero short = absurd (omega arith)
-    cut_behind [] b rest (suc n) short = (take n rest, refl)
-    cut_behind (a ∷ front) b rest zero short = absurd (omega arith)
-    cut_behind (a ∷ front) b rest (suc n) short =
-        let others = cut_behind front b rest n (omega arith) in (others.0, ap (λ (t : List ℕ). a ∷ t) others.1)
 
 shown_at_end : (bytes : List ℕ) (fault : TokenFault) → EndShows bytes fault → tokens_of bytes ≡ Err fault
 shown_at_end bytes fault e =

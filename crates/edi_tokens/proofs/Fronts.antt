@@ -13,7 +13,7 @@ use Rattle.edi_segments.specs.Spelling.{SpellsSegment, SpellsNext, SpellsWhole, 
 use Rattle.edi_segments.specs.Spelling.{advice_text, without_empty_end}
 use Rattle.edi_segments.specs.Reading.{Open, with_tag, with_byte, with_component, with_element, with_release, closed_elements}
 use Rattle.edi_tokens.specs.Fault.{is_fresh, EndsOutside, EndsInService, EndsInTag, IsTagFront, SpellsOpen, EndsInData, EndsReleased}
-use Rattle.edi_tokens.proofs.Parts.{Each-push, LineEnds-push, grows}
+use Rattle.edi_tokens.proofs.Parts.{Each-push, LineEnds-push, grows, tag_length}
 
 -- ---- outside of segments
 
@@ -150,13 +150,6 @@ whole_tag (a ∷ []) is long = absurd (omega arith)
 whole_tag (a ∷ b ∷ []) is long = absurd (omega arith)
 whole_tag (a ∷ b ∷ c ∷ []) is long = is
 whole_tag (a ∷ b ∷ c ∷ d ∷ others) is long = absurd is
-
-tag_length : (tag : List ℕ) → IsTag tag → length tag ≡ 3
-tag_length [] is = absurd is
-tag_length (a ∷ []) is = absurd is
-tag_length (a ∷ b ∷ []) is = absurd is
-tag_length (a ∷ b ∷ c ∷ []) is = refl
-tag_length (a ∷ b ∷ c ∷ d ∷ others) is = absurd is
 
 -- a first tag that is no service string
 advises_more : (advice : Option Advice) (s : Service) (segments : List Segment) (tag : List ℕ) (fresh : Bool)

@@ -1,8 +1,8 @@
 -- Lists that are spelled part after part.
-use Rattle.std.proofs.Common.{◌≡◌, ℕ, List, [], ◌∷◌, ◌++◌, refl, sym, ap, ◌∙◌, append_assoc, append-nil}
+use Rattle.std.proofs.Common.{◌≡◌, ℕ, List, [], ◌∷◌, ◌++◌, length, refl, sym, ap, ◌∙◌, append_assoc, append-nil}
 use Rattle.std.specs.Prelude.{IsTrue}
 use Rattle.edi_segments.specs.Characters.{is_line_end}
-use Rattle.edi_segments.specs.Spelling.{Each, LineEnds}
+use Rattle.edi_segments.specs.Spelling.{Each, IsTag, LineEnds}
 
 -- one part more
 pub Each-push : {A : Type 0} (R : List ℕ → A → Type 0) (text : List ℕ) (xs : List A) (part : List ℕ) (x : A)
@@ -25,3 +25,10 @@ LineEnds-push (a ∷ text) b ends h = (ends.0, LineEnds-push text b ends.1 h)
 -- a text grows by a byte at its end
 pub grows : (text front back : List ℕ) (b : ℕ) → text ≡ front ++ back → text ++ b ∷ [] ≡ front ++ (back ++ b ∷ [])
 grows text front back b e = ap (λ (t : List ℕ). t ++ b ∷ []) e ∙ append_assoc front back (b ∷ [])
+
+pub tag_length : (tag : List ℕ) → IsTag tag → length tag ≡ 3
+tag_length [] is = absurd is
+tag_length (a ∷ []) is = absurd is
+tag_length (a ∷ b ∷ []) is = absurd is
+tag_length (a ∷ b ∷ c ∷ []) is = refl
+tag_length (a ∷ b ∷ c ∷ d ∷ others) is = absurd is

@@ -66,7 +66,7 @@ byte_is_data s part b e = e.0
 component_is_data : (s : Service) (part component : List ℕ) → SpellsComponent s part component → Data component
 component_is_data s part component e = each_all (SpellsByte s) (λ b. IsTrue (is_data b)) part component (byte_is_data s) e
 
-all_push : {A : Type 0} (P : A → Type 0) (xs : List A) (x : A) → AllByRecursion P xs → P x → AllByRecursion P (xs ++ x ∷ [])
+pub all_push : {A : Type 0} (P : A → Type 0) (xs : List A) (x : A) → AllByRecursion P xs → P x → AllByRecursion P (xs ++ x ∷ [])
 all_push P [] x ps p = (p, tt)
 all_push P (y ∷ xs) x ps p = (ps.0, all_push P xs x ps.1 p)
 

@@ -17,6 +17,7 @@ use Rattle.edi_segments.specs.Spelling.{Advises, advice_text, without_empty_end}
 use Rattle.edi_segments.specs.Reading.{Open, Place, Outside, InService, InTag, InData, Released, Reading, start, is_una}
 use Rattle.edi_segments.specs.Reading.{adopt, step, run, ◌>>=◌}
 use Rattle.edi_tokens.specs.Fault.{is_fresh, EndsAt, IsTagFront, SpellsOpen, EndsInData, EndsReleased}
+use Rattle.edi_tokens.proofs.Parts.{tag_length}
 use Rattle.edi_tokens.proofs.Steps.{is_una_true}
 
 -- ---- service characters are apart
@@ -289,17 +290,10 @@ pub record Ready (r : Reading) (s : Service) (segments : List Segment) (tag : Li
   pub ends : n < segment_limit
       → Goes r (s.terminator ∷ []) (outside s (segments ++ record { tag = tag; elements = without_empty_end elements } ∷ []) false)
 
-three_long : (tag : List ℕ) → IsTag tag → length tag ≡ 3
-three_long [] is = absurd is
-three_long (a ∷ []) is = absurd is
-three_long (a ∷ b ∷ []) is = absurd is
-three_long (a ∷ b ∷ c ∷ []) is = refl
-three_long (a ∷ b ∷ c ∷ d ∷ others) is = absurd is
-
 pub tag_is_ready : (s : Service) (segments : List Segment) (fresh : Bool) (tag : List ℕ) → Apart s → IsTag tag
     → Ready (in_tag s segments fresh tag) s segments tag [] 3
 tag_is_ready s segments fresh tag apart is =
-    let three = three_long tag is in
+    let three = tag_length tag is in
     let long : ltb (length tag) 3 ≡ false = le-ltb _ _ (omega arith) in
     record {
       opens = λ _. one_step _ s.element _ (rw (long, same_number s.element) refl);
@@ -404,7 +398,7 @@ tag_front (a ∷ b ∷ c ∷ d ∷ others) is = absurd is
 segment_runs : (s : Service) (segments : List Segment) (fresh : Bool) (text : List ℕ) (x : Segment) → Apart s → SpellsSegment s text x
     → (fresh ≡ true → x.tag ≢ una_tag) → Goes (outside s segments fresh) text (outside s (segments ++ x ∷ []) false)
 segment_runs s segments fresh text x apart e not_una =
-    let three = three_long x.tag e.tag_is in
+    let three = tag_length x.tag e.tag_is in
     let joined : length text ≡ 3 + length e.body + 1 =
     ap length e.text_is
     ∙ length-append (x.tag ++ e.body) (s.terminator ∷ [])
@@ -517,7 +511,7 @@ open_runs : (s : Service) (segments : List Segment) (fresh : Bool) (text : List 
     → (fresh ≡ true → o.tag ≢ una_tag) → SpellsOpen s text o
     → Goes (outside s segments fresh) text (record { service = s; segments = segments; place = InData o })
 open_runs s segments fresh text o apart not_una e =
-    let three = three_long o.tag e.tag_is in
+    let three = tag_length o.tag e.tag_is in
     let inner : List ℕ = e.front ++ e.back in
     let inner_sum : length inner ≡ length e.front + length e.back = length-append e.front e.back in
     let joined : length text ≡ (3 + length e.closed) + suc (length inner) =

@@ -35,7 +35,8 @@ fn append_others(
     segment: &SegmentRef<'_>,
     element: usize,
 ) -> Result<(), MemoryFault>
-    ensures ok { OnOk result (out.new.items ≡ out.old.items ++ others_text (element_at (segment_in segment.now).elements element)) }
+    ensures ok { OnOk result (out.new.items ≡ out.old.items
+        ++ others_text (element_at (segment_in segment.now).elements element)) }
     ensures kept { Keeps out.old.items out.new.items }
 {
     for place in 1..segment.components(element) {
@@ -51,7 +52,8 @@ fn append_element(
     segment: &SegmentRef<'_>,
     element: usize,
 ) -> Result<(), MemoryFault>
-    ensures ok { OnOk result (out.new.items ≡ out.old.items ++ element_text (element_at (segment_in segment.now).elements element)) }
+    ensures ok { OnOk result (out.new.items ≡ out.old.items
+        ++ element_text (element_at (segment_in segment.now).elements element)) }
     ensures kept { Keeps out.old.items out.new.items }
 {
     out.push(ELEMENT)?;

@@ -24,13 +24,15 @@ pub fn text_spells_one_list()
 /// that shows it. Where the end shows it, no byte does.
 pub fn text_spells_or_shows_a_fault()
     ensures either { (bytes : List ℕ) →
-        ((s : Service) × (xs : List Segment) × Spells bytes s xs) ⊎ ((fault : TokenFault) × Shows bytes fault) }
+        ((s : Service) × (xs : List Segment) × Spells bytes s xs)
+        ⊎ ((fault : TokenFault) × Shows bytes fault) }
     ensures never_both { (bytes : List ℕ) (s : Service) (xs : List Segment) (fault : TokenFault) →
         Spells bytes s xs → ¬ Shows bytes fault }
     ensures one_fault { (bytes : List ℕ) (fault other : TokenFault) →
         Shows bytes fault → Shows bytes other → fault ≡ other }
     ensures one_byte { (bytes : List ℕ) (fault other : TokenFault)
-        (here : ByteShows bytes fault) (there : ByteShows bytes other) → length here.front ≡ length there.front }
+        (here : ByteShows bytes fault) (there : ByteShows bytes other) →
+        length here.front ≡ length there.front }
     ensures byte_or_end { (bytes : List ℕ) (fault other : TokenFault) →
         EndShows bytes fault → ¬ ByteShows bytes other }
 {}
@@ -56,7 +58,8 @@ pub fn canonical_text_spells_again()
 /// What has been lent is what a front of the text spells: the bytes to the end of the last segment that was lent, with
 /// the service characters as far as they are known.
 pub fn lent_segments_are_spelled()
-    ensures { (known : Option (List ℕ)) (all : List ℕ) (lent : List Segment) (l : Lender) → Fed known all lent l →
+    ensures { (known : Option (List ℕ)) (all : List ℕ) (lent : List Segment) (l : Lender) →
+        Fed known all lent l →
         (front rest : List ℕ) × (all ≡ front ++ rest) × SpellsWhole front l.machine.service lent }
 {}
 

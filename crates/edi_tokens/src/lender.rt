@@ -60,7 +60,8 @@ fn skip_piece<R: Source>(
     reader: &mut R,
     room: usize,
 ) -> Result<usize, ReadFailed>
-    ensures taken { IfOk result (λ count. TakesOf (R.remaining reader.old) (R.remaining reader.new) room (room - count)) }
+    ensures taken { IfOk result (λ count.
+        TakesOf (R.remaining reader.old) (R.remaining reader.new) room (room - count)) }
     ensures within { IfOk result (λ count. count ≤ room) }
     ensures ends { IfOk result (λ count. count ≡ 0 → 0 < room → IsAtEnd (R.remaining reader.new)) }
     ensures none { OnErr result (TakesOf (R.remaining reader.old) (R.remaining reader.new) room room) }
@@ -89,7 +90,8 @@ impl Lender {
     /// more are read.
     pub fn of_size(alloc: Global, front: &[u8], size: usize) -> Result<Self, MemoryFault>
         requires { size ≤ text_limit }
-        ensures fed { IfOk result (λ lender. (left : List ℕ) → Fed (Some left) (take size (front.now ++ left)) [] lender) }
+        ensures fed { IfOk result (λ lender.
+            (left : List ℕ) → Fed (Some left) (take size (front.now ++ left)) [] lender) }
         ensures begun { IfOk result (λ lender. IsBegun lender (size - length front.now)) }
     {
         let front = &front[..size.min(front.len())];
@@ -105,7 +107,8 @@ impl Lender {
 
     /// Takes what was read, to the end of a segment or to its last byte. Whether a segment ended.
     fn take_piece(&mut self) -> Result<bool, TokenFault>
-        ensures told { (known : Option (List ℕ)) (all : List ℕ) (lent : List Segment) → Fed known all lent self.old →
+        ensures told { (known : Option (List ℕ)) (all : List ℕ) (lent : List Segment) →
+            Fed known all lent self.old →
             Took known all lent result self.new }
         ensures some { (lent : List Segment) → Came lent self.old → FitsSome lent result self.new }
         ensures text { IfErr result IsOfText }
@@ -129,7 +132,8 @@ impl Lender {
         ensures some { (lent : List Segment) → Came lent self.old → FillsSome lent result self.new }
         ensures flag { Flags result (R.failed reader.old) (R.failed reader.new) }
         ensures origin { R.origin reader.new ≡ R.origin reader.old }
-        ensures bound { TakesOf (R.remaining reader.old) (R.remaining reader.new) self.old.room self.new.room }
+        ensures bound { TakesOf
+            (R.remaining reader.old) (R.remaining reader.new) self.old.room self.new.room }
         ensures ends { AtEnd (R.remaining reader.new) self.new }
         ensures fewer { result ≡ Ok true → self.new.room < self.old.room }
         ensures unread { result ≡ Ok true → unread self.new ≤ unread self.old }
@@ -167,7 +171,8 @@ impl Lender {
         ensures some { (lent : List Segment) → Came lent self.old → FillsSome lent result self.new }
         ensures flag { Flags result (R.failed reader.old) (R.failed reader.new) }
         ensures origin { R.origin reader.new ≡ R.origin reader.old }
-        ensures bound { TakesOf (R.remaining reader.old) (R.remaining reader.new) self.old.room self.new.room }
+        ensures bound { TakesOf
+            (R.remaining reader.old) (R.remaining reader.new) self.old.room self.new.room }
         ensures ends { AtEnd (R.remaining reader.old) self.old → AtEnd (R.remaining reader.new) self.new }
         ensures fewer { result ≡ Ok true → self.new.room < self.old.room }
         ensures unread { result ≡ Ok true → unread self.new ≤ unread self.old }
@@ -186,11 +191,13 @@ impl Lender {
         requires going { stopped self.old ≡ None }
         ensures told { (all : List ℕ) (lent : List Segment) → Fed (R.remaining reader.old) all lent self.old →
             Told (R.remaining reader.new) all lent (answered result self.new) self.new }
-        ensures some { (lent : List Segment) → Came lent self.old → TellsSome lent (answered result self.new) self.new }
+        ensures some { (lent : List Segment) → Came lent self.old →
+            TellsSome lent (answered result self.new) self.new }
         ensures fewer { result ≡ Ok true → unread self.new < unread self.old }
         ensures flag { Flags result (R.failed reader.old) (R.failed reader.new) }
         ensures origin { R.origin reader.new ≡ R.origin reader.old }
-        ensures bound { TakesOf (R.remaining reader.old) (R.remaining reader.new) self.old.room self.new.room }
+        ensures bound { TakesOf
+            (R.remaining reader.old) (R.remaining reader.new) self.old.room self.new.room }
         ensures ends { AtEnd (R.remaining reader.old) self.old → AtEnd (R.remaining reader.new) self.new }
         ensures going { OnOk result (stopped self.new ≡ None) }
     {
@@ -208,7 +215,8 @@ impl Lender {
     /// Reads to the end of the next segment, which is then lent. Whether there is one; none at the end of the text. After
     /// a fault it answers the same fault for good, and reads nothing more.
     pub fn advance<R: Source>(&mut self, reader: &mut R) -> Result<bool, TokenFault>
-        ensures feeds { Feeds (R.remaining reader.old) (R.remaining reader.new) (R.failed reader.old) (R.failed reader.new)
+        ensures feeds { Feeds (R.remaining reader.old) (R.remaining reader.new)
+            (R.failed reader.old) (R.failed reader.new)
             self.old (answered result self.new) self.new }
         ensures origin { R.origin reader.new ≡ R.origin reader.old }
         ensures fewer { result ≡ Ok true → unread self.new < unread self.old }

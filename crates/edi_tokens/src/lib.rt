@@ -23,4 +23,4 @@ pub use laws::{
 pub use lender::Lender;
 pub use piece::ReadFailed;
 pub use reading::{TEXT_LIMIT, read_all};
-pub use text::{append_text, body_text, service_string, write_text};
+pub use text::{append_segments, body_text, service_string, write_text};

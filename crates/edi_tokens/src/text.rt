@@ -29,7 +29,8 @@ fn put_component<W: Sink>(
     buffer: &mut Buffer,
     component: &[u8],
 ) -> Result<(), WriteFault>
-    ensures bytes { Puts result (W.contents out.old) (W.contents out.new) buffer.old buffer.new (component_text component.now) }
+    ensures bytes { Puts result (W.contents out.old) (W.contents out.new) buffer.old buffer.new
+        (component_text component.now) }
     ensures flag { Flags result (W.failed out.old) (W.failed out.new) }
 {
     let mut rest = component;
@@ -49,7 +50,8 @@ fn put_element<W: Sink>(
     buffer: &mut Buffer,
     components: &[Items<u8>],
 ) -> Result<(), WriteFault>
-    ensures bytes { Puts result (W.contents out.old) (W.contents out.new) buffer.old buffer.new (element_text components.now) }
+    ensures bytes { Puts result (W.contents out.old) (W.contents out.new) buffer.old buffer.new
+        (element_text components.now) }
     ensures flag { Flags result (W.failed out.old) (W.failed out.new) }
 {
     buffer.put(out, &[ELEMENT])?;
@@ -69,7 +71,8 @@ fn put_segment<W: Sink>(
     buffer: &mut Buffer,
     segment: &Segment,
 ) -> Result<(), WriteFault>
-    ensures bytes { Puts result (W.contents out.old) (W.contents out.new) buffer.old buffer.new (segment_text segment.now) }
+    ensures bytes { Puts result (W.contents out.old) (W.contents out.new) buffer.old buffer.new
+        (segment_text segment.now) }
     ensures flag { Flags result (W.failed out.old) (W.failed out.new) }
 {
     buffer.put(out, &segment.tag)?;
@@ -84,7 +87,8 @@ fn put_text<W: Sink>(
     buffer: &mut Buffer,
     segments: &[Segment],
 ) -> Result<(), WriteFault>
-    ensures bytes { Puts result (W.contents out.old) (W.contents out.new) buffer.old buffer.new (text segments.now) }
+    ensures bytes { Puts result (W.contents out.old) (W.contents out.new) buffer.old buffer.new
+        (text segments.now) }
     ensures flag { Flags result (W.failed out.old) (W.failed out.new) }
 {
     for segment in segments {
@@ -95,7 +99,8 @@ fn put_text<W: Sink>(
 
 /// Writes a front and the text of segments after it.
 fn put_all<W: Sink>(out: &mut W, front: &[u8], segments: &[Segment]) -> Result<(), WriteFault>
-    ensures bytes { Puts result (W.contents out.old) (W.contents out.new) [] [] (front.now ++ text segments.now) }
+    ensures bytes { Puts result (W.contents out.old) (W.contents out.new) [] []
+        (front.now ++ text segments.now) }
     ensures flag { Flags result (W.failed out.old) (W.failed out.new) }
 {
     let mut buffer = Buffer::new();
@@ -116,8 +121,10 @@ pub fn service_string(decimal: u8) -> [u8; 9]
 /// Writes the service string `UNA:+.? '`, with this decimal mark, and the canonical text of segments (ISO 9735, character
 /// sets, service string advice and structures). It takes no memory. At `WriteFault` a front of the text was written.
 pub fn write_text<W: Sink>(segments: &[Segment], decimal: u8, out: &mut W) -> Result<(), WriteFault>
-    ensures ok { OnOk result (Appends (W.contents out.old) (W.contents out.new) (una decimal ++ text segments.now)) }
-    ensures err { OnErr result (AppendsFront (W.contents out.old) (W.contents out.new) (una decimal ++ text segments.now)) }
+    ensures ok { OnOk result
+        (Appends (W.contents out.old) (W.contents out.new) (una decimal ++ text segments.now)) }
+    ensures err { OnErr result
+        (AppendsFront (W.contents out.old) (W.contents out.new) (una decimal ++ text segments.now)) }
 
     // The fault comes only from the sink, and else the sink's flag stays.
     ensures kept { OnOk result (W.failed out.new ≡ W.failed out.old) }
@@ -128,7 +135,7 @@ pub fn write_text<W: Sink>(segments: &[Segment], decimal: u8, out: &mut W) -> Re
 }
 
 /// Appends the canonical text of segments, with no service string.
-pub fn append_text(out: &mut Vec<u8>, segments: &[Segment]) -> Result<(), MemoryFault>
+pub fn append_segments(out: &mut Vec<u8>, segments: &[Segment]) -> Result<(), MemoryFault>
     ensures ok { OnOk result (out.new.items ≡ out.old.items ++ text segments.now) }
     ensures err { OnErr result (out.new.items ≡ out.old.items) }
 {
@@ -149,6 +156,6 @@ pub fn body_text(alloc: Global, segments: &[Segment]) -> Result<Vec<u8>, MemoryF
     ensures { IfOk result (λ text_of. text_of.items ≡ text segments.now) }
 {
     let mut out = Vec::new(alloc);
-    append_text(&mut out, segments)?;
+    append_segments(&mut out, segments)?;
     Ok(out)
 }

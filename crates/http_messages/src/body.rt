@@ -15,7 +15,8 @@ fn fill<R: Source>(source: &mut R, bytes: &mut [u8], filled: usize) -> Result<us
     ensures bytes { IfOk result (λ end. Fills (R.remaining source.old) (R.remaining source.new)
         (take filled bytes.old) (take end bytes.new) (length bytes.old - filled)) }
     ensures within { IfOk result (λ end. end ≤ length bytes.old) }
-    ensures front { TakesAtMost (R.remaining source.old) (R.remaining source.new) (length bytes.old - filled) }
+    ensures front { TakesAtMost (R.remaining source.old) (R.remaining source.new)
+        (length bytes.old - filled) }
     ensures read { result ≡ Err ReadFault.Read → R.failed source.new ≡ true }
     ensures kept { result ≢ Err ReadFault.Read → R.failed source.new ≡ R.failed source.old }
 {

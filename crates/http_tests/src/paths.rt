@@ -2,7 +2,7 @@ use hub_http::{Paths, Route, part_in, party_in};
 use std::alloc::Global;
 use std::test::*;
 
-// The route that a path takes, who asks, and what stands for `{n}` or `{supplier}`, if anything.
+// The route of a path, who asks, and what stands for `{n}` or `{supplier}`, if anything.
 type Found<'p> = Option<(Route, &'p [u8], &'p [u8])>;
 
 fn found(alloc: Global, path: &str) -> Result<Found<'_>, Fail> {

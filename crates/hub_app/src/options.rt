@@ -77,7 +77,8 @@ fn parts<'a>(alloc: Global, text: &'a str) -> Result<Vec<&'a str>, AllocError>
 // The prefixes that texts are, where each is one.
 fn prefixes_in(alloc: Global, texts: &[&str]) -> Result<Option<Vec<Prefix>>, AllocError>
     ensures { IfOk result (λ found. option_map (λ prefixes. prefixes.items) found
-        ≡ if list_all is_prefix (map (λ text. text.now) texts.now) then Some (map (λ text. text.now) texts.now) else None) }
+        ≡ if list_all is_prefix (map (λ text. text.now) texts.now)
+        then Some (map (λ text. text.now) texts.now) else None) }
 {
     let mut prefixes = Vec::new(alloc);
     for text in texts {
@@ -91,7 +92,8 @@ fn prefixes_in(alloc: Global, texts: &[&str]) -> Result<Option<Vec<Prefix>>, All
 
 /// The prefixes that are listed with commas between them, where each is one.
 pub(crate) fn prefixes(alloc: Global, text: &str) -> Result<Option<Vec<Prefix>>, AllocError>
-    ensures { IfOk result (λ found. option_map (λ prefixes. prefixes.items) found ≡ spec.prefixes_of text.now) }
+    ensures { IfOk result (λ found.
+        option_map (λ prefixes. prefixes.items) found ≡ spec.prefixes_of text.now) }
 {
     let parts = parts(alloc, text)?;
     prefixes_in(alloc, parts.as_slice())

@@ -4,11 +4,6 @@ use Rattle.std.specs.Prelude.{Result, Ok, Err, OnOk, OnErr}
 use Rattle.std.proofs.KnownBytes.{Appends-trans}
 use Rattle.hub_commands.specs.Output.{Written, Lost}
 
--- a fact where a call failed
-pub on_err : {T E P : Type 0} (r : Result T E) → P → OnErr r P
-on_err (Ok x) p = tt
-on_err (Err e) p = p
-
 -- a text was written, or a front of it
 pub written_or_lost : {T E : Type 0} {old new : Option (List ℕ)} {failed after : Bool} {text : List ℕ} (r : Result T E)
     → OnOk r (Written old new failed after text)

@@ -18,8 +18,8 @@ module _ (verdict : Result RegisterRows RegisterFault) (status result : ℕ) (li
     (told : ((result ≡ status) × (failed ≡ was) × Appends old new line × Keeps err_old err_new)
     ⊎ ((result ≡ 3) × (failed ≡ true) × AppendsFront old new line × Tells err_old err_new err_failed (codes "file\n"))) where
   -- printed whole, where the status is not that of a failure
-  pub judged : result ≢ 3 → (result ≡ verdict_status verdict) × Appends old new (verdict_line verdict) × Keeps err_old err_new
-  judged ended =
+  pub checked : result ≢ 3 → (result ≡ verdict_status verdict) × Appends old new (verdict_line verdict) × Keeps err_old err_new
+  checked ended =
       elim told [
         | inl h ↦ (h.0 ∙ is_status, subst (λ (l : List ℕ). Appends old new l) is_line h.2, h.3)
         | inr h ↦ absurd (ended h.0)

@@ -3,6 +3,7 @@ use Rattle.std.specs.Prelude.{◌≡◌, ◌≢◌, ◌⊎◌, ⊤, ℕ, max, Bo
 use Rattle.std.specs.Prelude.{IfSome, flat_map, fold}
 use Rattle.std.specs.List.{AllByRecursion}
 use Rattle.std.specs.Io.KnownBytes.{Appends}
+use Rattle.hub_law.specs.Replies.{stopped_line}
 use Rattle.hub_requests.specs.declared.reply.Outcome.TheVariants.{Stopped}
 use Rattle.hub_requests.specs.declared.reply.Reply.{Reply}
 use Rattle.hub_requests.specs.declared.request.Input.{Input}
@@ -95,6 +96,10 @@ reply_of (Unprinted name) = []
 abbrev pub file_line : List ℕ → List ℕ
 file_line name = codes "file " ++ (name ++ codes "\n")
 
+-- in place of the reply, where there is nothing to upload
+abbrev pub unread_line : List ℕ
+unread_line = codes "fault\n"
+
 -- what is printed of it before it is uploaded, and then
 abbrev pub line_of : Looked → List ℕ
 line_of (Answered name bytes reply) = file_line name
@@ -106,9 +111,9 @@ line_of (Unprinted name) = []
 
 abbrev pub words_of : Looked → List ℕ
 words_of (Answered name bytes reply) = reply.body
-words_of (Unread name) = codes "fault\n"
-words_of Unnamed = codes "fault\n"
-words_of (NoMemory name) = codes "stopped\n"
+words_of (Unread name) = unread_line
+words_of Unnamed = unread_line
+words_of (NoMemory name) = stopped_line
 words_of (Unprinted name) = file_line name
 
 abbrev pub text_of : Looked → List ℕ

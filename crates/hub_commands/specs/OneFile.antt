@@ -1,11 +1,12 @@
 -- What one file of an import does.
-use Rattle.std.specs.Prelude.{◌≡◌, ◌≢◌, ◌⊎◌, ℕ, Bool, List, [], codes, Option, Result, Ok, Err}
+use Rattle.std.specs.Prelude.{◌≡◌, ◌≢◌, ◌⊎◌, ℕ, Bool, List, [], Option, Result, Ok, Err}
 use Rattle.edi_base.specs.declared.source.ReadFault.{ReadFault}
 use Rattle.edi_base.specs.declared.source.ReadFault.TheVariants.{Read, Memory}
+use Rattle.hub_law.specs.Replies.{stopped_line}
 use Rattle.hub_requests.specs.declared.reply.Outcome.TheVariants.{Stopped}
 use Rattle.hub_requests.specs.declared.reply.Reply.{Reply}
 use Rattle.hub_commands.specs.Import.{Looked, Answered, Unread, Unnamed, NoMemory, Unprinted, Of, GoesOn, Ends}
-use Rattle.hub_commands.specs.Import.{WasGiven, text_of, file_status}
+use Rattle.hub_commands.specs.Import.{WasGiven, unread_line, text_of, file_status}
 use Rattle.hub_commands.specs.Output.{Written, Lost}
 use Rattle.hub_commands.specs.Replies.{status_of}
 use Rattle.hub_commands.specs.declared.files.NextFile.{NextFile}
@@ -43,8 +44,8 @@ ReplyComes old new failed after reply (Err ended) =
 
 -- the status of a file that cannot be read, or the end of the import where memory gives out for its bytes
 abbrev pub FaultComes : {E : Type 0} → Option (List ℕ) → Option (List ℕ) → Bool → Bool → ReadFault → Result ℕ E → Type 0
-FaultComes old new failed after Read (Ok status) = Written old new failed after (codes "fault\n") × (status ≡ 3)
-FaultComes old new failed after Read (Err ended) = Lost old new after (codes "fault\n")
+FaultComes old new failed after Read (Ok status) = Written old new failed after unread_line × (status ≡ 3)
+FaultComes old new failed after Read (Err ended) = Lost old new after unread_line
 FaultComes old new failed after Memory (Ok status) = ⊥
 FaultComes old new failed after Memory (Err ended) =
-    Written old new failed after (codes "stopped\n") ⊎ Lost old new after (codes "stopped\n")
+    Written old new failed after stopped_line ⊎ Lost old new after stopped_line

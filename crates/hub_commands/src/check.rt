@@ -6,7 +6,7 @@ ghost use Rattle.edi_base.specs.Buffer.{AppendsFront};
 ghost use Rattle.edi_base.specs.Source.{TakesAtMost};
 ghost use Rattle.hub_commands.specs.Check.{IsRegisterText, fault_line, verdict_line, verdict_status};
 ghost use Rattle.edi_relay.specs.Run.{read_limit};
-ghost use Rattle.edi_relay.specs.ErrorLines.{Tells};
+ghost use Rattle.edi_relay.specs.ErrorLines.{StaysOrTellsFile, Tells};
 ghost use Rattle.hub_register.specs.Register.{register_of};
 
 use edi_base::exit::{DONE, FAILED, REFUSED};
@@ -61,7 +61,8 @@ impl From<ReadFault> for TextFault {
 pub fn read_register_text<R: Source>(alloc: Global, input: &mut R) -> Result<String, TextFault>
     ensures taken { TakesAtMost (R.remaining input.old) (R.remaining input.new) read_limit }
     ensures text { IfOk result (λ text. IsRegisterText (string_bytes text)) }
-    ensures whole { IfOk result (λ text. IfSome (R.remaining input.old) (λ bytes. bytes ≡ string_bytes text)) }
+    ensures whole { IfOk result (λ text.
+        IfSome (R.remaining input.old) (λ bytes. bytes ≡ string_bytes text)) }
     ensures file { result ≡ Err TextFault.File → (R.failed input.new ≡ true)
         ⊎ IfSome (R.remaining input.old) (λ bytes. ¬ IsRegisterText bytes) }
     ensures kept { result ≢ Err TextFault.File → R.failed input.new ≡ R.failed input.old }
@@ -151,19 +152,20 @@ pub fn print_verdict<W: Sink, E: Sink>(verdict: &Verdict, out: &mut W, err: &mut
     FAILED
 }
 
-/// Judges the text of a register and writes one line to `out`: `ok N suppliers`, or `fault` and the fault. Answers the
+/// Checks the text of a register and writes one line to `out`: `ok N suppliers`, or `fault` and the fault. Answers the
 /// exit status: 0 for a register; 1 for a fault; 3 where the write failed, with the line `file` on `err`, or memory ran
 /// out, with the line `memory`.
 pub fn check_run<W: Sink, E: Sink>(alloc: Global, text: &str, out: &mut W, err: &mut E) -> u8
-    ensures judged { result ≢ 3 →
+    ensures checked { result ≢ 3 →
         (result ≡ verdict_status (register_of text.now))
         × Appends (W.contents out.old) (W.contents out.new) (verdict_line (register_of text.now))
         × Keeps (E.contents err.old) (E.contents err.new) }
-    ensures written { (W.failed out.new ≡ W.failed out.old)
-        ⊎ ((result ≡ 3) × Tells (E.contents err.old) (E.contents err.new) (E.failed err.new) (codes "file\n")) }
+    ensures written { StaysOrTellsFile (W.failed out.old) (W.failed out.new) result
+        (E.contents err.old) (E.contents err.new) (E.failed err.new) }
     ensures failed { result ≡ 3 →
         (Tells (E.contents err.old) (E.contents err.new) (E.failed err.new) (codes "file\n")
-        × (W.failed out.new ≡ true) × AppendsFront (W.contents out.old) (W.contents out.new) (verdict_line (register_of text.now)))
+        × (W.failed out.new ≡ true)
+        × AppendsFront (W.contents out.old) (W.contents out.new) (verdict_line (register_of text.now)))
         ⊎ (Tells (E.contents err.old) (E.contents err.new) (E.failed err.new) (codes "memory\n")
         × Keeps (W.contents out.old) (W.contents out.new)) }
 {

@@ -16,7 +16,11 @@ use edi_tokens::{Lender, TokenFault};
 use gs1_ids::Gln;
 use hub_core::{Hub, Reply};
 use hub_store::Store;
+use hub_texts::STOPPED;
 use std::alloc::Global;
+
+// The line of a file that cannot be read or has no name.
+const FAULT: &[u8] = b"fault\n";
 
 // The import ends before it comes to the next file.
 struct Ended;
@@ -29,7 +33,8 @@ impl From<WriteFault> for Ended {
 
 // Prints a reply, and answers its exit status.
 fn print_reply<W: Sink>(reply: &Reply, out: &mut W) -> Result<u8, Ended>
-    ensures { ReplyComes (W.contents out.old) (W.contents out.new) (W.failed out.old) (W.failed out.new) reply.now
+    ensures { ReplyComes (W.contents out.old) (W.contents out.new)
+        (W.failed out.old) (W.failed out.new) reply.now
         result }
 {
     let status = reply_run(reply, out);
@@ -42,15 +47,16 @@ fn print_reply<W: Sink>(reply: &Reply, out: &mut W) -> Result<u8, Ended>
 
 // Prints why the bytes of a file are not known, and answers the exit status of the file.
 fn print_fault<W: Sink>(fault: ReadFault, out: &mut W) -> Result<u8, Ended>
-    ensures { FaultComes (W.contents out.old) (W.contents out.new) (W.failed out.old) (W.failed out.new) fault result }
+    ensures { FaultComes (W.contents out.old) (W.contents out.new)
+        (W.failed out.old) (W.failed out.new) fault result }
 {
     match fault {
         ReadFault::Read => {
-            print(b"fault\n", out)?;
+            print(FAULT, out)?;
             Ok(FAILED)
         }
         ReadFault::Memory => {
-            print(b"stopped\n", out)?;
+            print(STOPPED, out)?;
             Err(Ended)
         }
     }
@@ -61,7 +67,8 @@ fn unless_unread(
     upload: Result<Interchange, OpenFault>,
 ) -> Result<Result<Interchange, OpenFault>, ReadFault>
     ensures ok { IfOk result (λ given. (given ≡ upload) × (given ≢ Err (OpenFault.Token TokenFault.Read))) }
-    ensures err { IfErr result (λ fault. (fault ≡ ReadFault.Read) × (upload ≡ Err (OpenFault.Token TokenFault.Read))) }
+    ensures err { IfErr result (λ fault.
+        (fault ≡ ReadFault.Read) × (upload ≡ Err (OpenFault.Token TokenFault.Read))) }
 {
     match upload {
         Err(OpenFault::Token(TokenFault::Read)) => Err(ReadFault::Read),
@@ -100,7 +107,8 @@ fn import_file<S: Store, B: Source + Drop, W: Sink>(
         (λ bytes reply. S.honest hub.new.1 → SoundWith hub.old.0 (S.content hub.old.1) →
         Stepped (S.content hub.old.1) (S.content hub.new.1) (S.left hub.old.1) (S.left hub.new.1)
         (input_of moment caller.now key.now (Upload bytes)) reply)
-        (hub.new ≡ hub.old) file (W.contents out.old) (W.contents out.new) (W.failed out.old) (W.failed out.new)
+        (hub.new ≡ hub.old) file (W.contents out.old) (W.contents out.new)
+        (W.failed out.old) (W.failed out.new)
         result }
     ensures held { S.honest hub.new.1 → SoundWith hub.old.0 (S.content hub.old.1) →
         SoundWith hub.new.0 (S.content hub.new.1) }
@@ -108,7 +116,7 @@ fn import_file<S: Store, B: Source + Drop, W: Sink>(
     ensures was_honest { S.honest hub.new.1 → S.honest hub.old.1 }
 {
     let NextFile::Named(file) = file else {
-        print(b"fault\n", out)?;
+        print(FAULT, out)?;
         return Ok(FAILED);
     };
     let NamedFile { name, source } = file;
@@ -157,7 +165,7 @@ pub fn import_run<S: Store, F: Files, W: Sink>(
             Ok(Some(file)) => file,
             Ok(None) => return greatest,
             Err(_) => {
-                let _ = print(b"stopped\n", out);
+                let _ = print(STOPPED, out);
                 return FAILED;
             }
         };

@@ -7,7 +7,8 @@ use edi_base::{Sink, WriteFault, write_bytes};
 
 /// Prints a text.
 pub(crate) fn print<W: Sink>(text: &[u8], out: &mut W) -> Result<(), WriteFault>
-    ensures ok { OnOk result (Written (W.contents out.old) (W.contents out.new) (W.failed out.old) (W.failed out.new)
+    ensures ok { OnOk result
+        (Written (W.contents out.old) (W.contents out.new) (W.failed out.old) (W.failed out.new)
         text.now) }
     ensures err { OnErr result (Lost (W.contents out.old) (W.contents out.new) (W.failed out.new) text.now) }
 {
@@ -16,7 +17,8 @@ pub(crate) fn print<W: Sink>(text: &[u8], out: &mut W) -> Result<(), WriteFault>
 
 /// Prints the line of a file.
 pub(crate) fn print_file_line<W: Sink>(name: &str, out: &mut W) -> Result<(), WriteFault>
-    ensures ok { OnOk result (Written (W.contents out.old) (W.contents out.new) (W.failed out.old) (W.failed out.new)
+    ensures ok { OnOk result
+        (Written (W.contents out.old) (W.contents out.new) (W.failed out.old) (W.failed out.new)
         (file_line name.now)) }
     ensures err { OnErr result (Lost (W.contents out.old) (W.contents out.new) (W.failed out.new)
         (file_line name.now)) }

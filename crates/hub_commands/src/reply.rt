@@ -22,7 +22,8 @@ fn status_of(reply: &Reply) -> u8
 /// Prints the body of a reply. Answers the exit status: 0 where it is done and nothing was refused; 3 where it was
 /// stopped, or a write failed, and then a front of the body was written; else 1.
 pub fn reply_run<W: Sink>(reply: &Reply, out: &mut W) -> u8
-    ensures { Prints (W.contents out.old) (W.contents out.new) (W.failed out.old) (W.failed out.new) reply.now.body
+    ensures { Prints (W.contents out.old) (W.contents out.new)
+        (W.failed out.old) (W.failed out.new) reply.now.body
         (spec.status_of reply.now) result }
 {
     match print(reply.body.as_slice(), out) {

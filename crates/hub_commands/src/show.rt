@@ -4,7 +4,7 @@ ghost use Rattle.std.specs.Prelude.{◌≡◌, ◌≢◌, ◌⊎◌, true, take,
 ghost use Rattle.std.specs.Io.KnownBytes.{Consumes, Keeps};
 ghost use Rattle.edi_base.specs.Source.{TakesAtMost};
 ghost use Rattle.edi_relay.specs.Run.{read_limit};
-ghost use Rattle.edi_relay.specs.ErrorLines.{Tells};
+ghost use Rattle.edi_relay.specs.ErrorLines.{StaysOrTellsFile, Tells};
 ghost use Rattle.hub_commands.specs.Show.{Shows, ShowsFront, lines_shown, status_of};
 
 use edi_base::exit::{DONE, FAILED, REFUSED};
@@ -42,10 +42,10 @@ pub fn show_run<R: Source, W: Sink, E: Sink>(
 ) -> u8
     ensures taken { TakesAtMost (R.remaining input.old) (R.remaining input.new) read_limit }
     ensures status { (result ≡ 0) ⊎ ((result ≡ 1) ⊎ (result ≡ 3)) }
-    ensures read { (R.failed input.new ≡ R.failed input.old)
-        ⊎ ((result ≡ 3) × Tells (E.contents err.old) (E.contents err.new) (E.failed err.new) (codes "file\n")) }
-    ensures written { (W.failed out.new ≡ W.failed out.old)
-        ⊎ ((result ≡ 3) × Tells (E.contents err.old) (E.contents err.new) (E.failed err.new) (codes "file\n")) }
+    ensures read { StaysOrTellsFile (R.failed input.old) (R.failed input.new) result
+        (E.contents err.old) (E.contents err.new) (E.failed err.new) }
+    ensures written { StaysOrTellsFile (W.failed out.old) (W.failed out.new) result
+        (E.contents err.old) (E.contents err.new) (E.failed err.new) }
     ensures stands { result ≢ 3 → IfSome (R.remaining input.old) (λ known.
         Consumes (R.remaining input.old) (R.remaining input.new) (take read_limit known)) }
     ensures shown { result ≢ 3 →
@@ -54,7 +54,8 @@ pub fn show_run<R: Source, W: Sink, E: Sink>(
     ensures failed { result ≡ 3 →
         (Tells (E.contents err.old) (E.contents err.new) (E.failed err.new) (codes "file\n")
         × (((R.failed input.new ≡ true) × Keeps (W.contents out.old) (W.contents out.new))
-        ⊎ ((W.failed out.new ≡ true) × ShowsFront (R.remaining input.old) (W.contents out.old) (W.contents out.new))))
+        ⊎ ((W.failed out.new ≡ true)
+        × ShowsFront (R.remaining input.old) (W.contents out.old) (W.contents out.new))))
         ⊎ (Tells (E.contents err.old) (E.contents err.new) (E.failed err.new) (codes "memory\n")
         × Keeps (W.contents out.old) (W.contents out.new)) }
 {

@@ -1,7 +1,8 @@
 -- What comes again in a run of a hub.
 use Rattle.std.proofs.Common.{◌≡◌, inl, inr, ℕ, zero, suc, ◌<◌, ◌≤◌, nat_lt, Bool, true, false, List, [], ◌∷◌, ◌++◌, length}
-use Rattle.std.proofs.Common.{map, slice_get, take, if◌then◌else◌, Some, refl, sym, ap, ◌∙◌, arith}
+use Rattle.std.proofs.Common.{slice_get, take, if◌then◌else◌, Some, refl, sym, ap, ◌∙◌, arith}
 use Rattle.std.proofs.lemmas.Bool.Decides.{nat_tests}
+use Rattle.std.proofs.lemmas.List.{length-map}
 use Rattle.hub_tables.specs.Tables.{Tables}
 use Rattle.hub_law.specs.Again.{Reaches}
 use Rattle.hub_law.specs.Machine.{Inputs, shared_step, shared_run}
@@ -40,14 +41,10 @@ row_length : {X : Type 0} (step : X → Act) (xs : List X) (t : Tables) → leng
 row_length step [] t = refl
 row_length step (x ∷ xs) t = ap suc (row_length step xs (step x t).1)
 
-map_length : {X Y : Type 0} (f : X → Y) (xs : List X) → length (map f xs) ≡ length xs
-map_length f [] = refl
-map_length f (x ∷ xs) = ap suc (map_length f xs)
-
 told_each : (upload : Upload) (moment : ℕ) (t : Tables) → length (all_acts upload moment t).0 ≡ length upload.interchange.messages
 told_each upload moment t =
     row_length upload.act (messages_at moment upload.interchange) t
-    ∙ map_length (λ message. (message, incoming moment upload.interchange message)) upload.interchange.messages
+    ∙ length-map upload.interchange.messages (λ message. (message, incoming moment upload.interchange message))
 
 -- what the reply to an upload that is looked at tells of a message that it reaches
 module _ (t : Tables) (input : Input) (upload : Upload) (place : ℕ) (what : Told)

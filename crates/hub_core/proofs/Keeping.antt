@@ -7,6 +7,7 @@ use Rattle.hub_tables.specs.Register.{register_of, suppliers_of}
 use Rattle.hub_tables.specs.Tables.{Tables}
 use Rattle.hub_store.specs.declared.fault.StoreFault.{StoreFault}
 use Rattle.hub_rules.specs.Laws.{SoundHub, PartiesStay}
+use Rattle.hub_rules.proofs.Prefixes.{gln_found}
 use Rattle.hub_law.specs.Machine.{shared_step}
 use Rattle.hub_law.specs.Mark.{Mark, Whole, replied}
 use Rattle.hub_law.specs.Replies.{denied, act_reply, reply as with_body}
@@ -20,7 +21,7 @@ use Rattle.hub_requests.specs.declared.request.Request.TheVariants as requests
 use Rattle.hub_law.proofs.Acting.{parties_same, register_same}
 use Rattle.hub_law.proofs.Callers.{step_by, is_retailers, step_is}
 use Rattle.hub_law.proofs.Retailers.{messages_stay, cancelled_stays}
-use Rattle.hub_law.proofs.Steps.{gln_of, supplier_alike}
+use Rattle.hub_law.proofs.Steps.{supplier_alike}
 use Rattle.hub_transactions.specs.Joins.{KeepsRows}
 use Rattle.hub_transactions.proofs.Joins.{keeps_all, keeps_moved}
 use Rattle.hub_core.specs.Steps.{Does, Asked, IsNoJoin, JoinAnswered, SoundWith, Stepped}
@@ -48,7 +49,7 @@ module _ (t : Tables) (here : SoundHub t) where
       → IsNoJoin input.request
       → PartiesStay t (step_by R o input mark t).1
   keeps_by input mark (Some w) h other =
-      let whose = gln_of (suppliers_of t) input.caller w h in
+      let whose = gln_found (suppliers_of t) input.caller w h in
       (supplier_alike (suppliers_of t) here.register.right.prefixes_free (parties_of R) w
       (ap (supplier_row (suppliers_of t)) whose ∙ h) input mark t here.sound).apart.parties
   keeps_by input mark None h other =

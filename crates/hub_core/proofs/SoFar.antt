@@ -15,6 +15,7 @@ use Rattle.hub_law.specs.Requests.{uploaded, replied_by}
 use Rattle.hub_requests.specs.declared.reply.Outcome.TheVariants.{Done, Stopped}
 use Rattle.hub_requests.specs.declared.reply.Reply.{Reply}
 use Rattle.std.proofs.lemmas.Bool.Decides.{nat_tests}
+use Rattle.std.proofs.Math.Bool.{or-false}
 use Rattle.hub_law.specs.Told.{Told, Act, is_refused, in_row}
 use Rattle.hub_law.specs.Widths.{line}
 use Rattle.hub_core.specs.Steps.{OneMore}
@@ -68,10 +69,6 @@ map_at : (f : RawMessage → Sent) (messages : List RawMessage) (i : ℕ) (messa
     → take (i + 1) (map f messages) ≡ take i (map f messages) ++ f message ∷ []
 map_at f messages i message below is = rw add-one (map_at_suc f messages i message below is)
 
-or_false : (b : Bool) → (b || false) ≡ b
-or_false true = refl
-or_false false = refl
-
 pub so_far_more :
     (deliver : Sent → Act) (moment : ℕ) (interchange : Interchange) (t before now : Tables) (count : ℕ) (refused : Bool)
     (body : List ℕ) (message : RawMessage) (one : Told)
@@ -92,7 +89,7 @@ so_far_more deliver moment interchange t before now count refused body message o
   refusals =
       ap (λ b. b || is_refused one) far.refusals
       ∙ sym (list_any-append is_refused far.told (one ∷ [])
-      ∙ ap (λ b. list_any is_refused far.told || b) (or_false (is_refused one)));
+      ∙ ap (λ b. list_any is_refused far.told || b) (or-false (is_refused one)));
   lines =
       let told_below : length far.told < length interchange.messages = rw far.counts below in
       let told_is : message ≡ get_or interchange.messages (length far.told) message = rw far.counts is in

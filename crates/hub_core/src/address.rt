@@ -26,8 +26,10 @@ fn address_fault(
     sender: &Gln,
     recipients: &[Gln],
 ) -> Option<&'static str>
-    ensures some { IfSome result (λ code. addressed sender.now recipients.now (Ok interchange.now) ≡ Err code.now) }
-    ensures none { IfNone result (addressed sender.now recipients.now (Ok interchange.now) ≡ Ok interchange.now) }
+    ensures some { IfSome result (λ code.
+        addressed sender.now recipients.now (Ok interchange.now) ≡ Err code.now) }
+    ensures none { IfNone result (addressed sender.now recipients.now (Ok interchange.now)
+        ≡ Ok interchange.now) }
 {
     if interchange.head.sender.as_slice() != sender.digits().as_slice() {
         return Some("E08");
@@ -44,8 +46,10 @@ pub(crate) fn address_fault_for(
     caller: Caller<'_>,
     interchange: &Interchange,
 ) -> Option<&'static str>
-    ensures some { IfSome result (λ code. addressed_by register.now caller.entry (Ok interchange.now) ≡ Err code.now) }
-    ensures none { IfNone result (addressed_by register.now caller.entry (Ok interchange.now) ≡ Ok interchange.now) }
+    ensures some { IfSome result (λ code.
+        addressed_by register.now caller.entry (Ok interchange.now) ≡ Err code.now) }
+    ensures none { IfNone result (addressed_by register.now caller.entry (Ok interchange.now)
+        ≡ Ok interchange.now) }
 {
     let hub = *register.hub();
     let retailer = *register.retailer();

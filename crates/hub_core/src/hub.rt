@@ -52,7 +52,8 @@ impl<S: Store> Hub<S> {
         ensures reads { MatchResult result
             (λ hub. Reads S.content S.honest S.left S.broken S.plain store hub.1 (Ok hub.0))
             (λ back. Reads S.content S.honest S.left S.broken S.plain store back.0 (Err back.1)) }
-        ensures held { IfOk result (λ hub. S.honest hub.1 → SoundHub (S.content store) → SoundWith hub.0 (S.content hub.1)) }
+        ensures held { IfOk result (λ hub.
+            S.honest hub.1 → SoundHub (S.content store) → SoundWith hub.0 (S.content hub.1)) }
     {
         match store.register() {
             Ok(register) => Ok(Hub {
@@ -184,10 +185,12 @@ impl<S: Store> Hub<S> {
             (S.left self.new.1) inputs.now replies) }
         ensures held { StaysSound S.content S.honest self.old self.new }
         ensures none { OnErr result (self.new ≡ self.old) }
-        ensures breaks { IfOk result (λ replies. RunBreaks S.plain self.new.0 (S.broken self.old.1) (S.broken self.new.1)
+        ensures breaks { IfOk result (λ replies.
+            RunBreaks S.plain self.new.0 (S.broken self.old.1) (S.broken self.new.1)
             inputs.now replies) }
         ensures keeps { KeepsRows self.old.0 self.new.0 }
-        ensures register { AllByRecursion (λ input. IsNoJoin input.request) inputs.now → self.new.0 ≡ self.old.0 }
+        ensures register { AllByRecursion (λ input. IsNoJoin input.request) inputs.now →
+            self.new.0 ≡ self.old.0 }
         ensures was_honest { S.honest self.new.1 → S.honest self.old.1 }
     {
         step::run(self.alloc, &mut self.register, &mut self.store, inputs)

@@ -32,14 +32,17 @@ use hub_law::{
 /// retailer's key, all other rows and all other inputs may differ. And a status of it for which the retailer asks after
 /// as many of its items in the one as in the other is the same.
 pub fn hubs_alike()
-    ensures seen { (gln : List ℕ) (t after u later : Tables) (xs ys : List Input) (replies answers : List Reply)
+    ensures seen { (gln : List ℕ) (t after u later : Tables) (xs ys : List Input)
+        (replies answers : List Reply)
         (one : RunBy t after xs replies) (other : RunBy u later ys answers) →
         Agree gln t u one.marked other.marked → view gln after ≡ view gln later }
-    ensures told { (gln : List ℕ) (t after u later : Tables) (xs ys : List Input) (replies answers : List Reply)
+    ensures told { (gln : List ℕ) (t after u later : Tables) (xs ys : List Input)
+        (replies answers : List Reply)
         (one : RunBy t after xs replies) (other : RunBy u later ys answers) →
         Agree gln t u one.marked other.marked →
         replies_to gln one.marked replies ≡ replies_to gln other.marked answers }
-    ensures status { (gln : List ℕ) (t after u later : Tables) (xs ys : List Input) (replies answers : List Reply)
+    ensures status { (gln : List ℕ) (t after u later : Tables) (xs ys : List Input)
+        (replies answers : List Reply)
         (one : RunBy t after xs replies) (other : RunBy u later ys answers) (xs_before xs_rest ys_before ys_rest : Inputs)
         (x y : Input) →
         one.marked ≡ xs_before ++ (x, Whole) ∷ xs_rest → other.marked ≡ ys_before ++ (y, Whole) ∷ ys_rest →
@@ -94,7 +97,8 @@ pub fn repeated_by_steps()
 /// stopped before it, is told of as repeated; and a cancellation that was accepted and comes again, where it was not
 /// stopped, is answered so.
 pub fn repeated_by_hubs()
-    ensures message { (t after : Tables) (xs : List Input) (replies : List Reply) (run : RunBy t after xs replies)
+    ensures message { (t after : Tables) (xs : List Input) (replies : List Reply)
+        (run : RunBy t after xs replies)
         (before between later : Inputs) (first second : Input) (mark other_mark : Mark) (place other_place : ℕ)
         (message : RawMessage) (one : AcceptedAt (shared_run t before).1 first mark place message)
         (other : MessageAt (shared_run t (before ++ (first, mark) ∷ between)).1 second other_place message)
@@ -104,7 +108,8 @@ pub fn repeated_by_hubs()
         Reaches other_mark second other.upload other_place →
         slice_get replies (length (before ++ (first, mark) ∷ between)) ≡ Some reply →
         TellsOf other.upload.interchange other_place Repeated reply }
-    ensures cancellation { (t after : Tables) (xs : List Input) (replies : List Reply) (run : RunBy t after xs replies)
+    ensures cancellation { (t after : Tables) (xs : List Input) (replies : List Reply)
+        (run : RunBy t after xs replies)
         (before between later : Inputs) (first second : Input) (c : Cancel) →
         run.marked ≡ (before ++ (first, Whole) ∷ between) ++ (second, Whole) ∷ later →
         SoundHub t → AsksCancel (shared_run t before).1 c first →

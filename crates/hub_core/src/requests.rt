@@ -102,9 +102,11 @@ pub(crate) fn asked_by_supplier<S: Store>(
         Asked S.content S.honest S.left store.old store.new
         (acts_by register.now (Supplier supplier.entry) request.now)
         (request_of register.now (Supplier supplier.entry) moment request.now) result }
-    ensures joined { (row : SupplierRow) → request.now ≡ Join row → IfOk result (JoinAnswered row register.now register.now
+    ensures joined { (row : SupplierRow) → request.now ≡ Join row →
+        IfOk result (JoinAnswered row register.now register.now
         (request_of register.now (Supplier supplier.entry) moment request.now)) }
-    ensures breaks { BreaksAsked S.plain (request_of register.now (Supplier supplier.entry) moment request.now)
+    ensures breaks { BreaksAsked S.plain
+        (request_of register.now (Supplier supplier.entry) moment request.now)
         (S.broken store.old) (S.broken store.new) result }
     ensures was_honest { S.honest store.new → S.honest store.old }
 {
@@ -134,8 +136,10 @@ pub(crate) fn asked_by_retailer<S: Store>(
         Asked S.content S.honest S.left store.old store.new (acts_by register.old Retailer request.now)
         (request_of register.old Retailer moment request.now) result }
     ensures held { (row : SupplierRow) → request.now ≡ Join row →
-        S.honest store.new → SoundWith register.old (S.content store.old) → register.new ≡ register_of (S.content store.new) }
-    ensures joined { (row : SupplierRow) → request.now ≡ Join row → IfOk result (JoinAnswered row register.old register.new
+        S.honest store.new → SoundWith register.old (S.content store.old) →
+        register.new ≡ register_of (S.content store.new) }
+    ensures joined { (row : SupplierRow) → request.now ≡ Join row →
+        IfOk result (JoinAnswered row register.old register.new
         (request_of register.old Retailer moment request.now)) }
     ensures undone { OnErr result (register.new ≡ register.old) }
     ensures same { IsNoJoin request.now → register.new ≡ register.old }

@@ -47,12 +47,14 @@ fn answer<S: Store>(
         step_under register.old t (input_of moment caller.now key.now request.now) mark) result }
     ensures held { (row : SupplierRow) → request.now ≡ Join row → S.honest store.new →
         SoundWith register.old (S.content store.old) → register.new ≡ register_of (S.content store.new) }
-    ensures joined { (row : SupplierRow) → request.now ≡ Join row → IfOk result (JoinAnswered row register.old register.new
+    ensures joined { (row : SupplierRow) → request.now ≡ Join row →
+        IfOk result (JoinAnswered row register.old register.new
         (does_input register.old (input_of moment caller.now key.now request.now))) }
     ensures undone { OnErr result (register.new ≡ register.old) }
     ensures same { IsNoJoin request.now → register.new ≡ register.old }
     ensures broken { IfSome (S.broken store.old) (λ _. register.new ≡ register.old) }
-    ensures breaks { BreaksAsked S.plain (does_input register.old (input_of moment caller.now key.now request.now))
+    ensures breaks { BreaksAsked S.plain
+        (does_input register.old (input_of moment caller.now key.now request.now))
         (S.broken store.old) (S.broken store.new) result }
     ensures was_honest { S.honest store.new → S.honest store.old }
 {
@@ -129,7 +131,8 @@ pub(crate) fn step<S: Store>(
     ensures stepped { StepsFrom S.content S.honest S.left (register.old, store.old) (register.new, store.new)
         (input_of moment caller.now key.now request.now) result }
     ensures held { StaysSound S.content S.honest (register.old, store.old) (register.new, store.new) }
-    ensures joined { JoinsBy register.old register.new (input_of moment caller.now key.now request.now) result }
+    ensures joined { JoinsBy register.old register.new
+        (input_of moment caller.now key.now request.now) result }
     ensures keeps { KeepsRows register.old register.new }
     ensures same { IsNoJoin request.now → register.new ≡ register.old }
     ensures broken { IfSome (S.broken store.old) (λ _. register.new ≡ register.old) }
@@ -183,13 +186,15 @@ pub(crate) fn run<S: Store>(
     inputs: &[Input],
 ) -> Result<Items<Reply>, MemoryFault>
     ensures ran { S.honest store.new → SoundWith register.old (S.content store.old) →
-        IfOk result (λ replies. Ran (S.content store.old) (S.content store.new) (S.left store.old) (S.left store.new)
+        IfOk result (λ replies.
+        Ran (S.content store.old) (S.content store.new) (S.left store.old) (S.left store.new)
         inputs.now replies) }
     ensures held { StaysSound S.content S.honest (register.old, store.old) (register.new, store.new) }
     ensures keeps { KeepsRows register.old register.new }
     ensures same { AllByRecursion (λ input. IsNoJoin input.request) inputs.now → register.new ≡ register.old }
     ensures none { OnErr result ((store.new ≡ store.old) × (register.new ≡ register.old)) }
-    ensures breaks { IfOk result (λ replies. RunBreaks S.plain register.new (S.broken store.old) (S.broken store.new)
+    ensures breaks { IfOk result (λ replies.
+        RunBreaks S.plain register.new (S.broken store.old) (S.broken store.new)
         inputs.now replies) }
     ensures was_honest { S.honest store.new → S.honest store.old }
 {

@@ -1,12 +1,11 @@
 //! The messages of an upload, one after another.
-ghost use Rattle.std.specs.Prelude.{◌≡◌, ⊤, ◌||◌, ◌∷◌, ◌++◌, length, IfOk, OnErr, Ok};
+ghost use Rattle.std.specs.Prelude.{◌≡◌, ◌||◌, length, Ok};
 ghost use Rattle.hub_law.specs.Messages.{incoming};
-ghost use Rattle.hub_law.specs.Replies.{interchange_line, told_words};
+ghost use Rattle.hub_law.specs.Replies.{interchange_line};
 ghost use Rattle.hub_law.specs.Requests.{uploaded};
 ghost use Rattle.hub_law.specs.Told as law;
-ghost use Rattle.hub_law.specs.Widths.{line};
-ghost use Rattle.hub_transactions.specs.Acts.{Carried, FailsWith, OfAny, Unharmed};
-ghost use Rattle.hub_transactions.specs.Messages.{MayStop};
+ghost use Rattle.hub_transactions.specs.Acts.{Carried, FailsWith, AnyCause, OfAny, Unharmed};
+ghost use Rattle.hub_transactions.specs.Messages.{AddsLine, MayStop};
 ghost use Rattle.hub_texts.specs.Decision.{told_of};
 ghost use Rattle.hub_core.specs.Broken.{Breaks};
 ghost use Rattle.hub_core.specs.Callers.{delivered, MayDeliver};
@@ -43,16 +42,14 @@ fn take_message<S: Store>(
     ensures carried { MayDeliver upload.now.register.now upload.now.caller (S.content store.old) →
         Carried S.content S.honest S.left store.old store.new (delivered upload.now.register.now upload.now.caller
         (message.now, incoming upload.now.moment upload.now.interchange.now message.now)) told_of result }
-    ensures fails { FailsWith S.plain ⊤ (OfAny (delivered upload.now.register.now upload.now.caller
+    ensures fails { FailsWith S.plain AnyCause (OfAny (delivered upload.now.register.now upload.now.caller
         (message.now, incoming upload.now.moment upload.now.interchange.now message.now)) told_of)
         (S.broken store.old) (S.broken store.new) result }
     ensures unharmed { Unharmed S.content S.honest store.old store.new result }
-    ensures may { S.honest store.new → MayDeliver upload.now.register.now upload.now.caller (S.content store.old) →
+    ensures may { S.honest store.new →
+        MayDeliver upload.now.register.now upload.now.caller (S.content store.old) →
         MayDeliver upload.now.register.now upload.now.caller (S.content store.new) }
-    ensures line { IfOk result (λ told. reply.new.items ≡ reply.old.items
-        ++ line (message.now.reference ∷ message.now.kind ∷ told_words (told_of told))) }
-    ensures reply_stays { OnErr result (reply.new.items ≡ reply.old.items) }
-    ensures room { MayStop reply.old → MayStop reply.new }
+    ensures reply { AddsLine message.now reply.old reply.new result }
 {
     acts_stay_sound();
     let OpenedUpload {
@@ -95,7 +92,8 @@ pub(crate) fn take_messages<S: Store>(
 ) -> Reply
     requires line { reply.items ≡ interchange_line upload.now.interchange.now }
     requires room { MayStop reply }
-    ensures answered { S.honest store.new → MayDeliver upload.now.register.now upload.now.caller (S.content store.old) →
+    ensures answered { S.honest store.new →
+        MayDeliver upload.now.register.now upload.now.caller (S.content store.old) →
         Answered S.content S.left store.old store.new (length upload.now.interchange.now.messages) (λ mark t.
         uploaded (delivered upload.now.register.now upload.now.caller) upload.now.moment mark (Ok upload.now.interchange.now) t) result }
     ensures breaks { Breaks S.plain (λ mark t.

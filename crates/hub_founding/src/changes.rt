@@ -10,7 +10,11 @@ use std::alloc::Global;
 
 // The row of the hub and its retailer.
 fn hub_row(register: &Register) -> HubRow
-    ensures value { result ≡ record { hub = register.now.hub; retailer = register.now.retailer; key = register.now.retailer_key } }
+    ensures value { result ≡ record {
+      hub = register.now.hub;
+      retailer = register.now.retailer;
+      key = register.now.retailer_key;
+    } }
     ensures register { IsRegister register.now }
 {
     HubRow {

@@ -14,7 +14,8 @@ use std::alloc::Global;
 
 // The place of a supplier's key.
 fn place_of(keys: &[KeyRow], supplier: &Gln) -> Option<usize>
-    ensures some { IfSome result (λ place. (place < length keys.now) × HoldsAt (λ row. row.supplier ≡ supplier.now) keys.now place) }
+    ensures some { IfSome result (λ place.
+        (place < length keys.now) × HoldsAt (λ row. row.supplier ≡ supplier.now) keys.now place) }
     ensures none { IfNone result (Rises key_cmp keys.now → has_key keys.now supplier.now ≡ false) }
 {
     keys.binary_search_by(|row| row.supplier.cmp(supplier)).ok()
@@ -40,7 +41,8 @@ fn put_prefix(
     requires { length lists.old.items ≡ length keys.now }
     ensures length { OnOk result (length lists.new.items ≡ length keys.now) }
     ensures had { IfOk result (λ had. Rises key_cmp keys.now → had ≡ has_key keys.now row.now.supplier) }
-    ensures put { IfOk result (λ had. had ≡ true → Rises key_cmp keys.now → map (λ list. list.items) lists.new.items
+    ensures put { IfOk result (λ had.
+        had ≡ true → Rises key_cmp keys.now → map (λ list. list.items) lists.new.items
         ≡ spec.with_prefix row.now keys.now (map (λ list. list.items) lists.old.items)) }
 {
     let Some(place) = place_of(keys, &row.supplier) else {
@@ -57,7 +59,8 @@ pub(crate) fn gathered(
     prefixes: &[PrefixRow],
 ) -> Result<Option<Vec<Vec<Prefix>>>, MemoryFault>
     ensures length { IfOk result (λ found. IfSome found (λ lists. length lists.items ≡ length keys.now)) }
-    ensures had { IfOk result (λ found. Rises key_cmp keys.now → is_some found ≡ spec.all_had keys.now prefixes.now) }
+    ensures had { IfOk result (λ found.
+        Rises key_cmp keys.now → is_some found ≡ spec.all_had keys.now prefixes.now) }
     ensures some { IfOk result (λ found. IfSome found (λ lists. Rises key_cmp keys.now →
         map (λ list. list.items) lists.items ≡ spec.gathered prefixes.now keys.now)) }
 {

@@ -23,7 +23,8 @@ fn row_with(
     prefixes: &[Prefix],
 ) -> Result<Option<SupplierRow>, MemoryFault>
     ensures some { IfOk result (λ found. IfSome found (λ row. row ≡ spec.row_with key.now prefixes.now)) }
-    ensures none { IfOk result (λ found. IfNone found (are_company_prefixes (by_bytes prefixes.now) ≡ false)) }
+    ensures none { IfOk result (λ found.
+        IfNone found (are_company_prefixes (by_bytes prefixes.now) ≡ false)) }
 {
     let Some(prefixes) = CompanyPrefixes::of(alloc, prefixes)? else {
         return Ok(None);
@@ -42,8 +43,10 @@ fn rows_with(
     lists: &[Vec<Prefix>],
 ) -> Result<Option<Vec<SupplierRow>>, MemoryFault>
     requires { length lists.now ≡ length keys.now }
-    ensures some { IfOk result (λ found. IfSome found (λ rows. rows.items ≡ spec.rows_with keys.now (map (λ list. list.items) lists.now))) }
-    ensures none { IfOk result (λ found. IfNone found (spec.all_company_prefixes (map (λ list. list.items) lists.now) ≡ false)) }
+    ensures some { IfOk result (λ found.
+        IfSome found (λ rows. rows.items ≡ spec.rows_with keys.now (map (λ list. list.items) lists.now))) }
+    ensures none { IfOk result (λ found.
+        IfNone found (spec.all_company_prefixes (map (λ list. list.items) lists.now) ≡ false)) }
 {
     let mut rows = Vec::new(alloc);
     for (place, key) in keys.iter().enumerate() {

@@ -9,7 +9,7 @@ use Rattle.hub_parties.specs.Rows.{RegisterRows}
 use Rattle.http_messages.specs.Body.{body_in}
 use Rattle.http_messages.specs.Head.{Heading, Finds, before, longest_head}
 use Rattle.edi_base.specs.Source.{TakesAtMost}
-use Rattle.hub_http.specs.Answer.{Answers, AnswersOne, OneStep, ReadsWithin, Serves, announced_by}
+use Rattle.hub_http.specs.Answer.{Answers, AnswersWhatever, OneStep, ReadsWithin, Serves, announced_by}
 use Rattle.hub_http.specs.Asked.{Asked, asked_by, is_single}
 use Rattle.hub_http.specs.Question.{Question, and_body, question_of, with_body}
 use Rattle.hub_http.specs.Serve.{response}
@@ -49,7 +49,7 @@ module _ (Replies : Question → Reply → Type 0) (Same : Type 0) (register : R
   one_step passed (Err refusal) answer (inl ends) = inl ends.0
   one_step passed question answer (inr stops) = inl stops.1.0
 
-  pub one_asked : (answer : Answer) → AnswersOne Replies Same answer → OneStep Replies Same
+  pub one_asked : (answer : Answer) → AnswersWhatever Replies Same answer → OneStep Replies Same
   one_asked answer one = one_step true one.0 answer one.1
 
   -- without a head

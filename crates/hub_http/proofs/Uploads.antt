@@ -18,7 +18,7 @@ use Rattle.edi_envelope.specs.Gathered.{Flagged}
 use Rattle.edi_envelope.specs.Opened.{opened, Opens}
 use Rattle.hub_requests.specs.declared.reply.Reply.{Reply}
 use Rattle.http_messages.specs.Body.{body_in}
-use Rattle.hub_http.specs.Answer.{Answers, AnswersOne, Ends}
+use Rattle.hub_http.specs.Answer.{Answers, AnswersWhatever, Ends}
 use Rattle.hub_http.specs.Asked.{Asked}
 use Rattle.hub_http.specs.Question.{Question, of_asker, request_for, uploading, with_body}
 use Rattle.hub_http.specs.Upload.{IsUpload}
@@ -149,5 +149,5 @@ module _ (Replies : Question → Reply → Type 0) (Same : Type 0) (asked : Aske
   pub one_upload : (upload : Result Interchange OpenFault) (answer : Answer)
       → ((bytes : List ℕ) × Opens upload (opened bytes))
       → ((bytes : List ℕ) → Opens upload (opened bytes) → Ends Replies Same (Ok (uploading asked bytes)) answer)
-      → AnswersOne Replies Same answer
+      → AnswersWhatever Replies Same answer
   one_upload upload answer some ends = (Ok (uploading asked some.0), inl (ends some.0 some.1))

@@ -1,6 +1,7 @@
 -- What is answered, and what became of the hub.
-use Rattle.std.specs.Prelude.{◌≡◌, ◌⊎◌, ◌+◌, ℕ, Bool, true, false, List, codes, Option, Some, None, Result, Ok, Err}
+use Rattle.std.specs.Prelude.{◌≡◌, ◌⊎◌, ◌+◌, ℕ, Bool, true, false, List, Option, Some, None, Result, Ok, Err}
 use Rattle.edi_base.specs.Source.{TakesAtMost}
+use Rattle.hub_law.specs.Replies.{stopped_line}
 use Rattle.hub_requests.specs.declared.reply.Outcome.{Outcome}
 use Rattle.hub_requests.specs.declared.reply.Outcome.TheVariants.{Done, Bad, Denied, Unknown, Stopped}
 use Rattle.hub_requests.specs.declared.reply.Reply.{Reply}
@@ -59,20 +60,20 @@ module _ (Replies : Question → Reply → Type 0) (Same : Type 0) where
 
   -- memory was refused before a question was asked
   abbrev pub Stops : Answer → Type 0
-  Stops answer = Same × Says 503 (codes "stopped\n") answer
+  Stops answer = Same × Says 503 stopped_line answer
 
   -- memory is asked for only behind the first check
   abbrev pub Answers : Bool → Result Question Refusal → Answer → Type 0
   Answers passed question answer = Ends question answer ⊎ ((passed ≡ true) × Stops answer)
 
-  -- one question was answered, whichever it was
-  abbrev pub AnswersOne : Answer → Type 0
-  AnswersOne answer = (question : Result Question Refusal) × Answers true question answer
+  -- the answer to whatever was asked, or to what is refused, or to want of memory
+  abbrev pub AnswersWhatever : Answer → Type 0
+  AnswersWhatever answer = (question : Result Question Refusal) × Answers true question answer
 
   -- that, and the reader's flag stays; or a read failed, and the hub is as before
-  abbrev pub AnswersOnce : {E : Type 0} → Bool → Bool → Result Answer E → Type 0
-  AnswersOnce failed_before failed (Ok answer) = AnswersOne answer × (failed ≡ failed_before)
-  AnswersOnce failed_before failed (Err fault) = Same × (failed ≡ true)
+  abbrev pub AnswersOrFails : {E : Type 0} → Bool → Bool → Result Answer E → Type 0
+  AnswersOrFails failed_before failed (Ok answer) = AnswersWhatever answer × (failed ≡ failed_before)
+  AnswersOrFails failed_before failed (Err fault) = Same × (failed ≡ true)
 
 -- the first check: a head stands there, and its key and its length at most once
 abbrev pub passes : Option Heading → Bool

@@ -39,7 +39,7 @@ is_single head =
 abbrev pub has_query : List ℕ → Bool
 has_query target = list_any (λ byte. byte == 0x3F) target
 
--- the route that a target takes, and the parts of its path
+-- the route of a target, and the parts of its path
 abbrev pub route_in : List ℕ → Option (Route × List (List ℕ))
 route_in target = if has_query target then None else route_at target
 

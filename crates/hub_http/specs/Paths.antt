@@ -1,6 +1,6 @@
--- The route that a path takes, by what a router of seven routes finds. A path is the target of a request in origin form
--- without its query (RFC 9112, section 3.2.1). How a route is written, which one a path takes, and what it takes from it
--- is the definition of the kit's `matchit`: what stands in braces is a segment, or what is left of one.
+-- The route of a path, by what a router of seven routes finds. A path is the target of a request in origin form without
+-- its query (RFC 9112, section 3.2.1). How a route is written, which one a path has, and what of the path stands in the
+-- route's braces are the definitions of the kit's `matchit`: in braces stands a segment, or what is left of one.
 use Rattle.std.specs.Prelude.{◌≡◌, ℕ, List, [], map, Option, Some, None, Result, Ok, Err, codes}
 use Rattle.matchit.specs.Rows.{RowsOf}
 use Rattle.matchit.specs.Order.{placed}
@@ -53,6 +53,6 @@ abbrev pub with_parts : List ℕ → Option (RouteOf Route) → Option (Route ×
 with_parts path None = None
 with_parts path (Some found) = Some (found.value, parts_by found path)
 
--- the route that a path takes, and its parts in braces
+-- the route of a path, and its parts in braces
 abbrev pub route_at : List ℕ → Option (Route × List (List ℕ))
 route_at path = with_parts path (first seven path)

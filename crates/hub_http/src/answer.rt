@@ -1,10 +1,11 @@
 //! The one answer to a connection.
-ghost use Rattle.std.specs.Prelude.{◌≡◌, ◌≢◌, ◌+◌, ◌++◌, ◌≤◌, ℕ, List, codes, true, Ok, Err, Some, IfOk, IfSome};
+ghost use Rattle.std.specs.Prelude.{◌≡◌, ◌≢◌, ◌+◌, ◌++◌, ◌≤◌, ℕ, List, true, Ok, Err, Some, IfOk, IfSome};
 ghost use Rattle.std.specs.Prelude.{OnErr, IfErr};
 ghost use Rattle.edi_base.specs.Source.{TakesAtMost};
 ghost use Rattle.edi_envelope.specs.Opened.{opened, Opens};
 ghost use Rattle.http_messages.specs.Head.{before, longest_head};
 ghost use Rattle.http_messages.specs.Body.{body_in};
+ghost use Rattle.hub_law.specs.Replies.{stopped_line};
 ghost use Rattle.hub_core.specs.Steps.{IsNoJoin};
 ghost use Rattle.hub_http.specs.Answer as spec;
 ghost use Rattle.hub_http.specs.Asked.{asked_by, is_single, longest_body};
@@ -54,7 +55,7 @@ fn refused(refusal: Refusal) -> Answer
 
 // The answer where memory was refused before anything was asked.
 fn stopped() -> Answer
-    ensures { spec.Says 503 (codes "stopped\n") result }
+    ensures { spec.Says 503 stopped_line result }
 {
     Answer {
         status: StatusCode::SERVICE_UNAVAILABLE,
@@ -88,8 +89,8 @@ fn replied(reply: Reply) -> Answer
 // Asks the hub.
 fn ask<S: Store>(hub: &mut Hub<S>, moment: Moment, asked: &Asked<'_>, request: Request) -> Answer
     requires { IsNoJoin request }
-    ensures asked { spec.Ends (spec.Steps S.content S.honest S.left moment hub.old hub.new) (hub.new ≡ hub.old)
-        (Ok (question_as (asked_as asked.now) request)) result }
+    ensures asked { spec.Ends (spec.Steps S.content S.honest S.left moment hub.old hub.new)
+        (hub.new ≡ hub.old) (Ok (question_as (asked_as asked.now) request)) result }
     ensures stays { spec.Stays S.content S.honest hub.old hub.new }
 {
     let reply = hub.step(moment, &asked.gln, asked.key, request);
@@ -104,7 +105,8 @@ fn answer_body<S: Store>(
     asked: &Asked<'_>,
     body: Option<Items<u8>>,
 ) -> Answer
-    ensures answers { spec.Answers (spec.Steps S.content S.honest S.left moment hub.old hub.new) (hub.new ≡ hub.old)
+    ensures answers { spec.Answers (spec.Steps S.content S.honest S.left moment hub.old hub.new)
+        (hub.new ≡ hub.old)
         true (with_body (asked_as asked.now) body) result }
     ensures refused { IfErr (with_body (asked_as asked.now) body) (λ refusal.
         spec.Says (refusal_status refusal) (text_of refusal) result) }
@@ -128,7 +130,8 @@ fn ask_opened<S: Store>(
     ensures asked { (bytes : List ℕ) → Opens upload (opened bytes) →
         spec.Ends (spec.Steps S.content S.honest S.left moment hub.old hub.new) (hub.new ≡ hub.old)
         (Ok (uploading (asked_as asked.now) bytes)) result }
-    ensures stays { (bytes : List ℕ) → Opens upload (opened bytes) → spec.Stays S.content S.honest hub.old hub.new }
+    ensures stays { (bytes : List ℕ) → Opens upload (opened bytes) →
+        spec.Stays S.content S.honest hub.old hub.new }
 {
     let reply = hub.step_opened(moment, &asked.gln, asked.key, upload);
     replied(reply)
@@ -148,8 +151,8 @@ fn answer_upload<R: Source, S: Store>(
     ensures answers { IfOk result (λ answer. IfSome (R.remaining reader.old) (λ left.
         spec.Answers (spec.Steps S.content S.honest S.left moment hub.old hub.new) (hub.new ≡ hub.old) true
         (with_body (asked_as asked.now) (body_in (asked_as asked.now).size (front.now ++ left))) answer)) }
-    ensures once { spec.AnswersOnce (spec.Steps S.content S.honest S.left moment hub.old hub.new) (hub.new ≡ hub.old)
-        (R.failed reader.old) (R.failed reader.new) result }
+    ensures or_fails { spec.AnswersOrFails (spec.Steps S.content S.honest S.left moment hub.old hub.new)
+        (hub.new ≡ hub.old) (R.failed reader.old) (R.failed reader.new) result }
     ensures stays { spec.Stays S.content S.honest hub.old hub.new }
     ensures front { TakesAtMost (R.remaining reader.old) (R.remaining reader.new) asked.now.size }
 {
@@ -174,8 +177,8 @@ fn answer_asked<R: Source, S: Store>(
     ensures answers { IfOk result (λ answer. IfSome (R.remaining reader.old) (λ left.
         spec.Answers (spec.Steps S.content S.honest S.left moment hub.old hub.new) (hub.new ≡ hub.old) true
         (with_body (asked_as asked.now) (body_in (asked_as asked.now).size (front.now ++ left))) answer)) }
-    ensures once { spec.AnswersOnce (spec.Steps S.content S.honest S.left moment hub.old hub.new) (hub.new ≡ hub.old)
-        (R.failed reader.old) (R.failed reader.new) result }
+    ensures or_fails { spec.AnswersOrFails (spec.Steps S.content S.honest S.left moment hub.old hub.new)
+        (hub.new ≡ hub.old) (R.failed reader.old) (R.failed reader.new) result }
     ensures stays { spec.Stays S.content S.honest hub.old hub.new }
     ensures front { TakesAtMost (R.remaining reader.old) (R.remaining reader.new) asked.now.size }
 {
@@ -201,8 +204,8 @@ fn answer_head<R: Source, S: Store>(
     ensures answers { IfOk result (λ answer. IfSome (R.remaining reader.old) (λ left.
         spec.Answers (spec.Steps S.content S.honest S.left moment hub.old hub.new) (hub.new ≡ hub.old)
         (is_single head.now) (question_of hub.old.0 (Some (before left head.now))) answer)) }
-    ensures once { spec.AnswersOnce (spec.Steps S.content S.honest S.left moment hub.old hub.new) (hub.new ≡ hub.old)
-        (R.failed reader.old) (R.failed reader.new) result }
+    ensures or_fails { spec.AnswersOrFails (spec.Steps S.content S.honest S.left moment hub.old hub.new)
+        (hub.new ≡ hub.old) (R.failed reader.old) (R.failed reader.new) result }
     ensures stays { spec.Stays S.content S.honest hub.old hub.new }
     ensures front { TakesAtMost (R.remaining reader.old) (R.remaining reader.new)
         (spec.size_asked (asked_by hub.old.0 head.now)) }
@@ -222,12 +225,14 @@ pub(crate) fn answer_one<R: Source, S: Store>(
     reader: &mut R,
 ) -> Result<Answer, HeadFault>
     ensures answered { IfOk result (λ answer. IfSome (R.remaining reader.old) (λ known.
-        spec.Serves (spec.Steps S.content S.honest S.left moment hub.old hub.new) (hub.new ≡ hub.old) hub.old.0 known
+        spec.Serves (spec.Steps S.content S.honest S.left moment hub.old hub.new)
+        (hub.new ≡ hub.old) hub.old.0 known
         (R.remaining reader.new) answer)) }
-    ensures once { spec.AnswersOnce (spec.Steps S.content S.honest S.left moment hub.old hub.new) (hub.new ≡ hub.old)
-        (R.failed reader.old) (R.failed reader.new) result }
+    ensures or_fails { spec.AnswersOrFails (spec.Steps S.content S.honest S.left moment hub.old hub.new)
+        (hub.new ≡ hub.old) (R.failed reader.old) (R.failed reader.new) result }
     ensures stays { spec.Stays S.content S.honest hub.old hub.new }
-    ensures front { TakesAtMost (R.remaining reader.old) (R.remaining reader.new) (longest_head + longest_body) }
+    ensures front { TakesAtMost (R.remaining reader.old) (R.remaining reader.new)
+        (longest_head + longest_body) }
     ensures cut { OnErr result (IfSome (R.remaining reader.old) (λ known.
         spec.ReadsWithin hub.old.0 known (R.remaining reader.new))) }
 {

@@ -59,7 +59,7 @@ fn has_query(target: &str) -> bool
     target.as_bytes().iter().any(|byte| *byte == b'?')
 }
 
-// The route that a target takes.
+// The route of a target.
 fn route_in(paths: &Paths, target: &str) -> Option<Route>
     ensures { option_map (λ route. (route, parts route target.now)) result ≡ spec.route_in target.now }
 {
@@ -146,7 +146,8 @@ fn by_party<'h, S: Store>(
     key: &'h [u8],
 ) -> Result<Asked<'h>, Refusal>
     ensures { asked_or_refused result
-        ≡ spec.by_party hub.now.0 head.now route (party head.now.target) (part_in route head.now.target) number key.now }
+        ≡ spec.by_party hub.now.0 head.now route (party head.now.target)
+        (part_in route head.now.target) number key.now }
 {
     hub.has_a_right_register();
     let Some(gln) = Gln::parse(party_in(head.target())) else {
@@ -175,7 +176,7 @@ fn by_key<'h, S: Store>(
     }
 }
 
-// What is asked for, where the path takes a route.
+// What is asked for, where the path is that of a route.
 fn by_route<'h, S: Store>(hub: &Hub<S>, head: &'h Head, route: Route) -> Result<Asked<'h>, Refusal>
     ensures { asked_or_refused result
         ≡ spec.by_route hub.now.0 head.now route (party head.now.target) (part_in route head.now.target) }

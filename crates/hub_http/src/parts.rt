@@ -35,7 +35,7 @@ fn begin(skip: usize, path: &[u8], at: usize) -> usize
     at.max(at.saturating_add(skip).min(path.len()))
 }
 
-/// Who asks: what stands for `{gln}` in a path that takes a route.
+/// Who asks: what stands for `{gln}` in the path of a route.
 pub fn party_in(path: &str) -> &[u8]
     ensures { result.now ≡ spec.party path.now }
 {
@@ -44,7 +44,7 @@ pub fn party_in(path: &str) -> &[u8]
     part(bytes, start, to_slash(bytes, start))
 }
 
-/// What stands for `{n}` or `{supplier}` in a path that takes this route, empty where the route has neither.
+/// What stands for `{n}` or `{supplier}` in a path of this route, empty where the route has neither.
 pub fn part_in(route: Route, path: &str) -> &[u8]
     ensures { result.now ≡ spec.part_in route path.now }
 {

@@ -62,9 +62,9 @@ impl Paths {
         }
     }
 
-    /// The route that a path takes, and so the parts that `party_in` and `part_in` take from it; `None` where it takes
-    /// none of the seven. The path is the target of a request in origin form without its query (RFC 9112, section
-    /// 3.2.1); it is taken as it is, and nothing in it is decoded. Takes no memory.
+    /// The route of a path, by which `party_in` and `part_in` find its parts; `None` where it is a path of none of the
+    /// seven. The path is the target of a request in origin form without its query (RFC 9112, section 3.2.1); it is
+    /// taken as it is, and nothing in it is decoded. Takes no memory.
     pub fn route_of(&self, path: &str) -> Option<Route>
         ensures { option_map (λ route. (route, parts route path.now)) result ≡ spec.route_at path.now }
     {

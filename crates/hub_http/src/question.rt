@@ -21,7 +21,8 @@ fn request_for(
     body: Items<u8>,
     cancel: Option<Cancel>,
 ) -> Result<Request, Refusal>
-    ensures value { (route ≡ Route.Cancellations → cancel ≡ cancel_of body) → result ≡ spec.request_for route part.now number body }
+    ensures value { (route ≡ Route.Cancellations → cancel ≡ cancel_of body) →
+        result ≡ spec.request_for route part.now number body }
     ensures no_join { IfOk result IsNoJoin }
 {
     match route {

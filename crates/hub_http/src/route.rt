@@ -5,7 +5,7 @@ ghost use Rattle.hub_http.specs.Route as spec;
 use hub_core::Role;
 use hub_texts::number_of;
 
-/// The route that a path takes: what is asked for, but for the parts in braces and the body.
+/// The route of a path: what is asked for, but for the parts in braces and the body.
 #[derive(Clone, Copy, Debug, PartialEq, Eq)]
 pub enum Route {
     /// `/p/{gln}/interchanges`: an upload.

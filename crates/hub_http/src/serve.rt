@@ -5,7 +5,7 @@ ghost use Rattle.edi_base.specs.Source.{TakesAtMost};
 ghost use Rattle.http_messages.specs.Head.{longest_head};
 ghost use Rattle.http_messages.specs.Response.{Writes};
 ghost use Rattle.hub_core.specs.Hub.{StaysSound};
-ghost use Rattle.hub_http.specs.Answer.{AnswersOne, OneStep, ReadsWithin, Steps};
+ghost use Rattle.hub_http.specs.Answer.{AnswersWhatever, OneStep, ReadsWithin, Steps};
 ghost use Rattle.hub_http.specs.Asked.{longest_body};
 ghost use Rattle.hub_http.specs.Serve as spec;
 
@@ -80,18 +80,21 @@ pub fn serve_one<S: Store, R: Source, W: Sink>(
     reader: &mut R,
     writer: &mut W,
 ) -> Result<Served, IoFault>
-    ensures served { spec.Ended (Steps S.content S.honest S.left moment hub.old hub.new) (hub.new ≡ hub.old) hub.old.0
+    ensures served { spec.Ended (Steps S.content S.honest S.left moment hub.old hub.new)
+        (hub.new ≡ hub.old) hub.old.0
         (R.remaining reader.old) (R.remaining reader.new) (W.contents writer.old) (W.contents writer.new) result }
 
     // Also where nothing is known of the bytes, one question was answered, and the hub is as before, or was asked once.
-    ensures written { spec.Written (AnswersOne (Steps S.content S.honest S.left moment hub.old hub.new)
+    ensures written { spec.Written
+        (AnswersWhatever (Steps S.content S.honest S.left moment hub.old hub.new)
         (hub.new ≡ hub.old)) (W.contents writer.old) (W.contents writer.new) result }
     ensures stepped { OneStep (Steps S.content S.honest S.left moment hub.old hub.new) (hub.new ≡ hub.old) }
     ensures held { StaysSound S.content S.honest hub.old hub.new }
     ensures register { hub.new.0 ≡ hub.old.0 }
     ensures was_honest { S.honest hub.new.1 → S.honest hub.old.1 }
 
-    ensures front { TakesAtMost (R.remaining reader.old) (R.remaining reader.new) (longest_head + longest_body) }
+    ensures front { TakesAtMost (R.remaining reader.old) (R.remaining reader.new)
+        (longest_head + longest_body) }
     ensures cut { result ≡ Err IoFault.Read → IfSome (R.remaining reader.old) (λ known.
         ReadsWithin hub.old.0 known (R.remaining reader.new)) }
 

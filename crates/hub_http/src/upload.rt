@@ -37,8 +37,10 @@ pub(crate) fn open_body<R: Source>(
         IsUpload upload (body_in size (front.now ++ left)))) }
 
     // Also where nothing is known of the bytes, it is what some are opened as, and no failed read.
-    ensures some { IfOk result (λ upload. IfSome upload (λ upload. (bytes : List ℕ) × Opens upload (opened bytes))) }
-    ensures unread { IfOk result (λ upload. IfSome upload (λ upload. upload ≢ Err (OpenFault.Token TokenFault.Read))) }
+    ensures some { IfOk result (λ upload.
+        IfSome upload (λ upload. (bytes : List ℕ) × Opens upload (opened bytes))) }
+    ensures unread { IfOk result (λ upload.
+        IfSome upload (λ upload. upload ≢ Err (OpenFault.Token TokenFault.Read))) }
 
     ensures front { TakesAtMost (R.remaining reader.old) (R.remaining reader.new) size }
     ensures read { result ≡ Err ReadFault.Read → R.failed reader.new ≡ true }

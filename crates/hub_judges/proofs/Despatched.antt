@@ -5,6 +5,7 @@ use Rattle.std.specs.List.{AllByRecursion, list_any}
 use Rattle.std.specs.Str.{bytes_eq}
 use Rattle.std.proofs.lemmas.Bool.{or_parts}
 use Rattle.std.proofs.lemmas.List.{append_assoc, drop_more}
+use Rattle.std.proofs.Math.Bool.{or-true}
 use Rattle.edi_base.specs.Seen.{is_among, has_twice}
 use Rattle.gs1_ids.specs.Sscc.{under_some}
 use Rattle.edi_goods.specs.declared.despatch.Despatch.{Despatch}
@@ -226,12 +227,8 @@ names_all (unit ∷ units) = (
       (λ other all.
       all_weaker (λ line. names_order units line.order ≡ true) (λ line. names_order (unit ∷ units) line.order ≡ true)
       (λ line h. ap (λ v. list_any (λ one. same one.order line.order) unit.lines || v) h
-      ∙ or_true (list_any (λ one. same one.order line.order) unit.lines)) other.lines all) units (names_all units),
+      ∙ or-true (list_any (λ one. same one.order line.order) unit.lines)) other.lines all) units (names_all units),
 )
-  where
-    or_true : (v : Bool) → (v || true) ≡ true
-    or_true true = refl
-    or_true false = refl
 
 used_all : (used : List ℕ → Bool) (state : Tables)
     → ((sscc : List ℕ) → has_pallet state sscc ≡ true → used sscc ≡ true)

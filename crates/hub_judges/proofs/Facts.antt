@@ -1,9 +1,7 @@
 -- Facts that tell the lines of a state, under look-ups and changes.
 use Rattle.std.proofs.Common.{◌≡◌, ℕ, Bool, true, false, cond, ◌&&◌, ◌==◌, inl, inr, List, [], ◌∷◌, filter, find, sum_by}
-use Rattle.std.proofs.Common.{Option, Some, None, option_map, refl, sym, ◌∙◌, ap, ap₂, subst, arith}
+use Rattle.std.proofs.Common.{Option, Some, None, option_map, refl, sym, ◌∙◌, ap, ap₂, arith}
 use Rattle.std.specs.List.{AllByRecursion}
-use Rattle.std.proofs.lemmas.Bool.{and_parts}
-use Rattle.std.proofs.lemmas.Bool.Decides.{nat_tests}
 use Rattle.hub_tables.specs.Change.{apply}
 use Rattle.hub_parties.specs.KeyOrder.{replace}
 use Rattle.hub_tables.specs.Rows.{same, same_line}
@@ -12,7 +10,8 @@ use Rattle.hub_tables.specs.Tables.{Tables}
 use Rattle.hub_tables.specs.declared.change.Change.TheVariants.{SetLine}
 use Rattle.hub_tables.specs.declared.rows.LineRow.{LineRow}
 use Rattle.hub_tables.specs.declared.rows.ContentRow.{ContentRow}
-use Rattle.hub_tables.proofs.Lists.{decide, same_is}
+use Rattle.hub_tables.proofs.KindOrders.{line_key}
+use Rattle.hub_tables.proofs.Lists.{decide, all_found, all_filter, all_only}
 use Rattle.hub_order_lines.specs.Book.{facts_of, facts_among, rows, with_row, set_row}
 use Rattle.hub_order_lines.specs.declared.facts.LineFacts.{LineFacts}
 use Rattle.hub_judges.specs.Known.{TellsLines, TellsDespatched}
@@ -55,55 +54,19 @@ line_told state lines order number gtin told = ap (λ xs. line_among xs number g
 
 -- what is looked up is one of the lines
 module _ (P : LineFacts → Type 0) where
-  all_kept : (p : LineFacts → Bool) (lines : List LineFacts) → AllByRecursion P lines → AllByRecursion P (filter p lines)
-  all_kept p [] all = tt
-  all_kept p (line ∷ lines) all =
-      elim (p line) as (λ v. AllByRecursion P (cond v (line ∷ filter p lines) (filter p lines)))
-      [ true ↦ (all.0, all_kept p lines all.1) | false ↦ all_kept p lines all.1 ]
-
-  all_found : (p : LineFacts → Bool) (lines : List LineFacts) (line : LineFacts)
-      → AllByRecursion P lines
-      → find p lines ≡ Some line
-      → P line
-  all_found p [] line all e = cc
-  all_found p (x ∷ xs) line all e =
-      elim (p x) as (λ v. cond v (Some x) (find p xs) ≡ Some line → P line) [
-        | true ↦ λ f. let same_line : x ≡ line = cc in subst P same_line all.0
-        | false ↦ λ f. all_found p xs line all.1 f
-      ] e
-
-  all_only : (lines : List LineFacts) (line : LineFacts) → AllByRecursion P lines → the_only lines ≡ Some line → P line
-  all_only [] line all e = cc
-  all_only (x ∷ []) line all e = let same_line : x ≡ line = cc in subst P same_line all.0
-  all_only (x ∷ y ∷ xs) line all e = cc
-
   pub looked_up : (lines : List LineFacts) (order : List ℕ) (number : Option ℕ) (gtin : List ℕ) (line : LineFacts)
       → AllByRecursion P lines
       → facts_among (facts_of lines order) number gtin ≡ Some line
       → P line
   looked_up lines order (Some number) gtin line all e =
-      all_found (λ line. line.row.line == number) (facts_of lines order) line
-      (all_kept (λ line. same line.row.number order) lines all) e
+      (all_found P (λ line. line.row.line == number) (facts_of lines order) line
+      (all_filter P (λ line. same line.row.number order) lines all) e).0
   looked_up lines order None gtin line all e =
-      all_only (filter (λ line. same line.row.gtin gtin) (facts_of lines order)) line
-      (all_kept (λ line. same line.row.gtin gtin) (facts_of lines order)
-      (all_kept (λ line. same line.row.number order) lines all)) e
+      all_only P (filter (λ line. same line.row.gtin gtin) (facts_of lines order)) line
+      (all_filter P (λ line. same line.row.gtin gtin) (facts_of lines order)
+      (all_filter P (λ line. same line.row.number order) lines all)) e
 
 -- a line that is set
-number_kept : (row old : LineRow) → same_line row old ≡ true → old.number ≡ row.number
-number_kept row old e =
-    same_is old.number row.number (and_parts (same old.number row.number) (old.line == row.line)
-    (and_parts (same old.supplier row.supplier) (same old.number row.number && (old.line == row.line)) e).1).0
-
-line_kept : (row old : LineRow) → same_line row old ≡ true → old.line ≡ row.line
-line_kept row old e =
-    grind (
-      arith,
-      nat_tests,
-      (and_parts (same old.number row.number) (old.line == row.line)
-          (and_parts (same old.supplier row.supplier) (same old.number row.number && (old.line == row.line)) e).1).1,
-    )
-
 rows_set : (row : LineRow) (lines : List LineFacts) (order : List ℕ)
     → rows (facts_of (with_row row lines) order) ≡ replace (same_line row) row (rows (facts_of lines order))
 rows_set row [] order = refl
@@ -111,7 +74,7 @@ rows_set row (line ∷ lines) order =
     let ih = rows_set row lines order in
     elim (decide (same_line row line.row)) [
       | inl e ↦
-          let number : line.row.number ≡ row.number = number_kept row line.row e in
+          let number : line.row.number ≡ row.number = (line_key row line.row e).1 in
           let both : same line.row.number order ≡ same row.number order = ap (λ v. same v order) number in
           elim (decide (same row.number order)) [ inl k ↦ grind (arith, e, both, k, ih) | inr k ↦ grind (arith, e, both, k, ih) ]
       | inr e ↦ elim (decide (same line.row.number order)) [ inl k ↦ grind (arith, e, k, ih) | inr k ↦ grind (arith, e, k, ih) ]
@@ -129,7 +92,7 @@ lines_set state row order = go state.lines
         let ih = go ls in
         elim (decide (same_line row old)) [
           | inl e ↦
-              let both : same old.number order ≡ same row.number order = ap (λ v. same v order) (number_kept row old e) in
+              let both : same old.number order ≡ same row.number order = ap (λ v. same v order) (line_key row old e).1 in
               elim (decide (same row.number order)) [ inl k ↦ grind (arith, e, both, k, ih) | inr k ↦ grind (arith, e, both, k, ih) ]
           | inr e ↦ elim (decide (same old.number order)) [ inl k ↦ grind (arith, e, k, ih) | inr k ↦ grind (arith, e, k, ih) ]
         ]
@@ -158,6 +121,6 @@ despatched_told_after state (line ∷ lines) row told = (one, despatched_told_af
         elim (same_line row line.row) as (λ v. same_line row line.row ≡ v
         → despatched state (cond v (record line { row = row }) line).row
         ≡ (cond v (record line { row = row }) line).despatched) [
-          | true ↦ λ e. despatched_by_key state row line.row (sym (number_kept row line.row e)) (sym (line_kept row line.row e)) ∙ told.0
+          | true ↦ λ e. despatched_by_key state row line.row (sym (line_key row line.row e).1) (sym (line_key row line.row e).2) ∙ told.0
           | false ↦ λ e. told.0
         ] refl

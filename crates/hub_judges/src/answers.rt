@@ -52,7 +52,8 @@ fn is_past_range(answer: LineAnswer, line: &LineFacts) -> bool
 
 // The rule that an answer to a line is against: B07, B08 or B09.
 fn answer_fault(said: &AnswerLine, line: &LineFacts) -> Option<Code>
-    ensures some { IfSome result (λ code. (rest : Verdict) → answer_checks said.now line.now rest ≡ Refuse code) }
+    ensures some { IfSome result (λ code.
+        (rest : Verdict) → answer_checks said.now line.now rest ≡ Refuse code) }
     ensures none { IfNone result ((rest : Verdict) → answer_checks said.now line.now rest ≡ rest) }
     ensures range { IfNone result (is_out_of_range said.now.answer line.now.despatched line.now.row ≡ false) }
 {

@@ -29,7 +29,8 @@ use std::alloc::Global;
 
 // The rule that a line is against: B09 or B10.
 fn line_fault(said: &DespatchLine, line: &LineFacts) -> Option<Code>
-    ensures some { IfSome result (λ code. (rest : Verdict) → despatch_checks said.now line.now rest ≡ Refuse code) }
+    ensures some { IfSome result (λ code.
+        (rest : Verdict) → despatch_checks said.now line.now rest ≡ Refuse code) }
     ensures none { IfNone result ((rest : Verdict) → despatch_checks said.now line.now rest ≡ rest) }
     ensures open { IfNone result (said.now.quantity ≤ line.now.row.open_qty) }
 {
@@ -51,7 +52,8 @@ fn load<'a>(
     changes: &mut Items<Change>,
 ) -> Result<Option<Code>, MemoryFault>
     ensures refused { IfOk result (λ fault. IfSome fault (λ code. (next : List LineFacts → Verdict) →
-        joined changes.old (lines_from unit.now.sscc orders.now 0 unit.now.lines book.old next) ≡ Refuse code)) }
+        joined changes.old (lines_from unit.now.sscc orders.now 0 unit.now.lines book.old next)
+        ≡ Refuse code)) }
     ensures loaded { IfOk result (λ fault. IfNone fault ((next : List LineFacts → Verdict) →
         joined changes.old (lines_from unit.now.sscc orders.now 0 unit.now.lines book.old next)
         ≡ joined changes.new (next book.new))) }
@@ -104,7 +106,8 @@ fn is_under(row: &SupplierRow, sscc: &Sscc) -> bool
 
 // The rule that a unit is against: B11 or B12.
 fn unit_fault(row: &SupplierRow, sscc: &Sscc, used: bool) -> Option<Code>
-    ensures some { IfSome result (λ code. (rest : Verdict) → unit_checks row.now sscc.now used rest ≡ Refuse code) }
+    ensures some { IfSome result (λ code.
+        (rest : Verdict) → unit_checks row.now sscc.now used rest ≡ Refuse code) }
     ensures none { IfNone result ((rest : Verdict) → unit_checks row.now sscc.now used rest ≡ rest) }
 {
     if !is_under(row, sscc) {
@@ -232,7 +235,8 @@ pub fn judge_despatch(
     requires apart { has_twice (map (λ unit. unit.sscc) despatch.now.units) ≡ false }
     ensures { IfOk result (λ verdict. (used : List ℕ → Bool) (state : Tables) →
         TellsForDespatch known used incoming despatch.now state →
-        verdict ≡ rules.judge_despatch retailer.now (option_copied supplier.entry) used incoming despatch.now state) }
+        verdict ≡ rules.judge_despatch retailer.now
+        (option_copied supplier.entry) used incoming despatch.now state) }
 {
     let row = match admitted(retailer, supplier, despatch.buyer, &despatch.supplier) {
         Ok(row) => row,

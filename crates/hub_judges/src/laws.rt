@@ -23,10 +23,12 @@ pub fn judges_are_given_what_they_ask()
     ensures rise { (suppliers : List SupplierRow) (gln : List ℕ) (t : Tables) (test : LineRow → Bool) →
         Sound suppliers t → Rises facts_cmp (facts_in (view gln t) (filter test (view gln t).lines)) }
     ensures covered { (suppliers : List SupplierRow) (gln : List ℕ) (t : Tables) (test : LineRow → Bool) →
-        Sound suppliers t → AllByRecursion IsCovered (facts_in (view gln t) (filter test (view gln t).lines)) }
+        Sound suppliers t → AllByRecursion IsCovered
+        (facts_in (view gln t) (filter test (view gln t).lines)) }
     ensures steps { (suppliers : List SupplierRow) (gln : List ℕ) (t : Tables) (test : LineRow → Bool) →
         Sound suppliers t → steps_up None (filter test (view gln t).lines) ≡ true }
-    ensures rows_covered { (suppliers : List SupplierRow) (gln : List ℕ) (t : Tables) (test : LineRow → Bool) →
+    ensures rows_covered { (suppliers : List SupplierRow) (gln : List ℕ) (t : Tables)
+        (test : LineRow → Bool) →
         Sound suppliers t → list_all is_covered (filter test (view gln t).lines) ≡ true }
     ensures despatch { (message : RawMessage) (despatch : Despatch) →
         despatch_of message ≡ Ok despatch → has_twice (map (λ unit. unit.sscc) despatch.units) ≡ false }

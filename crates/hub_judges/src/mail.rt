@@ -34,7 +34,8 @@ pub(crate) fn new_mail(
     body: Items<u8>,
 ) -> Result<Change, MemoryFault>
     requires { mails < LAST_MAIL_NUMBER }
-    ensures { IfOk result (λ change. change ≡ mailbox.mail_entry supplier (mails + 1) incoming.now kind document.now body) }
+    ensures { IfOk result (λ change.
+        change ≡ mailbox.mail_entry supplier (mails + 1) incoming.now kind document.now body) }
 {
     Ok(Change::AddMail(MailRow {
         supplier,

@@ -30,7 +30,8 @@ fn add_lines(
     order: &Order,
     changes: &mut Items<Change>,
 ) -> Result<(), MemoryFault>
-    ensures { IfOk result (λ _. changes.new ≡ changes.old ++ map (new_line supplier order.now.number) order.now.lines) }
+    ensures { IfOk result (λ _.
+        changes.new ≡ changes.old ++ map (new_line supplier order.now.number) order.now.lines) }
 {
     for line in order.lines.as_slice() {
         changes.push(Change::AddLine(LineRow {
@@ -87,7 +88,8 @@ pub fn judge_order(
     order: &Order,
 ) -> Result<Verdict, MemoryFault>
     ensures { IfOk result (λ verdict. (state : Tables) → TellsForOrder known.now incoming order.now state →
-        verdict ≡ rules.judge_order retailer.now (option_copied supplier.entry) incoming body order.now state) }
+        verdict ≡ rules.judge_order retailer.now
+        (option_copied supplier.entry) incoming body order.now state) }
 {
     let row = match admitted(retailer, supplier, Some(order.buyer), &order.supplier) {
         Ok(row) => row,

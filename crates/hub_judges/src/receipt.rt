@@ -31,7 +31,8 @@ fn add_receipts(
     changes: &mut Items<Change>,
 ) -> Result<(), MemoryFault>
     requires { has_sums unit.now.lines ≡ true }
-    ensures { IfOk result (λ _. changes.new ≡ changes.old ++ map (new_receipt unit.now.sscc unit.now.lines) (gtins unit.now.lines)) }
+    ensures { IfOk result (λ _.
+        changes.new ≡ changes.old ++ map (new_receipt unit.now.sscc unit.now.lines) (gtins unit.now.lines)) }
 {
     let lines = unit.lines.as_slice();
     let mut totals = totals_of(alloc, lines)?;
@@ -97,7 +98,8 @@ fn judge_units(
 ) -> Result<Verdict, MemoryFault>
     requires each_unit { length pallets.now ≡ length units.now }
     requires sums { list_all (λ unit. has_sums unit.lines) units.now ≡ true }
-    ensures { IfOk result (λ verdict. verdict ≡ joined changes (receipts_from replaces units.now pallets.now)) }
+    ensures { IfOk result (λ verdict.
+        verdict ≡ joined changes (receipts_from replaces units.now pallets.now)) }
 {
     for (place, unit) in units.iter().enumerate() {
         let Some(pallet) = &pallets[place] else {
@@ -128,8 +130,10 @@ pub fn judge_receipt(
     requires each_unit { length known.now.pallets ≡ length receipt.now.units }
     requires apart { has_twice (map (λ unit. unit.sscc) receipt.now.units) ≡ false }
     requires sums { list_all (λ unit. has_sums unit.lines) receipt.now.units ≡ true }
-    ensures { IfOk result (λ verdict. (state : Tables) → TellsForReceipt known.now incoming receipt.now state →
-        verdict ≡ rules.judge_receipt retailer.now (option_copied supplier.entry) incoming body receipt.now state) }
+    ensures { IfOk result (λ verdict.
+        (state : Tables) → TellsForReceipt known.now incoming receipt.now state →
+        verdict ≡ rules.judge_receipt retailer.now
+        (option_copied supplier.entry) incoming body receipt.now state) }
 {
     let row = match admitted(retailer, supplier, receipt.buyer, &receipt.supplier) {
         Ok(row) => row,

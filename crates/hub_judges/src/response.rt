@@ -89,7 +89,8 @@ pub fn judge_response(
     response: &Response,
 ) -> Result<Verdict, MemoryFault>
     ensures { IfOk result (λ verdict. (state : Tables) → TellsForResponse known incoming response.now state →
-        verdict ≡ rules.judge_response retailer.now (option_copied supplier.entry) incoming response.now state) }
+        verdict ≡ rules.judge_response retailer.now
+        (option_copied supplier.entry) incoming response.now state) }
 {
     let row = match admitted(retailer, supplier, Some(response.buyer), &response.supplier) {
         Ok(row) => row,

@@ -61,7 +61,8 @@ pub(crate) fn totals_of(
     lines: &[ReceiptLine],
 ) -> Result<BTreeMap<Gtin, Total>, MemoryFault>
     requires { has_sums lines.now ≡ true }
-    ensures { IfOk result (λ totals. (article : List ℕ) → get (slice_cmp nat_cmp) totals article ≡ spec.total_from None article lines.now) }
+    ensures { IfOk result (λ totals. (article : List ℕ) →
+        get (slice_cmp nat_cmp) totals article ≡ spec.total_from None article lines.now) }
 {
     let mut totals: BTreeMap<Gtin, Total> = BTreeMap::new(alloc);
     for line in lines {

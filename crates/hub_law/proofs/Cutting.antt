@@ -4,6 +4,7 @@ use Rattle.std.proofs.Common.{take, Option, Some, None, Ok, Err, refl, sym, ◌�
 use Rattle.std.specs.List.{list_any}
 use Rattle.std.proofs.lemmas.List.{length-map, take_all}
 use Rattle.std.proofs.lemmas.Bool.Decides.{nat_tests}
+use Rattle.std.proofs.lemmas.Bool.{lt-ltb}
 use Rattle.edi_envelope.specs.declared.interchange.Interchange.{Interchange}
 use Rattle.edi_envelope.specs.declared.interchange.RawMessage.{RawMessage}
 use Rattle.hub_parties.specs.Rows.{RegisterRows, parties_of, row_of, role_of}
@@ -112,13 +113,10 @@ module _ (deliver : RawMessage × IncomingMessage → Act) (moment : ℕ) (t : T
   upload_behind k (Ok j) i h less =
       let same : i ≡ j = cc in
       let more : nat_lt k (length j.messages) ≡ true =
-      subst (λ (i : Interchange). nat_lt k (length i.messages) ≡ true) same (is_less k (length i.messages) less) in
+      subst (λ (i : Interchange). nat_lt k (length i.messages) ≡ true) same (lt-ltb k (length i.messages) less) in
       subst (λ i. uploaded deliver moment (StoppedAfter k) (Ok j) t
       ≡ (reply_behind k i (told_of i), (in_row deliver (take k (messages_at moment i)) t).1)) (sym same)
       (ap (λ more. by_stop more k j) more ∙ cut_behind k j)
-    where
-      is_less : (a b : ℕ) → a < b → nat_lt a b ≡ true
-      is_less a b h = grind (arith, nat_tests)
 
   upload_too_far : (k : ℕ) (opened : Opened) (i : Interchange)
       → opened_well opened ≡ Some i

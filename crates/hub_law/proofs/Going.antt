@@ -19,6 +19,7 @@ use Rattle.hub_rules.specs.Laws.{SoundHub, PartiesStay, JoinedBy}
 use Rattle.hub_rules.specs.Sound.{Sound}
 use Rattle.hub_rules.specs.declared.verdict.Verdict.TheVariants.{Accept, Refuse}
 use Rattle.hub_rules.proofs.Joining.{joined_by}
+use Rattle.hub_rules.proofs.Prefixes.{gln_found}
 use Rattle.hub_law.specs.Machine.{Inputs, shared_step, shared_run}
 use Rattle.hub_law.specs.Mark.{Mark, Whole, StoppedEmpty, StoppedBare, StoppedAfter, replied}
 use Rattle.hub_law.specs.Replies.{denied}
@@ -31,7 +32,7 @@ use Rattle.hub_requests.specs.declared.request.Request.TheVariants as requests
 use Rattle.hub_law.proofs.Acting.{Stays, suppliers_same, register_same}
 use Rattle.hub_law.proofs.Callers.{step_by, is_retailers, step_is, as_retailer}
 use Rattle.hub_law.proofs.Retailers.{messages_stay, cancelled_stays}
-use Rattle.hub_law.proofs.Steps.{gln_of, supplier_alike}
+use Rattle.hub_law.proofs.Steps.{supplier_alike}
 
 pub record Goes (t after : Tables) : Type 0 where
   pub sound : SoundHub after
@@ -115,7 +116,7 @@ module _ (t : Tables) (here : SoundHub t) where
       → supplier_row (suppliers_of t) input.caller ≡ o
       → Goes t (step_by R o input mark t).1
   goes_by input mark (Some w) h =
-      let whose = gln_of (suppliers_of t) input.caller w h in
+      let whose = gln_found (suppliers_of t) input.caller w h in
       let alike = supplier_alike (suppliers_of t) here.register.right.prefixes_free (parties_of R) w
       (ap (supplier_row (suppliers_of t)) whose ∙ h) input mark t here.sound in
       goes_kept t _ here (record { sound = alike.apart.sound; parties = alike.apart.parties })

@@ -3,6 +3,7 @@ use Rattle.std.proofs.Common.{◌≡◌, ◌≢◌, ◌⊎◌, ℕ, nat_lt, Bool
 use Rattle.std.proofs.Common.{map, take, Option, Some, None, refl, sym, ◌∙◌, ap}
 use Rattle.std.specs.List.{list_any}
 use Rattle.std.proofs.lemmas.Bool.{or_right}
+use Rattle.std.proofs.Math.Bool.{and-false}
 use Rattle.edi_base.proofs.Twice.{bytes_eq-sym}
 use Rattle.hub_parties.specs.Rows.{RegisterRows, supplier_row, role_of}
 use Rattle.hub_parties.specs.declared.role.Role.{Role}
@@ -79,7 +80,7 @@ known_never_joins : (register : RegisterRows) (gln : List ℕ) (s row : Supplier
 known_never_joins register gln s row known is =
     ap (λ v. is_join row && is_accepted (refuse_if v GlnKnown (refuse_if (overlap_others register row.prefixes) PrefixOverlaps
     (refuse_if (is_full register) RegisterFull (Accept (row_changes row)))))) there
-    ∙ never (is_join row)
+    ∙ and-false (is_join row)
   where
     turned : (suppliers : List SupplierRow)
         → list_any (same gln) (map (λ (s : SupplierRow). s.gln) suppliers)
@@ -92,10 +93,6 @@ known_never_joins register gln s row known is =
         ap (is_known register) is
         ∙ or_right (same gln register.hub) _ (or_right (same gln register.retailer) _
         (turned register.suppliers ∙ any_if_found (λ (s : SupplierRow). same s.gln gln) register.suppliers s known))
-
-    never : (v : Bool) → (v && false) ≡ false
-    never true = refl
-    never false = refl
 
 -- The GLN has its row in both, or nobody lets it in.
 abbrev Settled : List ℕ → Tables → Tables → Inputs → Type 0

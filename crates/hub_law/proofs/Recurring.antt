@@ -1,10 +1,12 @@
 -- What was accepted in a run and comes again later in it.
 use Rattle.std.proofs.Common.{◌≡◌, ℕ, zero, suc, ◌+◌, ◌<◌, ◌≤◌, min, nat_lt, Bool, true, false, ◌&&◌, if◌then◌else◌, List}
 use Rattle.std.proofs.Common.{[], ◌∷◌, ◌++◌, length, map, slice_get, take, Option, Some, None, refl, sym, ◌∙◌, ap, subst}
-use Rattle.std.proofs.Common.{arith, get_or}
+use Rattle.std.proofs.Common.{arith, get_or, option_map}
 use Rattle.std.proofs.lemmas.Bool.{true≢false}
 use Rattle.std.proofs.lemmas.Bool.Decides.{nat_tests}
 use Rattle.std.proofs.lemmas.List.{length-take}
+use Rattle.std.proofs.lemmas.Option.{slice_get_within, slice_get-map}
+use Rattle.std.proofs.Math.Seq.{take-length}
 use Rattle.edi_envelope.specs.declared.interchange.RawMessage.{RawMessage}
 use Rattle.gs1_ids.specs.Overlap.{PrefixFree}
 use Rattle.hub_parties.specs.Rows.{Parties, RegisterRows, parties_of, company_prefixes, supplier_row, row_of, role_by}
@@ -18,6 +20,7 @@ use Rattle.hub_rules.specs.declared.incoming.IncomingMessage.{IncomingMessage}
 use Rattle.hub_rules.specs.Laws.{SoundHub}
 use Rattle.hub_rules.specs.Sound.{Sound}
 use Rattle.hub_rules.specs.declared.cancel.Cancel.{Cancel}
+use Rattle.hub_rules.proofs.Prefixes.{gln_found}
 use Rattle.hub_law.specs.Again.{MessageAt, AsksCancel, Reaches, SameReference, tables_before, told_at}
 use Rattle.hub_law.specs.Machine.{Inputs, step_under, shared_step, shared_run, step_as}
 use Rattle.hub_law.specs.Mark.{Mark, Whole, StoppedEmpty, StoppedBare, StoppedAfter}
@@ -40,7 +43,6 @@ use Rattle.hub_law.proofs.Callers.{is_retailers, retailer_asks}
 use Rattle.hub_law.proofs.Going.{Goes, run_goes, parties_stay, retailer_has_no_row}
 use Rattle.hub_law.proofs.Retailers.{message_stays}
 use Rattle.hub_law.proofs.Staying.{all_retailers_stay, all_suppliers_stay, run_stays}
-use Rattle.hub_law.proofs.Steps.{gln_of}
 
 -- Acts in a row, and what is told of one at a place.
 module _ {X : Type 0} (step : X → Act) where
@@ -91,24 +93,11 @@ module _ {X : Type 0} (step : X → Act) where
   row_sound P f [] t p = p
   row_sound P f (x ∷ xs) t p = row_sound P f xs (step x t).1 (f x t p)
 
-all_taken : {X : Type 0} (xs : List X) → take (length xs) xs ≡ xs
-all_taken [] = refl
-all_taken (x ∷ xs) = ap (λ rest. x ∷ rest) (all_taken xs)
-
-within : {X : Type 0} (xs : List X) (place : ℕ) (x : X) → slice_get xs place ≡ Some x → place < length xs
-within [] zero x h = cc
-within [] (suc place) x h = cc
-within (y ∷ xs) zero x h = omega arith
-within (y ∷ xs) (suc place) x h = omega (arith, within xs place x h)
-
 -- what stands at a place stands there after a map
 at_place : {X Y : Type 0} (f : X → Y) (xs : List X) (place : ℕ) (x : X)
     → slice_get xs place ≡ Some x
     → slice_get (map f xs) place ≡ Some (f x)
-at_place f [] zero x h = cc
-at_place f [] (suc place) x h = cc
-at_place f (y ∷ xs) zero x h = let same : y ≡ x = cc in ap (λ x. Some (f x)) same
-at_place f (y ∷ xs) (suc place) x h = at_place f xs place x h
+at_place f xs place x there = slice_get-map f xs place ∙ ap (option_map f) there
 
 pub run_of_both : (t : Tables) (before later : Inputs)
     → (shared_run t (before ++ later)).1 ≡ (shared_run (shared_run t before).1 later).1
@@ -172,7 +161,7 @@ module _ (register : RegisterRows) where
         → Sound register.suppliers (act_at register o sent t).1
     act_sound gln (Some s) known sent t sound =
         (suppliers_act register.suppliers free (parties_of register) s
-        (ap (supplier_row register.suppliers) (gln_of register.suppliers gln s known) ∙ known) sent t sound).apart.sound
+        (ap (supplier_row register.suppliers) (gln_found register.suppliers gln s known) ∙ known) sent t sound).apart.sound
     act_sound gln None known sent t sound = (message_stays register free sent t sound).sound
 
   -- who has no row and whose upload is looked at is the retailer
@@ -267,7 +256,7 @@ module _ (register : RegisterRows) (t : Tables) (input : Input) (upload : Upload
       subst (λ (after : Reply × Tables). StaysRemembered (in_row (upload.act) (take (place + 1) sents) t).1 after.1)
       (sym (whole_upload register t input upload looked_at))
       (subst (λ all. StaysRemembered (in_row (upload.act) (take (place + 1) sents) t).1 (in_row (upload.act) all t).1)
-      (all_taken sents) (more_stay (upload.act) stays sents (place + 1) (length sents) t (omega (arith, there))))
+      (take-length sents) (more_stay (upload.act) stays sents (place + 1) (length sents) t (omega (arith, there))))
   reached_stays StoppedEmpty there reaches = absurd (omega (arith, reaches))
   reached_stays StoppedBare there reaches = absurd (omega (arith, reaches))
   reached_stays (StoppedAfter k) there reaches =
@@ -324,7 +313,7 @@ module _ (t : Tables) (before between : Inputs) (first : Input) (mark : Mark) (p
       was in
       let stepped = reached_stays (register_of at_first) at_first first one.upload one.looked_at place
       (stays_of (register_of at_first) one.upload.act first_act) mark
-      (within (messages_at first.moment one.upload.interchange) place sent first_there) reaches row after in
+      (slice_get_within (messages_at first.moment one.upload.interchange) place sent first_there) reaches row after in
       let ran = run_stays (shared_step at_first first mark).1 between row stepped in
       subst (λ (u : Tables). Has u.remembered row) (sym (run_of_both t before ((first, mark) ∷ between))) ran
 

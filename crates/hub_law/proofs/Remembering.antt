@@ -33,12 +33,12 @@ use Rattle.hub_rules.specs.declared.verdict.Verdict.{Verdict}
 use Rattle.hub_rules.specs.declared.verdict.Verdict.TheVariants.{Accept, Refuse}
 use Rattle.hub_rules.proofs.Repeating.{accepted_has}
 use Rattle.hub_rules.proofs.Verdicts.{not_refused}
+use Rattle.hub_rules.proofs.Prefixes.{gln_found}
 use Rattle.hub_law.specs.CancelText.{cancel_text}
 use Rattle.hub_law.specs.Messages.{named, body_of, deliver_suppliers, cancel}
 use Rattle.hub_law.specs.Remembered.{row_of_message, row_of_cancel}
 use Rattle.hub_law.specs.Requests.{deliver_named}
 use Rattle.hub_law.specs.Told.{Told, Accepted, Refused, act, read_act}
-use Rattle.hub_law.proofs.Steps.{gln_of}
 
 -- where a verdict accepts what is new, the row is there after it
 abbrev Puts : Tables → RememberedRow → Verdict → Type 0
@@ -123,7 +123,7 @@ named_remembered register message incoming t =
     let gln = named message in
     let retailer = register.retailer in
     let supplier = supplier_row register.suppliers gln in
-    let whose = gln_of register.suppliers gln in
+    let whose = gln_found register.suppliers gln in
     either_leaves t _ (same message.kind (codes "ORDERS")) _ _
     (read_leaves t _ (order_of message)
     (λ order. judge_order retailer supplier incoming (body_of message) order (view gln t))
@@ -159,4 +159,4 @@ pub cancellation_remembered : (register : RegisterRows) (c : Cancel) (t : Tables
     → (cancel (view c.supplier) (supplier_row register.suppliers c.supplier) c t).0 ≡ Accepted
     → Has (cancel (view c.supplier) (supplier_row register.suppliers c.supplier) c t).1.remembered (row_of_cancel c)
 cancellation_remembered register c t =
-    cancel_leaves t c.supplier (supplier_row register.suppliers c.supplier) (gln_of register.suppliers c.supplier) c
+    cancel_leaves t c.supplier (supplier_row register.suppliers c.supplier) (gln_found register.suppliers c.supplier) c

@@ -33,12 +33,12 @@ use Rattle.hub_rules.specs.declared.verdict.Verdict.TheVariants.{Accept, Refuse}
 use Rattle.hub_rules.specs.Sound.{Sound}
 use Rattle.hub_rules.proofs.Repeating.{found_again, accepted_has, once_again}
 use Rattle.hub_rules.proofs.Verdicts.{not_refused}
+use Rattle.hub_rules.proofs.Prefixes.{gln_found}
 use Rattle.hub_law.specs.CancelText.{cancel_text}
 use Rattle.hub_law.specs.Messages.{named, body_of, deliver_retailers, deliver_suppliers, cancel}
 use Rattle.hub_law.specs.Remembered.{StaysRemembered}
 use Rattle.hub_law.specs.Requests.{deliver_named}
 use Rattle.hub_law.specs.Told.{Told, Accepted, Repeated, Refused, Act, act, read_act}
-use Rattle.hub_law.proofs.Steps.{gln_of}
 
 module _ (suppliers : List SupplierRow) where
   -- where a verdict accepts what is new, another accepts it as known in all tables that still remember it
@@ -179,7 +179,7 @@ pub named_repeated : (suppliers : List SupplierRow) (register : RegisterRows) (s
     → deliver_named register (sent.0, record sent.1 { moment = moment; decimal = decimal }) u ≡ (Repeated, u)
 named_repeated suppliers register sent moment decimal t u told stays sound =
     retailers_repeats suppliers (named sent.0) t (parties_of register)
-    (supplier_row register.suppliers (named sent.0)) (gln_of register.suppliers (named sent.0)) sent moment decimal told u
+    (supplier_row register.suppliers (named sent.0)) (gln_found register.suppliers (named sent.0)) sent moment decimal told u
     stays sound
 
 pub suppliers_repeated : (suppliers : List SupplierRow) (parties : Parties) (s : SupplierRow)
@@ -198,7 +198,7 @@ pub cancellation_repeated : (suppliers : List SupplierRow) (register : RegisterR
     → cancel (view c.supplier) (supplier_row register.suppliers c.supplier) c u ≡ (Repeated, u)
 cancellation_repeated suppliers register c t u told stays sound =
     cancel_repeats suppliers c.supplier t (supplier_row register.suppliers c.supplier)
-    (gln_of register.suppliers c.supplier) c told u stays sound
+    (gln_found register.suppliers c.supplier) c told u stays sound
 
 -- what names no registered supplier is never accepted
 either_never : (test : Bool) (one other : Told × Tables)

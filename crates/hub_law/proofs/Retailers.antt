@@ -19,6 +19,7 @@ use Rattle.hub_rules.specs.declared.incoming.IncomingMessage.{IncomingMessage}
 use Rattle.hub_rules.specs.declared.cancel.Cancel.{Cancel}
 use Rattle.hub_rules.specs.declared.verdict.Verdict.TheVariants.{Accept, Refuse}
 use Rattle.hub_rules.specs.Sound.{Sound}
+use Rattle.hub_rules.proofs.Prefixes.{gln_found}
 use Rattle.hub_law.specs.Alone.{Item, Message, Cancellation, Joined, fold, retailer_items}
 use Rattle.hub_law.specs.Mark.{Mark, Whole, StoppedEmpty, StoppedBare, StoppedAfter, acts_done, replied}
 use Rattle.hub_law.specs.Messages.{named, deliver_retailers, cancel}
@@ -29,7 +30,7 @@ use Rattle.hub_requests.specs.declared.request.Request.{Request}
 use Rattle.hub_requests.specs.declared.request.Request.TheVariants as requests
 use Rattle.hub_law.proofs.Acting.{Alike, Stays, parties_on, suppliers_same, stays_same}
 use Rattle.hub_law.proofs.Acts.{retailers_act, cancel_act, nobodys_message, nobodys_cancellation}
-use Rattle.hub_law.proofs.Steps.{gln_of, unlike}
+use Rattle.hub_law.proofs.Steps.{unlike}
 
 -- of one act none was done where it was stopped after any
 pub none_of_one : (k : ℕ) (below : Bool) → nat_lt k 1 ≡ below → (if below then k else 0) ≡ 0
@@ -59,7 +60,7 @@ module _ (suppliers : List SupplierRow) (t : Tables) (sound : Sound suppliers t)
       by_whom : (o : Option SupplierRow) → supplier_row suppliers gln ≡ o → Stays suppliers t (act (view gln) o t).1
       by_whom None h = subst (Stays suppliers t) (sym (apart.nobodys (view gln) t)) (stays_same suppliers t sound)
       by_whom (Some w) h =
-          let whose = gln_of suppliers gln w h in
+          let whose = gln_found suppliers gln w h in
           let alike = apart.ones w (ap (supplier_row suppliers) whose ∙ h) in
           subst (λ n. Stays suppliers t (act (view n) (Some w) t).1) whose
           (record { sound = alike.apart.sound; parties = alike.apart.parties })
@@ -76,7 +77,7 @@ module _ (suppliers : List SupplierRow) (t : Tables) (sound : Sound suppliers t)
             → view other (act (view other) o t).1 ≡ (act (λ rows. rows) o (view other t)).1
         by_whom None h = ap (view other) (apart.nobodys (view other) t) ∙ sym (apart.nobodys (λ rows. rows) (view other t))
         by_whom (Some w) h =
-            let whose = gln_of suppliers other w h in
+            let whose = gln_found suppliers other w h in
             subst (λ n. view n (act (view n) (Some w) t).1 ≡ (act (λ rows. rows) (Some w) (view n t)).1) whose
             (apart.ones w (ap (supplier_row suppliers) whose ∙ h)).apart.seen
 
@@ -86,7 +87,7 @@ module _ (suppliers : List SupplierRow) (t : Tables) (sound : Sound suppliers t)
         by_whom : (o : Option SupplierRow) → supplier_row suppliers gln ≡ o → view other (act (view gln) o t).1 ≡ view other t
         by_whom None h = ap (view other) (apart.nobodys (view gln) t)
         by_whom (Some w) h =
-            let whose = gln_of suppliers gln w h in
+            let whose = gln_found suppliers gln w h in
             let unseen = (apart.ones w (ap (supplier_row suppliers) whose ∙ h)).apart.unseen other (unlike suppliers gln w other h e) in
             subst (λ n. view other (act (view n) (Some w) t).1 ≡ view other t) whose unseen
 

@@ -10,6 +10,7 @@ use Rattle.hub_tables.proofs.Enrolling.{own_row}
 use Rattle.hub_tables.proofs.Lists.{decide, same_is}
 use Rattle.hub_rules.specs.Laws.{SoundHub}
 use Rattle.hub_rules.proofs.Joining.{joined_by}
+use Rattle.hub_rules.proofs.Prefixes.{gln_found}
 use Rattle.hub_law.specs.Alone.{Item, Own, own_request, own_step, fold, own_items, retailer_items, items_of_input, items}
 use Rattle.hub_law.specs.Laws.{RunIsOwn, IsOther}
 use Rattle.hub_law.specs.Machine.{Inputs, shared_step, shared_run, replies_to}
@@ -21,7 +22,7 @@ use Rattle.hub_requests.specs.declared.request.Input.{Input}
 use Rattle.hub_law.proofs.Callers.{step_by, items_by, is_retailers, step_is, items_are, retailer_asks}
 use Rattle.hub_law.proofs.Going.{step_goes, parties_stay}
 use Rattle.hub_law.proofs.Retailers.{Moves, still, retailer_moves}
-use Rattle.hub_law.proofs.Steps.{gln_of, unlike, supplier_alike}
+use Rattle.hub_law.proofs.Steps.{unlike, supplier_alike}
 
 -- items after others
 fold_append : (parties : Parties) (gln : List ℕ) (first second : List Item) (state : Tables)
@@ -83,7 +84,7 @@ module _ (gln : List ℕ) (input : Input) (mark : Mark) (t : Tables) (here : Sou
       → row_at gln t ≡ o
       → OneStep gln t input (step_by R o input mark t) (items_by gln R o input mark)
   asks_itself other e (Some w) known =
-      let whose : w.gln ≡ gln = gln_of S gln w known in
+      let whose : w.gln ≡ gln = gln_found S gln w known in
       let found : supplier_row S w.gln ≡ Some w = ap (supplier_row S) whose ∙ known in
       let alike = supplier_alike S here.register.right.prefixes_free (parties_in t) w found input mark t here.sound in
       subst (λ v. OneStep gln t input (step_by R (Some w) input mark t) (if v then Own input mark ∷ [] else [])) (sym e)
@@ -109,7 +110,7 @@ module _ (gln : List ℕ) (input : Input) (mark : Mark) (t : Tables) (here : Sou
       → supplier_row S input.caller ≡ o
       → Moves (parties_in t) gln (view gln t) (step_by R o input mark t).1 (items_by gln R o input mark)
   anothers e (Some w) h =
-      let whose = gln_of S input.caller w h in
+      let whose = gln_found S input.caller w h in
       let unseen = (supplier_alike S here.register.right.prefixes_free (parties_in t) w
       (ap (supplier_row S) whose ∙ h) input mark t here.sound).apart.unseen gln (unlike S input.caller w gln h e) in
       subst (λ v. Moves (parties_in t) gln (view gln t) (step_by R (Some w) input mark t).1

@@ -7,8 +7,9 @@ use Rattle.hub_tables.specs.Rows.{same}
 use Rattle.hub_tables.specs.State.{entry_at}
 use Rattle.hub_tables.specs.Tables.{Tables, view}
 use Rattle.hub_tables.specs.declared.rows.MailRow.{MailRow}
-use Rattle.hub_tables.proofs.Lists.{same_is, same_if, all_always, all_found}
+use Rattle.hub_tables.proofs.Lists.{same_if}
 use Rattle.hub_rules.specs.Sound.{Sound}
+use Rattle.hub_rules.proofs.Prefixes.{gln_found}
 use Rattle.hub_law.specs.Mark.{Mark, Whole, StoppedEmpty, StoppedBare, StoppedAfter, replied}
 use Rattle.hub_law.specs.Messages.{deliver_suppliers}
 use Rattle.hub_law.specs.Opening.{Opened}
@@ -23,17 +24,12 @@ use Rattle.hub_law.specs.Alone.{supplier_step}
 use Rattle.hub_law.proofs.Acting.{Alike, parties_same, parties_on}
 use Rattle.hub_law.proofs.Acts.{suppliers_act, taking_act}
 
-pub gln_of : (suppliers : List SupplierRow) (gln : List ℕ) (s : SupplierRow) → supplier_row suppliers gln ≡ Some s → s.gln ≡ gln
-gln_of suppliers gln s known =
-    same_is s.gln gln (all_found (λ _. Unit {0}) (λ supplier. same supplier.gln gln) suppliers s
-    (all_always (λ _. Unit {0}) (λ _. tt) suppliers) known).1
-
 -- who has another GLN than is named is another supplier
 pub unlike : (suppliers : List SupplierRow) (gln : List ℕ) (w : SupplierRow) (other : List ℕ)
     → supplier_row suppliers gln ≡ Some w
     → same gln other ≡ false
     → other ≢ w.gln
-unlike suppliers gln w other known e i = let matches = same_if gln other (sym (i ∙ gln_of suppliers gln w known)) in (cc)
+unlike suppliers gln w other known e i = let matches = same_if gln other (sym (i ∙ gln_found suppliers gln w known)) in (cc)
 
 module _ (suppliers : List SupplierRow) (s : SupplierRow) where
   -- nothing is done

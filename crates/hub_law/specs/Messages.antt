@@ -50,26 +50,42 @@ named message = unwrap_or (supplier_of message.segments) []
 abbrev pub other_type : Act
 other_type t = (Refused (message_faults.code_text MessageType), t)
 
--- a message of the retailer for a supplier: ORDERS, RECADV
+-- an ORDERS of the retailer for a supplier
+abbrev pub order_act : (Tables → Tables) → Parties → Option SupplierRow → RawMessage × IncomingMessage → Act
+order_act look parties supplier (message, incoming) t =
+    read_act (order_of message)
+    (λ order. judge_order parties.retailer supplier incoming (body_of message) order (look t)) t
+
+-- a RECADV of the retailer for a supplier
+abbrev pub receipt_act : (Tables → Tables) → Parties → Option SupplierRow → RawMessage × IncomingMessage → Act
+receipt_act look parties supplier (message, incoming) t =
+    read_act (receipt_of message)
+    (λ receipt. judge_receipt parties.retailer supplier incoming (body_of message) receipt (look t)) t
+
+-- an ORDRSP of a supplier
+abbrev pub response_act : (Tables → Tables) → Parties → SupplierRow → RawMessage × IncomingMessage → Act
+response_act look parties s (message, incoming) t =
+    read_act (response_of message)
+    (λ response. judge_response parties.retailer (Some s) incoming response (look t)) t
+
+-- a DESADV of a supplier
+abbrev pub despatch_act : (Tables → Tables) → Parties → SupplierRow → RawMessage × IncomingMessage → Act
+despatch_act look parties s (message, incoming) t =
+    read_act (despatch_of message)
+    (λ despatch. judge_despatch parties.retailer (Some s) (has_pallet t) incoming despatch (look t)) t
+
+-- a message of the retailer for a supplier, by its type
 abbrev pub deliver_retailers : (Tables → Tables) → Parties → Option SupplierRow → RawMessage × IncomingMessage → Act
 deliver_retailers look parties supplier (message, incoming) t =
-    if same message.kind (codes "ORDERS")
-    then read_act (order_of message)
-    (λ order. judge_order parties.retailer supplier incoming (body_of message) order (look t)) t
-    else (if same message.kind (codes "RECADV")
-    then read_act (receipt_of message)
-    (λ receipt. judge_receipt parties.retailer supplier incoming (body_of message) receipt (look t)) t
+    if same message.kind (codes "ORDERS") then order_act look parties supplier (message, incoming) t
+    else (if same message.kind (codes "RECADV") then receipt_act look parties supplier (message, incoming) t
     else other_type t)
 
--- a message of a supplier: ORDRSP, DESADV
+-- a message of a supplier, by its type
 abbrev pub deliver_suppliers : (Tables → Tables) → Parties → SupplierRow → RawMessage × IncomingMessage → Act
 deliver_suppliers look parties s (message, incoming) t =
-    if same message.kind (codes "ORDRSP")
-    then read_act (response_of message)
-    (λ response. judge_response parties.retailer (Some s) incoming response (look t)) t
-    else (if same message.kind (codes "DESADV")
-    then read_act (despatch_of message)
-    (λ despatch. judge_despatch parties.retailer (Some s) (has_pallet t) incoming despatch (look t)) t
+    if same message.kind (codes "ORDRSP") then response_act look parties s (message, incoming) t
+    else (if same message.kind (codes "DESADV") then despatch_act look parties s (message, incoming) t
     else other_type t)
 
 -- a cancellation of the retailer for a supplier

@@ -39,7 +39,8 @@ pub fn step_is_own()
 /// status for which the retailer asks among them is the text of what would be seen alone at that place, or unknown
 /// before there is a register row.
 pub fn run_is_own()
-    ensures run { (gln : List ℕ) (t : Tables) (inputs : Inputs) → SoundHub t → IsOther gln t → RunIsOwn gln t inputs }
+    ensures run { (gln : List ℕ) (t : Tables) (inputs : Inputs) → SoundHub t → IsOther gln t →
+        RunIsOwn gln t inputs }
     ensures status { (gln : List ℕ) (t : Tables) (before later : Inputs) (input : Input) →
         SoundHub t → IsOther gln t → AsksStatus gln t input →
         reply_between t before input later ≡ Some (own_report gln (alone gln (items gln t before) t).1) }
@@ -65,16 +66,19 @@ pub fn runs_alike()
 /// and its pallet, and each receipt a pallet that was received; each pallet is a supplier's and under one of its prefixes;
 /// mailbox entries are numbered from 1; and every line balances.
 pub fn hub_stays_sound()
-    ensures step { (t : Tables) (input : Input) (mark : Mark) → SoundHub t → SoundHub (shared_step t input mark).1 }
+    ensures step { (t : Tables) (input : Input) (mark : Mark) → SoundHub t →
+        SoundHub (shared_step t input mark).1 }
     ensures run { (t : Tables) (inputs : Inputs) → SoundHub t → SoundHub (shared_run t inputs).1 }
-    ensures parties { (t : Tables) (inputs : Inputs) → SoundHub t → parties_in (shared_run t inputs).1 ≡ parties_in t }
+    ensures parties { (t : Tables) (inputs : Inputs) → SoundHub t →
+        parties_in (shared_run t inputs).1 ≡ parties_in t }
     ensures rows { (t : Tables) (inputs : Inputs) (gln : List ℕ) (s : SupplierRow) →
         SoundHub t → row_at gln t ≡ Some s → row_at gln (shared_run t inputs).1 ≡ Some s }
     ensures retailer { (t : Tables) (inputs : Inputs) (caller key : List ℕ) → SoundHub t →
         role_of (register_of t) caller key ≡ Some Retailer →
         role_of (register_of (shared_run t inputs).1) caller key ≡ Some Retailer }
     ensures founded { (register : RegisterRows) → IsRegister register → SoundHub (founded register) }
-    ensures register { (register : RegisterRows) → IsRegister register → register_of (founded register) ≡ register }
+    ensures register { (register : RegisterRows) → IsRegister register →
+        register_of (founded register) ≡ register }
 {}
 
 /// On every order line of sound tables ordered is open, refused, cancelled and despatched together. What is despatched
@@ -95,10 +99,13 @@ pub fn joins_are_apart()
         items_of_input gln t input mark ≡ [] }
     ensures stopped { (gln : List ℕ) (t : Tables) (input : Input) (mark : Mark) (row : SupplierRow) →
         input.request ≡ Join row → input.caller ≢ gln → mark ≢ Whole → items_of_input gln t input mark ≡ [] }
-    ensures seen { (gln : List ℕ) (t : Tables) (before later : Inputs) (input : Input) (mark : Mark) (row : SupplierRow) →
+    ensures seen { (gln : List ℕ) (t : Tables) (before later : Inputs) (input : Input) (mark : Mark)
+        (row : SupplierRow) →
         SoundHub t → IsOther gln t → StandsApart gln (shared_run t before).1 input row later →
-        view gln (shared_run t (before ++ (input, mark) ∷ later)).1 ≡ view gln (shared_run t (before ++ later)).1 }
-    ensures told { (gln : List ℕ) (t : Tables) (before later : Inputs) (input : Input) (mark : Mark) (row : SupplierRow) →
+        view gln (shared_run t (before ++ (input, mark) ∷ later)).1
+        ≡ view gln (shared_run t (before ++ later)).1 }
+    ensures told { (gln : List ℕ) (t : Tables) (before later : Inputs) (input : Input) (mark : Mark)
+        (row : SupplierRow) →
         SoundHub t → IsOther gln t → StandsApart gln (shared_run t before).1 input row later →
         replies_to gln (before ++ (input, mark) ∷ later) (shared_run t (before ++ (input, mark) ∷ later)).0
         ≡ replies_to gln (before ++ later) (shared_run t (before ++ later)).0 }

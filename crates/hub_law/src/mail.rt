@@ -15,8 +15,8 @@ ghost use Rattle.hub_law.specs.Messages.{body_of};
 /// The text of the entry that the rules make of a message is the mail text of that message: to the supplier, with the
 /// moment and the decimal mark with which it came, and the entry's number.
 pub fn entry_is_its_messages_mail()
-    ensures { (hub supplier document : List ℕ) (state : Tables) (message : RawMessage) (incoming : IncomingMessage)
-        (kind : MailKind) (entry : MailRow) →
+    ensures { (hub supplier document : List ℕ) (state : Tables) (message : RawMessage)
+        (incoming : IncomingMessage) (kind : MailKind) (entry : MailRow) →
         new_mail supplier state incoming kind document (body_of message) ≡ AddMail entry →
         entry_text hub entry ≡
         messages.mail_text hub supplier incoming.moment incoming.decimal (next_mail state) message }

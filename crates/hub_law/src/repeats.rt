@@ -28,14 +28,18 @@ pub fn accepted_is_repeated()
     ensures retailers { (register : RegisterRows) (message : RawMessage) (incoming : IncomingMessage)
         (moment decimal : ℕ) (t u : Tables) →
         AcceptedBefore (deliver_named register (message, incoming) t) register.suppliers u →
-        deliver_named register (message, record incoming { moment = moment; decimal = decimal }) u ≡ (Repeated, u) }
-    ensures suppliers { (suppliers : List SupplierRow) (parties : Parties) (s : SupplierRow) (message : RawMessage)
+        deliver_named register (message, record incoming { moment = moment; decimal = decimal }) u
+        ≡ (Repeated, u) }
+    ensures suppliers { (suppliers : List SupplierRow) (parties : Parties) (s : SupplierRow)
+        (message : RawMessage)
         (incoming : IncomingMessage) (moment decimal : ℕ) (t u : Tables) →
         AcceptedBefore (deliver_suppliers (view s.gln) parties s (message, incoming) t) suppliers u →
-        deliver_suppliers (view s.gln) parties s (message, record incoming { moment = moment; decimal = decimal }) u ≡
+        deliver_suppliers (view s.gln) parties s
+        (message, record incoming { moment = moment; decimal = decimal }) u ≡
         (Repeated, u) }
     ensures cancellation { (register : RegisterRows) (c : Cancel) (t u : Tables) →
-        AcceptedBefore (cancel_named register c t) register.suppliers u → cancel_named register c u ≡ (Repeated, u) }
+        AcceptedBefore (cancel_named register c t) register.suppliers u →
+        cancel_named register c u ≡ (Repeated, u) }
 {}
 
 /// What is remembered stays remembered, whatever comes: further messages of an upload, of the retailer or of a
@@ -67,12 +71,15 @@ pub fn accepted_stays_remembered()
 /// of as repeated, and its act leaves the tables as they are, whoever joined meanwhile; `stops_cut_uploads` says which of
 /// what is told is in the reply. And a cancellation that was accepted and comes again is answered so.
 pub fn repeated_in_runs()
-    ensures message { (t : Tables) (before between : Inputs) (first second : Input) (mark : Mark) (place later : ℕ)
+    ensures message { (t : Tables) (before between : Inputs) (first second : Input) (mark : Mark)
+        (place later : ℕ)
         (message : RawMessage) (one : AcceptedAt (shared_run t before).1 first mark place message)
         (other : MessageAt (shared_run t (before ++ (first, mark) ∷ between)).1 second later message) →
         SameReference first second one.comes.upload other.upload →
-        told_at (shared_run t (before ++ (first, mark) ∷ between)).1 second other.upload later ≡ Some Repeated }
-    ensures stays { (t : Tables) (before between : Inputs) (first second : Input) (mark : Mark) (place later : ℕ)
+        told_at (shared_run t (before ++ (first, mark) ∷ between)).1 second other.upload later
+        ≡ Some Repeated }
+    ensures stays { (t : Tables) (before between : Inputs) (first second : Input) (mark : Mark)
+        (place later : ℕ)
         (message : RawMessage) (one : AcceptedAt (shared_run t before).1 first mark place message)
         (other : MessageAt (shared_run t (before ++ (first, mark) ∷ between)).1 second later message) →
         SameReference first second one.comes.upload other.upload →

@@ -14,6 +14,7 @@ pub fn views_are_sets()
     ensures views { (gln : List ℕ) (suppliers others : List SupplierRow) (t u : Tables) →
         Sound suppliers t → PartiesRise t → Sound others u → PartiesRise u →
         SameRows (view gln t) (view gln u) → view gln t ≡ view gln u }
-    ensures rise { (suppliers : List SupplierRow) (t : Tables) → SoundUnder suppliers t → PartiesRise t → Rising t }
+    ensures rise { (suppliers : List SupplierRow) (t : Tables) → SoundUnder suppliers t →
+        PartiesRise t → Rising t }
     ensures held { (t : Tables) → SoundHub t → SoundUnder (suppliers_of t) t × PartiesRise t }
 {}

@@ -20,11 +20,12 @@ ghost use Rattle.hub_law.specs.Requests.{deliver_named, cancel_named, taking, jo
 /// and so rising by their keys, where those of the register's rows do. A join under the register that sound tables hold
 /// leaves them so.
 pub fn acts_stay_sound()
-    ensures suppliers { (register : RegisterRows) (s : SupplierRow) (message : RawMessage) (incoming : IncomingMessage)
-        (t : Tables) →
+    ensures suppliers { (register : RegisterRows) (s : SupplierRow) (message : RawMessage)
+        (incoming : IncomingMessage) (t : Tables) →
         Registered register.suppliers s t → PartiesRise t →
         StaySound register.suppliers (deliver_suppliers (view s.gln) (parties_of register) s (message, incoming) t).1 }
-    ensures retailers { (register : RegisterRows) (message : RawMessage) (incoming : IncomingMessage) (t : Tables) →
+    ensures retailers { (register : RegisterRows) (message : RawMessage)
+        (incoming : IncomingMessage) (t : Tables) →
         SoundUnder register.suppliers t → PartiesRise t →
         StaySound register.suppliers (deliver_named register (message, incoming) t).1 }
     ensures cancellation { (register : RegisterRows) (c : Cancel) (t : Tables) →
@@ -39,11 +40,12 @@ pub fn acts_stay_sound()
 
 /// Of these acts the join alone changes the register: the others leave the rows of the hub, the keys and the prefixes.
 pub fn acts_keep_the_register()
-    ensures suppliers { (register : RegisterRows) (s : SupplierRow) (message : RawMessage) (incoming : IncomingMessage)
-        (t : Tables) →
+    ensures suppliers { (register : RegisterRows) (s : SupplierRow) (message : RawMessage)
+        (incoming : IncomingMessage) (t : Tables) →
         Registered register.suppliers s t →
         PartiesStay t (deliver_suppliers (view s.gln) (parties_of register) s (message, incoming) t).1 }
-    ensures retailers { (register : RegisterRows) (message : RawMessage) (incoming : IncomingMessage) (t : Tables) →
+    ensures retailers { (register : RegisterRows) (message : RawMessage)
+        (incoming : IncomingMessage) (t : Tables) →
         SoundUnder register.suppliers t → PartiesStay t (deliver_named register (message, incoming) t).1 }
     ensures cancellation { (register : RegisterRows) (c : Cancel) (t : Tables) →
         SoundUnder register.suppliers t → PartiesStay t (cancel_named register c t).1 }

@@ -1,21 +1,20 @@
 -- A line set in its place.
 use Rattle.std.proofs.Common.{◌≡◌, ℕ, zero, suc, ◌<◌, Bool, true, false, cond, ◌&&◌, ◌==◌, inl, inr, List, [], ◌∷◌, length}
-use Rattle.std.proofs.Common.{get_or, slice_get, slice_set, Some, refl, sym, ap, ap₂, subst, ◌∙◌, arith, eq-eqb}
+use Rattle.std.proofs.Common.{get_or, slice_get, slice_set, Some, refl, sym, ap, ap₂, subst, ◌∙◌, eq-eqb}
 use Rattle.std.specs.BTreeMap.{BTreeMap}
 use Rattle.std.specs.List.{AllByRecursion}
 use Rattle.std.specs.declared.cmp.Ordering.TheVariants.{Less, Equal}
 use Rattle.std.specs.Ordering.{nat_cmp, ordering_then}
-use Rattle.std.proofs.lemmas.Bool.{and_parts}
-use Rattle.std.proofs.lemmas.Bool.Decides.{nat_tests}
 use Rattle.std.proofs.lemmas.Cmp.{tied_itself}
 use Rattle.std.proofs.lemmas.List.{map-set, set-get_or, get_or-map}
 use Rattle.std.proofs.lemmas.List.Elements.{All-from_recursion, All-get_or}
 use Rattle.std.proofs.lemmas.List.Folds.{map_fixed}
 use Rattle.std.proofs.lemmas.Option.{same_Some, slice_get_within, get_or_from_slice_get}
 use Rattle.hub_parties.specs.KeyOrder.{bytes_cmp, Rises}
-use Rattle.hub_tables.specs.Rows.{same, same_line}
+use Rattle.hub_tables.specs.Rows.{same_line}
 use Rattle.hub_tables.specs.declared.rows.LineRow.{LineRow}
-use Rattle.hub_tables.proofs.Lists.{decide, same_is, same_if, all_weaker}
+use Rattle.hub_tables.proofs.KindOrders.{line_key}
+use Rattle.hub_tables.proofs.Lists.{decide, same_if, all_weaker}
 use Rattle.hub_order_lines.specs.Book.{facts_cmp, set_row, with_row, answered_row}
 use Rattle.hub_order_lines.specs.ArticleIndex.{OrderArticle, Indexed, IsArticleIndex}
 use Rattle.hub_order_lines.specs.Key.{key_of, keys_of}
@@ -24,19 +23,11 @@ use Rattle.hub_order_lines.specs.declared.facts.LineFacts.{LineFacts}
 use Rattle.hub_order_lines.proofs.ByNumber.{key_cmp, key_total}
 
 -- Two lines with the key of a row are not one below the other.
-at_row : (row old : LineRow) → same_line row old ≡ true → (old.number ≡ row.number) × (old.line ≡ row.line)
-at_row row old h =
-    let rest : (same old.number row.number && (old.line == row.line)) ≡ true =
-    (and_parts (same old.supplier row.supplier) (same old.number row.number && (old.line == row.line)) h).1 in
-    let parts = and_parts (same old.number row.number) (old.line == row.line) rest in
-    let lines : old.line ≡ row.line = grind (arith, nat_tests, parts.1) in
-    (same_is old.number row.number parts.0, lines)
-
 clash : (row : LineRow) (x y : LineFacts) → same_line row x.row ≡ true → same_line row y.row ≡ true → facts_cmp x y ≡ Equal
 clash row x y at_x at_y =
-    let a = at_row row x.row at_x in
-    let b = at_row row y.row at_y in
-    ap₂ ordering_then (ap₂ bytes_cmp (a.0 ∙ sym b.0) refl) (ap₂ nat_cmp (a.1 ∙ sym b.1) refl) ∙ tied_itself key_total (key_of y)
+    let a = line_key row x.row at_x in
+    let b = line_key row y.row at_y in
+    ap₂ ordering_then (ap₂ bytes_cmp (a.1 ∙ sym b.1) refl) (ap₂ nat_cmp (a.2 ∙ sym b.2) refl) ∙ tied_itself key_total (key_of y)
 
 not_both : (row : LineRow) (x y : LineFacts) → facts_cmp x y ≡ Less → same_line row x.row ≡ true → same_line row y.row ≡ false
 not_both row x y less at_x =

@@ -77,7 +77,8 @@ impl Book {
     )
         requires { place < length self.old }
         ensures { (line : LineFacts) → slice_get self.old place ≡ Some line →
-            self.new ≡ with_row (answered_row line.row open_qty refused cancelled (answer_letter answer)) self.old }
+            self.new ≡ with_row (answered_row line.row open_qty refused cancelled
+            (answer_letter answer)) self.old }
     {
         let line = &mut self.lines[place];
         line.row.open_qty = open_qty;

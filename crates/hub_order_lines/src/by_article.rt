@@ -80,7 +80,8 @@ pub(crate) fn place_by_article(
     requires rise { Rises facts_cmp lines.now }
     requires index { IsArticleIndex (keys_of lines.now) articles.now }
     ensures some { IfSome result (λ place. (place < length lines.now)
-        × (the_only (filter (λ (line : LineFacts). same line.row.gtin gtin.now) (facts_of lines.now order.now))
+        × (the_only (filter (λ (line : LineFacts). same line.row.gtin gtin.now)
+        (facts_of lines.now order.now))
         ≡ slice_get lines.now place)) }
     ensures none { IfNone result (the_only (filter (λ (line : LineFacts).
         same line.row.gtin gtin.now) (facts_of lines.now order.now)) ≡ None) }

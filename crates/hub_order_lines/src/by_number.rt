@@ -42,7 +42,8 @@ pub(crate) fn place_by_number(lines: &[LineFacts], order: &[u8], line_number: u3
     ensures some { IfSome result (λ place. (place < length lines.now)
         × (find (λ (line : LineFacts). line.row.line == line_number) (facts_of lines.now order.now)
         ≡ slice_get lines.now place)) }
-    ensures none { IfNone result (find (λ (line : LineFacts). line.row.line == line_number) (facts_of lines.now order.now) ≡ None) }
+    ensures none { IfNone result
+        (find (λ (line : LineFacts). line.row.line == line_number) (facts_of lines.now order.now) ≡ None) }
 {
     let place = place_from(lines, order, line_number);
     match lines.get(place) {

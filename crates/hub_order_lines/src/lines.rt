@@ -19,7 +19,8 @@ pub fn is_known(orders: &[Items<u8>], order: &[u8]) -> bool
 
 /// The line of an order with a number.
 pub fn line_numbered<'a>(lines: &'a [LineFacts], order: &[u8], number: u32) -> Option<&'a LineFacts>
-    ensures line { option_map (λ line. line.now) result ≡ facts_among (facts_of lines.now order.now) (Some number) [] }
+    ensures line { option_map (λ line. line.now) result
+        ≡ facts_among (facts_of lines.now order.now) (Some number) [] }
     ensures covered { AllByRecursion IsCovered lines.now → IfSome result (λ line. IsCovered line.now) }
 {
     for line in lines {

@@ -32,7 +32,7 @@ impl Model for CompanyPrefixes {
 }
 
 // Whether a prefix is below each of these.
-fn is_below(prefix: &Prefix, later: &[Prefix]) -> bool
+fn is_below_all(prefix: &Prefix, later: &[Prefix]) -> bool
     ensures value { result ≡ list_all (λ other. is_lt (bytes_cmp prefix.now other)) later.now }
     ensures valid { is_prefix prefix.now ≡ true }
 {
@@ -46,7 +46,7 @@ fn are_rising(prefixes: &[Prefix]) -> bool
     ensures { result ≡ (list_all is_prefix prefixes.now && spec.rising prefixes.now) }
 {
     for (place, prefix) in prefixes.iter().enumerate() {
-        if !is_below(prefix, &prefixes[place + 1..]) {
+        if !is_below_all(prefix, &prefixes[place + 1..]) {
             return false;
         }
     }

@@ -98,28 +98,23 @@ module _ (text : List ℕ) (params : Row) (old new : State) (mode : old.in_trans
 pub reads_more : {X : Type 0} {Reads : List Row → X → Type 0} {Spoil : List Row → Type 0} {text : List ℕ} {params : Row} {old new : State}
     (More : X → Type 0) (result : Result X StoreFault) → IfOk result More → Asks Reads Spoil text params old new result
     → Asks (λ rows x. Reads rows x × More x) Spoil text params old new result
-reads_more More (Ok x) more asks = record {
-  reads = λ clean. let h = asks.reads clean in (h.0, h.1, (h.2, more));
+reads_more {X = X} {Reads = Reads} {text = text} {params = params} {old = old} {new = new} More result more asks = record {
+  reads = λ clean. both result more (asks.reads clean);
   spoils = asks.spoils;
   disk = asks.disk;
   same = asks.same;
   kept = asks.kept;
   stays = asks.stays;
-  leaves = λ clean plain. let it = asks.leaves clean plain in record { done = it.done; fault = it.fault };
+  leaves = asks.leaves;
   mode = asks.mode;
   survives = asks.survives;
 }
-reads_more More (Err fault) more asks = record {
-  reads = λ clean. tt;
-  spoils = asks.spoils;
-  disk = asks.disk;
-  same = asks.same;
-  kept = asks.kept;
-  stays = asks.stays;
-  leaves = λ clean plain. let it = asks.leaves clean plain in record { done = it.done; fault = it.fault };
-  mode = asks.mode;
-  survives = asks.survives;
-}
+  where
+    both : (r : Result X StoreFault) → IfOk r More
+        → IfOk r (λ x. (rows : List Row) × Shown text params old new rows × Reads rows x)
+        → IfOk r (λ x. (rows : List Row) × Shown text params old new rows × (Reads rows x × More x))
+    both (Ok x) more h = (h.0, h.1, (h.2, more))
+    both (Err fault) more h = tt
 
 -- what is made of the rows of an answer
 pub asked_more : {X : Type 0} (Reads : List Row → X → Type 0) (Spoil : List Row → Type 0) (text : List ℕ) (params : Row) (old new : State)

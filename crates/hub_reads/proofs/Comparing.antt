@@ -21,6 +21,7 @@ use Rattle.sql_rows.proofs.Answers.{is_truth}
 use Rattle.hub_schema.specs.Cells.{natural, number_in}
 use Rattle.sqlite_value.specs.Order.{value_cmp}
 use Rattle.hub_reads.proofs.Counting.{same_natural}
+use Rattle.hub_reads.proofs.Ranking.{nat_int}
 use Rattle.hub_reads.specs.Mail.{is_low, is_above}
 
 odd : (k : ℕ) → ((2 ^ 65 + 2 * k + 1) % 2 == 1) ≡ true
@@ -93,7 +94,7 @@ cell_untaken v it =
 natural_rank : (a b : ℕ) → int_cmp (pos a) (pos b) ≡ nat_cmp (natural (pos a)) (natural (pos b))
 natural_rank a b = elim (cases_Bool (nat_lt a (2 ^ 64))) [
   | inl e ↦ elim (cases_Bool (nat_lt b (2 ^ 64))) [
-    | inl f ↦ plain a b ∙ sym (ap₂ (λ v w. nat_cmp (cond v a (2 * a)) (cond w b (2 * b))) e f)
+    | inl f ↦ nat_int a b ∙ sym (ap₂ (λ v w. nat_cmp (cond v a (2 * a)) (cond w b (2 * b))) e f)
     | inr f ↦ apart a b e f ∙ sym (ap₂ (λ v w. nat_cmp (cond v a (2 * a)) (cond w b (2 * b))) e f)
   ]
   | inr e ↦ elim (cases_Bool (nat_lt b (2 ^ 64))) [
@@ -102,9 +103,6 @@ natural_rank a b = elim (cases_Bool (nat_lt a (2 ^ 64))) [
   ]
 ]
   where
-    plain : (a b : ℕ) → int_cmp (pos a) (pos b) ≡ nat_cmp a b
-    plain a b = grind (arith, ints, nat_tests)
-
     apart : (a b : ℕ) → nat_lt a (2 ^ 64) ≡ true → nat_lt b (2 ^ 64) ≡ false → int_cmp (pos a) (pos b) ≡ nat_cmp a (2 * b)
     apart a b e f = grind (arith, ints, nat_tests)
 

@@ -2,6 +2,7 @@
 use Rattle.std.proofs.Common.{◌≡◌, inl, inr, ℕ, Bool, true, false, ◌&&◌, List, [], ◌∷◌, map}
 use Rattle.std.proofs.Common.{filter, refl, sym, ap, ap₂, subst, ◌∙◌, nat_le, length}
 use Rattle.std.proofs.Common.{true≢false}
+use Rattle.std.specs.Cmp.Derive.{both_true}
 use Rattle.std.specs.List.{list_all}
 use Rattle.std.proofs.lemmas.Bool.{and_parts}
 use Rattle.gs1_ids.specs.Gln.{is_gln}
@@ -32,9 +33,6 @@ all_pass_if : {X : Type 0} (p : X → Bool) (xs : List X) → ((x : X) → Has x
 all_pass_if p [] f = refl
 all_pass_if p (x ∷ xs) f = ap₂ (λ a b. a && b) (f x (inl refl)) (all_pass_if p xs (λ y there. f y (inr there)))
 
-both : {a b : Bool} → a ≡ true → b ≡ true → (a && b) ≡ true
-both x y = ap₂ (λ a b. a && b) x y
-
 module _ (t : Tables) (held : HoldsRegister t) where
   abbrev all_glns : List (List ℕ)
   all_glns = (register_of t).hub ∷ (register_of t).retailer ∷ map (λ (row : SupplierRow). row.gln) (suppliers_of t)
@@ -57,13 +55,13 @@ module _ (t : Tables) (held : HoldsRegister t) where
 
   pub clean_hubs : list_all clean_hub t.hubs ≡ true
   clean_hubs = subst (λ hubs. list_all clean_hub hubs ≡ true) (sym held.one_hub)
-      (both (both (subst (λ hubs. is_gln (hub_in hubs).hub ≡ true) held.one_hub (glns (register_of t).hub (inl refl)))
-      (both (subst (λ hubs. is_gln (hub_in hubs).retailer ≡ true) held.one_hub (glns (register_of t).retailer (inr (inl refl))))
+      (both_true (both_true (subst (λ hubs. is_gln (hub_in hubs).hub ≡ true) held.one_hub (glns (register_of t).hub (inl refl)))
+      (both_true (subst (λ hubs. is_gln (hub_in hubs).retailer ≡ true) held.one_hub (glns (register_of t).retailer (inr (inl refl))))
       (subst (λ hubs. is_party_key (hub_in hubs).key ≡ true) held.one_hub (keys (register_of t).retailer_key (inl refl))))) refl)
 
   pub clean_keys : list_all clean_key t.keys ≡ true
   clean_keys = all_pass_if clean_key t.keys (λ k there.
-      both (gln_right k there)
+      both_true (gln_right k there)
       (keys k.key (inr (has_map (λ (row : SupplierRow). row.key) (suppliers_of t) (row_in t.prefixes k) (row_there k there)))))
 
   right_of : (k : KeyRow) → Has t.keys k
@@ -83,7 +81,7 @@ module _ (t : Tables) (held : HoldsRegister t) where
       let k = had.0 in
       let is : k.supplier ≡ row.supplier = same_is k.supplier row.supplier had.2 in
       let mine : same row.supplier k.supplier ≡ true = ap (same row.supplier) is ∙ (ap (λ s. same s row.supplier) (sym is) ∙ had.2) in
-      both (passes_of is_prefix _ (right_of k had.1) row.prefix
+      both_true (passes_of is_prefix _ (right_of k had.1) row.prefix
       (has_map (λ (found : PrefixRow). found.prefix) _ row
       (has_filter (λ (found : PrefixRow). same found.supplier k.supplier) t.prefixes row there mine)))
       (ap is_gln (sym is) ∙ gln_right k had.1))

@@ -1,6 +1,7 @@
 -- What a query finds of one kind is the rows of that kind that pass.
 use Rattle.std.proofs.Common.{◌≡◌, Bool, true, false, cond, ◌&&◌, inl, inr, List, [], ◌∷◌, map, filter, refl, sym, ap}
 use Rattle.std.proofs.Common.{ap₂, subst, ◌∙◌, true≢false}
+use Rattle.std.specs.Bool.{⊤}
 use Rattle.std.specs.List.{AllByRecursion, list_all}
 use Rattle.std.specs.List.Sorted.{IsPermutation, IsSorted}
 use Rattle.std.specs.declared.cmp.Ordering.{Ordering}
@@ -54,6 +55,10 @@ all_of_map P f (x ∷ xs) h = (h.0, all_of_map P f xs h.1)
 pub all_to_map : {X Y : Type 0} (P : Y → Type 0) (f : X → Y) (xs : List X) → AllByRecursion (λ x. P (f x)) xs → AllByRecursion P (map f xs)
 all_to_map P f [] h = tt
 all_to_map P f (x ∷ xs) h = (h.0, all_to_map P f xs h.1)
+
+pub all_any : {X : Type 0} (xs : List X) → AllByRecursion (λ x. ⊤) xs
+all_any [] = tt
+all_any (x ∷ xs) = (tt, all_any xs)
 
 pub all_both : {X : Type 0} (P Q : X → Type 0) (xs : List X) → AllByRecursion P xs → AllByRecursion Q xs
     → AllByRecursion (λ x. P x × Q x) xs

@@ -1,9 +1,8 @@
 -- What a query finds of the goods on a pallet.
 use Rattle.std.proofs.Common.{◌≡◌, ℕ, ◌==◌, Bool, not, length, cond, inl, inr, true, false, ◌&&◌, Result, List, [], ◌∷◌}
 use Rattle.std.proofs.Common.{map, filter, refl, sym, ap, ap₂, subst, ◌∙◌}
-use Rattle.std.specs.List.{AllByRecursion, list_all}
+use Rattle.std.specs.List.{list_all}
 use Rattle.std.proofs.lemmas.Bool.{and_parts}
-use Rattle.std.proofs.lemmas.Bool.Decides.{nat_tests}
 use Rattle.gs1_ids.specs.Digits.{is_key}
 use Rattle.std.specs.Ordering.{ordering_then}
 use Rattle.sqlite_value.specs.declared.value.Value.TheVariants.{Blob}
@@ -24,14 +23,14 @@ use Rattle.hub_reads.specs.Asks.{Asks}
 use Rattle.hub_reads.proofs.Counting.{cell_bytes, all_such}
 use Rattle.hub_reads.proofs.Finding.{all_of, no_limit, passes, finds}
 use Rattle.hub_reads.proofs.Looking.{looks}
-use Rattle.hub_reads.proofs.Ranking.{then_none, rank_bytes, rank_numbers}
+use Rattle.hub_reads.proofs.Ranking.{then_none, rank_bytes, rank_numbers, low_number}
 use Rattle.hub_reads.proofs.Texts.{given_at}
 use Rattle.sql_rows.proofs.Answers.{and_true}
 use Rattle.std.specs.Bool.{⊤}
 use Rattle.hub_tables.proofs.Lists.{same_is}
 use Rattle.hub_schema.proofs.InKeyOrder.{listed_any}
 use Rattle.hub_reads.proofs.Counting.{any_shown, some_found}
-use Rattle.hub_reads.proofs.Single.{and_turned}
+use Rattle.std.proofs.Math.Bool.{and_comm}
 use Rattle.hub_tables.specs.Rows.{content_cmp, receipt_cmp}
 use Rattle.hub_tables.specs.State.{contents_of, receipts_of}
 use Rattle.hub_tables.specs.Tables.{holds}
@@ -43,11 +42,11 @@ use Rattle.hub_schema.specs.Rows.{content_in, receipt_in}
 use Rattle.hub_schema.proofs.Single.{content_kinds, content_cells, receipt_kinds, receipt_cells}
 use Rattle.hub_reads.specs.Shown.{shown_content, shown_receipt}
 use Rattle.hub_reads.proofs.Asking.{reads_more}
-use Rattle.hub_reads.proofs.Listing.{rows_are, rows_spoil, all_then}
+use Rattle.hub_reads.proofs.Listing.{rows_are, rows_spoil, all_then, all_any}
 use Rattle.hub_reads.proofs.Unclean.{contents_unclean, receipts_unclean}
 use Rattle.hub_reads.proofs.Texts.{held_text, held_selects, content_columns, on_pallet_order, contents_text}
 use Rattle.hub_reads.proofs.Texts.{contents_select, receipts_text, receipts_select}
-use Rattle.std.proofs.Common.{◌<◌, ◌^◌, IfOk, arith}
+use Rattle.std.proofs.Common.{◌<◌, ◌^◌, IfOk}
 use Rattle.hub_tables.proofs.Lists.{decide}
 use Rattle.hub_reads.proofs.Joining.{looks_on, looks_then}
 use Rattle.std.proofs.Common.{Ok}
@@ -62,7 +61,7 @@ held_right s hub supplier sscc rows answer =
     let test : PalletRow → Bool = λ pallet. same pallet.supplier supplier && same pallet.sscc sscc in
     let passed : (row : Row) → AreOf pallet_kinds 0 row → passes tests params row ≡ test (pallet_in row) =
     λ row it. ap₂ (λ v w. v && w) (cell_bytes (column row 1) sscc it.0) (and_true _ ∙ cell_bytes (column row 2) supplier it.1.0)
-    ∙ and_turned (same (pallet_in row).sscc sscc) (same (pallet_in row).supplier supplier) in
+    ∙ and_comm (same (pallet_in row).sscc sscc) (same (pallet_in row).supplier supplier) in
     some_found (s.now.trees 7) tests (col 1 2 ∷ []) [] params rows
     (finds s.now.trees 7 tests (col 1 2 ∷ []) [] no_limit params rows refl answer)
     ∙ any_shown pallet_in test (passes tests params) (s.now.trees 7)
@@ -88,10 +87,7 @@ content_numbered : (content : ContentRow) → clean_content content ≡ true →
 content_numbered content h =
     let more = is_number content.number && (is_line content.line && is_quantity content.quantity) in
     let a = and_parts (is_key 18 content.sscc) (is_within 1 999_999 content.place && more) h in
-    within content.place (and_parts (is_within 1 999_999 content.place) more a.1).0
-  where
-    within : (n : ℕ) → is_within 1 999_999 n ≡ true → n < 2 ^ 64
-    within n e = grind (arith, nat_tests)
+    low_number content.place (and_parts (is_within 1 999_999 content.place) more a.1).0
 
 pub contents_look : (old new : State) (sscc : List ℕ) (result : Result (List ContentRow) StoreFault)
     → IfOk result (λ contents. list_all clean_content contents ≡ true)
@@ -117,10 +113,6 @@ contents_look old new sscc result clean asks =
     (rows_spoil content_total content_in shown_content content_columns on_pallet_order (db 10) tests params rows (λ row. refl)
     (finds db 10 tests content_columns on_pallet_order no_limit params rows refl answer) clean_content spoilt)) result
     (reads_more (λ contents. list_all clean_content contents ≡ true) result clean asks)
-
-all_any : {X : Type 0} (xs : List X) → AllByRecursion (λ _. ⊤) xs
-all_any [] = tt
-all_any (x ∷ xs) = (tt, all_any xs)
 
 receipt_ranked : (params x y : Row) → AreOf receipt_kinds 0 x × ⊤ → AreOf receipt_kinds 0 y × ⊤
     → sort_cmp on_pallet_order (params ∷ x ∷ []) (params ∷ y ∷ []) ≡ receipt_cmp (receipt_in x) (receipt_in y)

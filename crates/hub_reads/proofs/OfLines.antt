@@ -1,9 +1,8 @@
 -- What a query finds of lines.
 use Rattle.std.proofs.Common.{◌≡◌, ℕ, ◌+◌, ◌<◌, ◌^◌, nat_le, Bool, true, false, ◌&&◌, Result, IfOk, List, [], ◌∷◌, map}
-use Rattle.std.proofs.Common.{filter, refl, sym, ap, ap₂, subst, ◌∙◌, arith}
+use Rattle.std.proofs.Common.{filter, refl, sym, ap, ap₂, subst, ◌∙◌}
 use Rattle.std.specs.List.{AllByRecursion, list_all}
 use Rattle.std.proofs.lemmas.Bool.{and_parts}
-use Rattle.std.proofs.lemmas.Bool.Decides.{nat_tests}
 use Rattle.gs1_ids.specs.Digits.{is_key}
 use Rattle.gs1_ids.specs.Gln.{is_gln}
 use Rattle.std.specs.Ordering.{ordering_then}
@@ -14,7 +13,7 @@ use Rattle.sqlite_sql.specs.Query.{IsAnswer, sort_cmp}
 use Rattle.sqlite_sql.specs.Program.{overlay}
 use Rattle.sqlite.specs.State.{State}
 use Rattle.sql_rows.specs.Cells.{AreOf}
-use Rattle.hub_store.specs.Clean.{are_clean, clean_line, is_answer, is_line, is_number, is_quantity, is_within}
+use Rattle.hub_store.specs.Clean.{are_clean, clean_line, is_answer, is_line, is_number, is_quantity}
 use Rattle.hub_store.specs.declared.fault.StoreFault.{StoreFault}
 use Rattle.hub_tables.specs.Rows.{same, line_cmp}
 use Rattle.hub_tables.specs.State.{lines_of}
@@ -32,7 +31,7 @@ use Rattle.hub_reads.proofs.Finding.{all_of, no_limit, passes, Finds, finds}
 use Rattle.hub_reads.proofs.Listing.{shown_say, sources_have, sources_are, sources_sorted, sources_spoil, all_of_map}
 use Rattle.hub_reads.proofs.Listing.{all_both, all_then, filter_both}
 use Rattle.hub_reads.proofs.Looking.{looks}
-use Rattle.hub_reads.proofs.Ranking.{then_none, rank_bytes, rank_numbers}
+use Rattle.hub_reads.proofs.Ranking.{then_none, rank_bytes, rank_numbers, low_number}
 use Rattle.hub_reads.proofs.Texts.{given_at, line_columns, line_order, lines_text, lines_select, all_lines_text, all_lines_select}
 use Rattle.hub_reads.proofs.Unclean.{lines_unclean}
 use Rattle.sql_rows.proofs.Answers.{and_true}
@@ -55,10 +54,7 @@ line_numbered line h =
     && (nat_le (line.open_qty + line.refused + line.cancelled) line.ordered && is_answer line.answer)) in
     let a = and_parts (is_gln line.supplier) (is_number line.number && (is_line line.line && more)) h in
     let b = and_parts (is_number line.number) (is_line line.line && more) a.1 in
-    within (line.line) (and_parts (is_line line.line) more b.1).0
-  where
-    within : (n : ℕ) → is_within 1 999_999 n ≡ true → n < 2 ^ 64
-    within n e = grind (arith, nat_tests)
+    low_number line.line (and_parts (is_line line.line) more b.1).0
 
 module _ (s : State) (hub : IsHub s) (tests : List Term) (params : Row) (rows : List Row)
     (answer : IsAnswer (all_of 3 tests line_columns line_order) (overlay s.now.trees []) params rows) where

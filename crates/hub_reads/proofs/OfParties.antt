@@ -23,14 +23,10 @@ use Rattle.hub_schema.proofs.Single.{hub_kinds, hub_cells, key_kinds, key_cells,
 use Rattle.hub_reads.specs.Asks.{Asks}
 use Rattle.hub_reads.specs.Shown.{shown_hub, shown_key, shown_prefix}
 use Rattle.hub_reads.proofs.Finding.{all_of, no_limit, Finds, finds}
-use Rattle.hub_reads.proofs.Listing.{rows_are, rows_spoil}
+use Rattle.hub_reads.proofs.Listing.{rows_are, rows_spoil, all_any}
 use Rattle.hub_reads.proofs.Looking.{looks_in}
 use Rattle.hub_reads.proofs.Ranking.{then_none, rank_bytes}
 use Rattle.hub_reads.proofs.Texts.{rising, hubs_text, hubs_select, keys_text, keys_select, prefixes_text, prefixes_select}
-
-each : {X : Type 0} (xs : List X) → AllByRecursion (λ x. ⊤) xs
-each [] = tt
-each (x ∷ xs) = (tt, each xs)
 
 all_pass : {X : Type 0} (xs : List X) → filter (λ x. true) xs ≡ xs
 all_pass [] = refl
@@ -46,7 +42,7 @@ module _ {X : Type 0} {cmp : X → X → Ordering} (total : IsTotalOrder cmp) (f
       → map shown rows ≡ in_key_order cmp (map f stored)
   all_are P ranked cells rises =
       rows_are total f shown columns (rising 1 ∷ []) stored [] [] rows says found P (λ x. ⊤) (λ x y a b. ranked x y a.0 b.0)
-      cells (λ x. true) (λ row it. refl) rises (each (map shown rows))
+      cells (λ x. true) (λ row it. refl) rises (all_any (map shown rows))
       ∙ all_pass (in_key_order cmp (map f stored))
 
   all_spoil : (clean : X → Bool) → list_all clean (map shown rows) ≡ false

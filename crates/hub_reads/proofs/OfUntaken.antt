@@ -258,10 +258,6 @@ above_greater supplier number mail none =
     (whose entry && wanted number entry) ≡ (whose entry && greater entry)) each mail (all_not (low_of supplier) mail none))
     ∙ sym (filter_both whose greater mail)
   where
-    true_right : (b : Bool) → (b && true) ≡ b
-    true_right true = refl
-    true_right false = refl
-
     each : (entry : MailRow) → low_of supplier entry ≡ false
         → (same entry.supplier supplier && wanted number entry)
         ≡ (same entry.supplier supplier && (nat_lt number entry.number && not (is_taken entry)))
@@ -269,7 +265,7 @@ above_greater supplier number mail none =
       | inl e ↦
           let high : is_low entry.number ≡ false = sym (ap (λ b. b && is_low entry.number) e) ∙ low in
           ap (λ b. same entry.supplier supplier && ((nat_lt number entry.number && not b) && not (is_taken entry))) high
-          ∙ ap (λ b. same entry.supplier supplier && (b && not (is_taken entry))) (true_right (nat_lt number entry.number))
+          ∙ ap (λ b. same entry.supplier supplier && (b && not (is_taken entry))) (and_true (nat_lt number entry.number))
       | inr e ↦ ap (λ b. b && wanted number entry) e ∙ sym (ap (λ b. b && (nat_lt number entry.number && not (is_taken entry))) e)
     ]
 

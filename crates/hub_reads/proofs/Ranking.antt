@@ -1,5 +1,5 @@
 -- The order of cells is that of what they say.
-use Rattle.std.proofs.Common.{◌≡◌, ℕ, ◌<◌, ◌^◌, ◌*◌, nat_lt, ℤ, pos, negsuc, cond, inl, inr, false, refl, sym, ap, ap₂, ◌∙◌, arith}
+use Rattle.std.proofs.Common.{◌≡◌, ℕ, ◌<◌, ◌^◌, ◌*◌, nat_lt, ℤ, pos, negsuc, cond, inl, inr, true, false, refl, sym, ap, ap₂, ◌∙◌, arith}
 use Rattle.std.specs.declared.cmp.Ordering.{Ordering}
 use Rattle.std.specs.declared.cmp.Ordering.TheVariants.{Less, Equal, Greater}
 use Rattle.std.specs.Ordering.{nat_cmp, int_cmp, ordering_then}
@@ -13,6 +13,7 @@ use Rattle.sqlite_value.proofs.OrderLemmas.{value_cmp-Blob, value_cmp-Int}
 use Rattle.sqlite_schema.specs.declared.schema.Kind.TheVariants as kind
 use Rattle.sql_rows.specs.Cells.{IsOf}
 use Rattle.hub_parties.specs.KeyOrder.{bytes_cmp}
+use Rattle.hub_store.specs.Clean.{is_within}
 use Rattle.hub_schema.specs.Cells.{bytes_in, natural, number_in}
 
 pub then_none : (o : Ordering) → ordering_then o Equal ≡ o
@@ -34,7 +35,7 @@ is_counted (pos k) low = elim (cases_Bool (nat_lt k (2 ^ 64))) [
     high k n e is low = grind (arith, nat_tests)
 is_counted (negsuc k) low = absurd (omega (arith, low))
 
-nat_int : (a b : ℕ) → int_cmp (pos a) (pos b) ≡ nat_cmp a b
+pub nat_int : (a b : ℕ) → int_cmp (pos a) (pos b) ≡ nat_cmp a b
 nat_int a b = grind (arith, ints, nat_tests)
 
 pub rank_numbers : (v w : Value) → IsOf kind.Integer v → IsOf kind.Integer w → number_in v < 2 ^ 64 → number_in w < 2 ^ 64
@@ -44,3 +45,7 @@ rank_numbers v w a b low also =
     let second : b.0 ≡ pos (number_in w) = is_counted b.0 (rw (sym (ap number_in b.1)) also) ∙ ap pos (sym (ap number_in b.1)) in
     ap₂ value_cmp (a.1 ∙ ap Int first) (b.1 ∙ ap Int second) ∙ value_cmp-Int (pos (number_in v)) (pos (number_in w))
     ∙ nat_int (number_in v) (number_in w)
+
+-- the number of a line, or of a place on a pallet, that is within its limits
+pub low_number : (n : ℕ) → is_within 1 999_999 n ≡ true → n < 2 ^ 64
+low_number n e = grind (arith, nat_tests)

@@ -6,6 +6,7 @@ use Rattle.std.specs.List.Sorted.{IsPermutation}
 use Rattle.std.specs.declared.cmp.Ordering.{Ordering}
 use Rattle.std.specs.declared.cmp.Ordering.TheVariants.{Less, Equal, Greater}
 use Rattle.std.specs.Ordering.{is_eq, nat_cmp, ordering_then}
+use Rattle.std.proofs.Math.Bool.{and_comm}
 use Rattle.std.proofs.lemmas.Bool.{cases_Bool}
 use Rattle.std.proofs.lemmas.Bool.Decides.{nat_tests}
 use Rattle.std.proofs.lemmas.Map.Text.{is_eq-slice_cmp}
@@ -17,18 +18,12 @@ use Rattle.hub_tables.proofs.Lists.{all_passes, all_weaker, same_is, same_if}
 use Rattle.hub_reads.proofs.Listing.{filter_both, all_clean, clean_all}
 use Rattle.hub_reads.proofs.Sorting.{rises_filter}
 
-pub and_turned : (a b : Bool) → (a && b) ≡ (b && a)
-and_turned true true = refl
-and_turned true false = refl
-and_turned false true = refl
-and_turned false false = refl
-
 filter_alike : {X : Type 0} (p q : X → Bool) → ((x : X) → p x ≡ q x) → (xs : List X) → filter p xs ≡ filter q xs
 filter_alike p q h [] = refl
 filter_alike p q h (x ∷ xs) = ap₂ (λ v ys. cond v (x ∷ ys) ys) (h x) (filter_alike p q h xs)
 
 pub filter_turned : {X : Type 0} (p q : X → Bool) (xs : List X) → filter (λ x. p x && q x) xs ≡ filter p (filter q xs)
-filter_turned p q xs = filter_alike (λ x. p x && q x) (λ x. q x && p x) (λ x. and_turned (p x) (q x)) xs ∙ sym (filter_both q p xs)
+filter_turned p q xs = filter_alike (λ x. p x && q x) (λ x. q x && p x) (λ x. and_comm (p x) (q x)) xs ∙ sym (filter_both q p xs)
 
 pub first_passes : {X : Type 0} (p : X → Bool) (xs : List X) → slice_get (filter p xs) 0 ≡ find p xs
 first_passes p [] = refl

@@ -7,6 +7,7 @@ use Rattle.std.specs.declared.cmp.Ordering.{Ordering}
 use Rattle.std.specs.declared.cmp.Ordering.TheVariants.{Less, Equal, Greater}
 use Rattle.std.specs.Ordering.{is_gt, is_lt, is_eq, ordering_reverse, on}
 use Rattle.std.specs.Cmp.{IsTotalOrder}
+use Rattle.std.proofs.lemmas.List.{get_or_default}
 use Rattle.std.proofs.lemmas.List.Elements.{recursion_from_All, All-from_recursion}
 use Rattle.std.proofs.lemmas.List.Sorted.{sorted_far, ranks_by, Contains-permutation, IsPermutation-refl}
 use Rattle.std.proofs.lemmas.List.Sorted.{IsPermutation-sym, IsPermutation-trans, IsPermutation-cons}
@@ -112,19 +113,14 @@ module _ {X : Type 0} {cmp : X → X → Ordering} (total : IsTotalOrder cmp) wh
       one_list total ys xs up rises (λ x h. permuted_has ys xs (IsPermutation-sym xs ys p) x h) (λ x h. permuted_has xs ys p x h)
 
 -- Sorting by what a row says.
-in_range : {X : Type 0} (xs : List X) (k : ℕ) (d e : X) → k < length xs → get_or xs k d ≡ get_or xs k e
-in_range [] k d e low = absurd (omega (arith, low))
-in_range (x ∷ xs) zero d e low = refl
-in_range (x ∷ xs) (suc k) d e low = in_range xs k d e (omega (arith, low))
-
 pub sorted_map : {X Y : Type 0} (f : X → Y) (cmp : Y → Y → Ordering) (xs : List X) → IsSorted (on f cmp) xs → IsSorted cmp (map f xs)
 sorted_map f cmp [] sorted k d low high = absurd (omega (arith, high))
 sorted_map f cmp (x ∷ xs) sorted k d low high =
     let long : k + 1 < length (x ∷ xs) = subst (λ n. k + 1 < n) (length_map f (x ∷ xs)) high in
     let less : k < length (map f (x ∷ xs)) = omega (arith, high) in
     rw (
-      in_range (map f (x ∷ xs)) k d (f x) less,
-      in_range (map f (x ∷ xs)) (k + 1) d (f x) high,
+      get_or_default (map f (x ∷ xs)) k d (f x) less,
+      get_or_default (map f (x ∷ xs)) (k + 1) d (f x) high,
       at_map f (x ∷ xs) k x,
       at_map f (x ∷ xs) (k + 1) x,
       sorted k x low long,

@@ -1,21 +1,14 @@
 -- When a row lacks the form of its kind.
-use Rattle.std.proofs.Common.{◌==◌, ◌≤◌, ◌^◌, [], ◌∷◌, ◌≡◌, ℕ, ◌+◌, ◌-◌, ◌<◌, nat_lt, List, length, get_or, Bool, true, false, ◌&&◌, Option}
+use Rattle.std.proofs.Common.{◌==◌, ◌≤◌, ◌^◌, [], ◌∷◌, ◌≡◌, ℕ, ◌+◌, ◌-◌, ◌<◌, nat_lt, List, length, get_or, Bool, true, false, Option}
 use Rattle.std.proofs.Common.{Some, None, if◌then◌else◌, nat_le, refl, arith}
+use Rattle.std.proofs.Math.Bool.{and-false}
+pub use Rattle.std.proofs.lemmas.Bool.{and_left as first_fails, and_right as later_fails}
 use Rattle.std.proofs.lemmas.Bool.Decides.{nat_tests}
 use Rattle.std.proofs.lemmas.List.Sums.{list_all-from_AllPass}
 use Rattle.std.specs.List.{list_all, list_any}
-use Rattle.hub_store.specs.Clean.{is_within, are_bytes, are_clean, clean_order, clean_line, clean_advice, clean_pallet}
-use Rattle.hub_store.specs.Clean.{clean_content, clean_receipt, clean_remembered, clean_mail, clean_hub, clean_key}
-use Rattle.hub_store.specs.Clean.{clean_prefix}
+use Rattle.hub_store.specs.Clean.{is_within, are_bytes, are_clean, clean_line, clean_pallet}
+use Rattle.hub_store.specs.Clean.{clean_content, clean_receipt, clean_remembered, clean_mail}
 use Rattle.hub_tables.specs.Tables.{Tables}
-
-pub first_fails : (a b : Bool) → a ≡ false → (a && b) ≡ false
-first_fails true b h = absurd cc
-first_fails false b h = refl
-
-pub later_fails : (a b : Bool) → b ≡ false → (a && b) ≡ false
-later_fails true b h = h
-later_fails false b h = refl
 
 pub bytes_fit : (xs : List ℕ) → ((k d : ℕ) → k < length xs → get_or xs k d < 256) → are_bytes xs ≡ true
 bytes_fit xs h = list_all-from_AllPass (λ byte. nat_lt byte 256) xs (λ k d within. less (get_or xs k d) (h k d within))
@@ -58,116 +51,23 @@ no_more most n h = grind (arith, nat_tests)
 
 -- where a row of one table lacks the form of its kind
 module _ (t : Tables) where
-  -- the tables behind those of the register
-  abbrev traffic : Bool
-  traffic = list_all clean_order t.orders && (list_all clean_line t.lines
-      && (list_all clean_advice t.advices && (list_all clean_pallet t.pallets
-      && (list_all clean_content t.contents && (list_all clean_receipt t.receipts
-      && (list_all clean_remembered t.remembered && list_all clean_mail t.mail))))))
-
-  of_traffic : traffic ≡ false → are_clean t ≡ false
-  of_traffic h =
-      later_fails (list_all clean_hub t.hubs) (list_all clean_key t.keys && (list_all clean_prefix t.prefixes && traffic))
-      (later_fails (list_all clean_key t.keys) (list_all clean_prefix t.prefixes && traffic)
-      (later_fails (list_all clean_prefix t.prefixes) traffic h))
-
   pub lines_unclean : list_all clean_line t.lines ≡ false → are_clean t ≡ false
-  lines_unclean h =
-      of_traffic (later_fails (list_all clean_order t.orders) (list_all clean_line t.lines
-      && (list_all clean_advice t.advices && (list_all clean_pallet t.pallets
-      && (list_all clean_content t.contents && (list_all clean_receipt t.receipts
-      && (list_all clean_remembered t.remembered && list_all clean_mail t.mail))))))
-      (first_fails (list_all clean_line t.lines) (list_all clean_advice t.advices
-      && (list_all clean_pallet t.pallets && (list_all clean_content t.contents
-      && (list_all clean_receipt t.receipts && (list_all clean_remembered t.remembered && list_all clean_mail t.mail))))) h))
+  lines_unclean h = simp (h, and-false)
 
   pub pallets_unclean : list_all clean_pallet t.pallets ≡ false → are_clean t ≡ false
-  pallets_unclean h =
-      of_traffic (later_fails (list_all clean_order t.orders) (list_all clean_line t.lines
-      && (list_all clean_advice t.advices && (list_all clean_pallet t.pallets
-      && (list_all clean_content t.contents && (list_all clean_receipt t.receipts
-      && (list_all clean_remembered t.remembered && list_all clean_mail t.mail))))))
-      (later_fails (list_all clean_line t.lines) (list_all clean_advice t.advices
-      && (list_all clean_pallet t.pallets && (list_all clean_content t.contents
-      && (list_all clean_receipt t.receipts && (list_all clean_remembered t.remembered && list_all clean_mail t.mail)))))
-      (later_fails (list_all clean_advice t.advices) (list_all clean_pallet t.pallets
-      && (list_all clean_content t.contents && (list_all clean_receipt t.receipts
-      && (list_all clean_remembered t.remembered && list_all clean_mail t.mail))))
-      (first_fails (list_all clean_pallet t.pallets) (list_all clean_content t.contents
-      && (list_all clean_receipt t.receipts && (list_all clean_remembered t.remembered && list_all clean_mail t.mail))) h))))
+  pallets_unclean h = simp (h, and-false)
 
   pub contents_unclean : list_all clean_content t.contents ≡ false → are_clean t ≡ false
-  contents_unclean h =
-      of_traffic (later_fails (list_all clean_order t.orders) (list_all clean_line t.lines
-      && (list_all clean_advice t.advices && (list_all clean_pallet t.pallets
-      && (list_all clean_content t.contents && (list_all clean_receipt t.receipts
-      && (list_all clean_remembered t.remembered && list_all clean_mail t.mail))))))
-      (later_fails (list_all clean_line t.lines) (list_all clean_advice t.advices
-      && (list_all clean_pallet t.pallets && (list_all clean_content t.contents
-      && (list_all clean_receipt t.receipts && (list_all clean_remembered t.remembered && list_all clean_mail t.mail)))))
-      (later_fails (list_all clean_advice t.advices) (list_all clean_pallet t.pallets
-      && (list_all clean_content t.contents && (list_all clean_receipt t.receipts
-      && (list_all clean_remembered t.remembered && list_all clean_mail t.mail))))
-      (later_fails (list_all clean_pallet t.pallets) (list_all clean_content t.contents
-      && (list_all clean_receipt t.receipts && (list_all clean_remembered t.remembered && list_all clean_mail t.mail)))
-      (first_fails (list_all clean_content t.contents) (list_all clean_receipt t.receipts
-      && (list_all clean_remembered t.remembered && list_all clean_mail t.mail)) h)))))
+  contents_unclean h = simp (h, and-false)
 
   pub receipts_unclean : list_all clean_receipt t.receipts ≡ false → are_clean t ≡ false
-  receipts_unclean h =
-      of_traffic (later_fails (list_all clean_order t.orders) (list_all clean_line t.lines
-      && (list_all clean_advice t.advices && (list_all clean_pallet t.pallets
-      && (list_all clean_content t.contents && (list_all clean_receipt t.receipts
-      && (list_all clean_remembered t.remembered && list_all clean_mail t.mail))))))
-      (later_fails (list_all clean_line t.lines) (list_all clean_advice t.advices
-      && (list_all clean_pallet t.pallets && (list_all clean_content t.contents
-      && (list_all clean_receipt t.receipts && (list_all clean_remembered t.remembered && list_all clean_mail t.mail)))))
-      (later_fails (list_all clean_advice t.advices) (list_all clean_pallet t.pallets
-      && (list_all clean_content t.contents && (list_all clean_receipt t.receipts
-      && (list_all clean_remembered t.remembered && list_all clean_mail t.mail))))
-      (later_fails (list_all clean_pallet t.pallets) (list_all clean_content t.contents
-      && (list_all clean_receipt t.receipts && (list_all clean_remembered t.remembered && list_all clean_mail t.mail)))
-      (later_fails (list_all clean_content t.contents) (list_all clean_receipt t.receipts
-      && (list_all clean_remembered t.remembered && list_all clean_mail t.mail))
-      (first_fails (list_all clean_receipt t.receipts) (list_all clean_remembered t.remembered && list_all clean_mail t.mail) h))))))
+  receipts_unclean h = simp (h, and-false)
 
   pub remembered_unclean : list_all clean_remembered t.remembered ≡ false → are_clean t ≡ false
-  remembered_unclean h =
-      of_traffic (later_fails (list_all clean_order t.orders) (list_all clean_line t.lines
-      && (list_all clean_advice t.advices && (list_all clean_pallet t.pallets
-      && (list_all clean_content t.contents && (list_all clean_receipt t.receipts
-      && (list_all clean_remembered t.remembered && list_all clean_mail t.mail))))))
-      (later_fails (list_all clean_line t.lines) (list_all clean_advice t.advices
-      && (list_all clean_pallet t.pallets && (list_all clean_content t.contents
-      && (list_all clean_receipt t.receipts && (list_all clean_remembered t.remembered && list_all clean_mail t.mail)))))
-      (later_fails (list_all clean_advice t.advices) (list_all clean_pallet t.pallets
-      && (list_all clean_content t.contents && (list_all clean_receipt t.receipts
-      && (list_all clean_remembered t.remembered && list_all clean_mail t.mail))))
-      (later_fails (list_all clean_pallet t.pallets) (list_all clean_content t.contents
-      && (list_all clean_receipt t.receipts && (list_all clean_remembered t.remembered && list_all clean_mail t.mail)))
-      (later_fails (list_all clean_content t.contents) (list_all clean_receipt t.receipts
-      && (list_all clean_remembered t.remembered && list_all clean_mail t.mail))
-      (later_fails (list_all clean_receipt t.receipts) (list_all clean_remembered t.remembered && list_all clean_mail t.mail)
-      (first_fails (list_all clean_remembered t.remembered) (list_all clean_mail t.mail) h)))))))
+  remembered_unclean h = simp (h, and-false)
 
   pub mail_unclean : list_all clean_mail t.mail ≡ false → are_clean t ≡ false
-  mail_unclean h =
-      of_traffic (later_fails (list_all clean_order t.orders) (list_all clean_line t.lines
-      && (list_all clean_advice t.advices && (list_all clean_pallet t.pallets
-      && (list_all clean_content t.contents && (list_all clean_receipt t.receipts
-      && (list_all clean_remembered t.remembered && list_all clean_mail t.mail))))))
-      (later_fails (list_all clean_line t.lines) (list_all clean_advice t.advices
-      && (list_all clean_pallet t.pallets && (list_all clean_content t.contents
-      && (list_all clean_receipt t.receipts && (list_all clean_remembered t.remembered && list_all clean_mail t.mail)))))
-      (later_fails (list_all clean_advice t.advices) (list_all clean_pallet t.pallets
-      && (list_all clean_content t.contents && (list_all clean_receipt t.receipts
-      && (list_all clean_remembered t.remembered && list_all clean_mail t.mail))))
-      (later_fails (list_all clean_pallet t.pallets) (list_all clean_content t.contents
-      && (list_all clean_receipt t.receipts && (list_all clean_remembered t.remembered && list_all clean_mail t.mail)))
-      (later_fails (list_all clean_content t.contents) (list_all clean_receipt t.receipts
-      && (list_all clean_remembered t.remembered && list_all clean_mail t.mail))
-      (later_fails (list_all clean_receipt t.receipts) (list_all clean_remembered t.remembered && list_all clean_mail t.mail)
-      (later_fails (list_all clean_remembered t.remembered) (list_all clean_mail t.mail) (h))))))))
+  mail_unclean h = simp (h, and-false)
 
 -- what a line says that is not clean
 pub ruleset unclean_line = (first_fails, later_fails, too_open, too_refused, too_cancelled)

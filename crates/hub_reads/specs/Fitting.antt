@@ -8,7 +8,7 @@ use Rattle.hub_tables.specs.Tables.{Tables}
 use Rattle.hub_founding.specs.Fits.{is_registered, is_under, fits_pallet}
 use Rattle.hub_store.specs.declared.fault.StoreFault.{StoreFault}
 use Rattle.hub_schema.specs.Cells.{bytes_in}
-use Rattle.hub_schema.specs.State.{LooksForOld}
+use Rattle.hub_schema.specs.State.{LooksForOld, Never}
 
 -- what a query shows: the supplier of a row, or the SSCC and the supplier of a pallet
 abbrev pub registered_in : RegisterRows → Row → Bool
@@ -51,4 +51,4 @@ from_lines register t = lines_fit register t && from_advices register t
 
 -- a look-up in schema 1 that tells this, and is never `Unclean`
 abbrev pub TellsOld : (Tables → Bool) → State → State → Result Bool StoreFault → Type 0
-TellsOld fit = LooksForOld (λ t is. is ≡ fit t) (λ _. ⊥)
+TellsOld fit = LooksForOld (λ t is. is ≡ fit t) Never

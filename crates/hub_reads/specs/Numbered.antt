@@ -4,7 +4,7 @@ use Rattle.sqlite.specs.State.{State, HasCleanDisk, Survives}
 use Rattle.hub_store.specs.declared.fault.StoreFault.{StoreFault}
 use Rattle.hub_store.specs.declared.fault.StoreFault.TheVariants.{Memory, Disk}
 use Rattle.hub_schema.specs.Schema.{old_schema, hub_schema}
-use Rattle.hub_schema.specs.State.{HasNumber, Spares}
+use Rattle.hub_schema.specs.State.{HasNumber, Never, Spares}
 
 -- whether it is this, exactly, in the tables of a hub or in those of schema 1; nothing changes, also after a crash;
 -- after a fault a transaction that was open may be undone
@@ -18,4 +18,4 @@ pub record TellsNumber (n : ℕ) (old new : State) (result : Result Bool StoreFa
   pub fault : IfErr result (λ fault. (fault ≡ Memory) ⊎ (fault ≡ Disk))
   pub leaves : HasCleanDisk new → Spares old new result
   pub mode : old.in_transaction ≡ false → new.in_transaction ≡ false
-  pub crash : Survives old new (λ _. ⊥)
+  pub crash : Survives old new Never

@@ -16,7 +16,8 @@ pub fn advice_known<S: Alter>(
     supplier: &Gln,
     number: &[u8],
 ) -> Result<bool, StoreFault>
-    ensures looks { LooksUp (λ t. knows_advice (view supplier.now t) number.now) (state S.Store conn.old) (state S.Store conn.new) result }
+    ensures looks { LooksUp (λ t. knows_advice (view supplier.now t) number.now)
+        (state S.Store conn.old) (state S.Store conn.new) result }
 {
     has_row(
         conn,

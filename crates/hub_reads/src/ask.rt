@@ -3,6 +3,7 @@ ghost use Rattle.std.specs.Prelude.{◌≡◌, ◌⊎◌, ◌==◌, false, not, 
 ghost use Rattle.std.specs.List.{list_all};
 ghost use Rattle.sqlite.specs.Held.{state};
 ghost use Rattle.sqlite.specs.Values.{bound};
+ghost use Rattle.hub_schema.specs.State.{Never};
 ghost use Rattle.hub_reads.specs.Asks.{Asks};
 
 use crate::shown::{Shown, all_shown, first_shown};
@@ -19,7 +20,7 @@ pub(crate) fn ask<S: Alter>(
     text: &str,
     params: &[ValueRef<'_>],
 ) -> Result<Vec<Row>, StoreFault>
-    ensures asks { Asks (λ rows answer. answer.items ≡ rows) (λ _. ⊥) text.now
+    ensures asks { Asks (λ rows answer. answer.items ≡ rows) Never text.now
         (bound params.now) (state S.Store conn.old) (state S.Store conn.new) result }
     ensures fails { IfErr result (λ fault. (fault ≡ StoreFault.Memory) ⊎ (fault ≡ StoreFault.Disk)) }
 {
@@ -36,7 +37,7 @@ pub(crate) fn has_row<S: Alter>(
     text: &str,
     params: &[ValueRef<'_>],
 ) -> Result<bool, StoreFault>
-    ensures asks { Asks (λ rows answer. answer ≡ not (length rows == 0)) (λ _. ⊥) text.now
+    ensures asks { Asks (λ rows answer. answer ≡ not (length rows == 0)) Never text.now
         (bound params.now) (state S.Store conn.old) (state S.Store conn.new) result }
 {
     let rows = ask(conn, text, params)?;
@@ -50,7 +51,8 @@ pub(crate) fn rows_of<S: Alter, T: Shown>(
     text: &str,
     params: &[ValueRef<'_>],
 ) -> Result<Items<T>, StoreFault>
-    ensures asks { Asks (λ rows items. items ≡ map T.shown rows) (λ rows. list_all T.clean (map T.shown rows) ≡ false) text.now
+    ensures asks { Asks (λ rows items. items ≡ map T.shown rows)
+        (λ rows. list_all T.clean (map T.shown rows) ≡ false) text.now
         (bound params.now) (state S.Store conn.old) (state S.Store conn.new) result }
     ensures clean { IfOk result (λ items. IsTrue (list_all T.clean items)) }
 {
@@ -64,8 +66,9 @@ pub(crate) fn first_of<S: Alter, T: Shown>(
     text: &str,
     params: &[ValueRef<'_>],
 ) -> Result<Option<T>, StoreFault>
-    ensures asks { Asks (λ rows first. first ≡ slice_get (map T.shown rows) 0) (λ rows. list_all T.clean (map T.shown rows)
-        ≡ false) text.now (bound params.now) (state S.Store conn.old) (state S.Store conn.new) result }
+    ensures asks { Asks (λ rows first. first ≡ slice_get (map T.shown rows) 0)
+        (λ rows. list_all T.clean (map T.shown rows) ≡ false)
+        text.now (bound params.now) (state S.Store conn.old) (state S.Store conn.new) result }
     ensures clean { IfOk result (λ first. IfSome first (λ x. IsTrue (T.clean x))) }
 {
     let rows = ask(conn, text, params)?;

@@ -43,7 +43,8 @@ pub fn contents_of<S: Alter>(
     supplier: &Gln,
     sscc: &Sscc,
 ) -> Result<Items<ContentRow>, StoreFault>
-    ensures looks { LooksUp (λ t. contents (view supplier.now t) sscc.now) (state S.Store conn.old) (state S.Store conn.new) result }
+    ensures looks { LooksUp (λ t. contents (view supplier.now t) sscc.now)
+        (state S.Store conn.old) (state S.Store conn.new) result }
     ensures clean { IfOk result (λ rows. IsTrue (list_all clean_content rows)) }
 {
     let held = is_held(conn, supplier, sscc)?;

@@ -7,7 +7,7 @@ ghost use Rattle.gs1_ids.specs.Sscc.{under_some};
 ghost use Rattle.hub_founding.specs.Fits as founding;
 ghost use Rattle.hub_parties.specs.Rows.{row_of};
 ghost use Rattle.hub_schema.specs.Cells.{bytes_in};
-ghost use Rattle.hub_schema.specs.State.{LooksForOld};
+ghost use Rattle.hub_schema.specs.State.{LooksForOld, Never};
 ghost use Rattle.hub_reads.specs.Asks.{Asks};
 ghost use Rattle.hub_reads.specs.Fitting as spec;
 
@@ -77,7 +77,7 @@ fn are_registered<S: Alter>(
     text: &str,
 ) -> Result<bool, StoreFault>
     ensures asks { Asks (λ rows is. is ≡ list_all (spec.registered_in register.now) rows)
-        (λ _. ⊥) text.now [] (state S.Store conn.old) (state S.Store conn.new) result }
+        Never text.now [] (state S.Store conn.old) (state S.Store conn.new) result }
     ensures fails { IfErr result (λ fault. (fault ≡ StoreFault.Memory) ⊎ (fault ≡ StoreFault.Disk)) }
 {
     let rows = ask(conn, text, &[])?;
@@ -91,7 +91,7 @@ fn do_pallets_fit<S: Alter>(
     text: &str,
 ) -> Result<bool, StoreFault>
     ensures asks { Asks (λ rows is. is ≡ list_all (spec.pallet_fits register.now) rows)
-        (λ _. ⊥) text.now [] (state S.Store conn.old) (state S.Store conn.new) result }
+        Never text.now [] (state S.Store conn.old) (state S.Store conn.new) result }
     ensures fails { IfErr result (λ fault. (fault ≡ StoreFault.Memory) ⊎ (fault ≡ StoreFault.Disk)) }
 {
     let rows = ask(conn, text, &[])?;
@@ -99,28 +99,32 @@ fn do_pallets_fit<S: Alter>(
 }
 
 fn orders_fit<S: Alter>(conn: &mut Connection<S>, register: &Register) -> Result<bool, StoreFault>
-    ensures looks { spec.TellsOld (spec.orders_fit register.now) (state S.Store conn.old) (state S.Store conn.new) result }
+    ensures looks { spec.TellsOld (spec.orders_fit register.now)
+        (state S.Store conn.old) (state S.Store conn.new) result }
     ensures fails { IfErr result (λ fault. (fault ≡ StoreFault.Memory) ⊎ (fault ≡ StoreFault.Disk)) }
 {
     are_registered(conn, register, "SELECT supplier FROM \"order\"")
 }
 
 fn lines_fit<S: Alter>(conn: &mut Connection<S>, register: &Register) -> Result<bool, StoreFault>
-    ensures looks { spec.TellsOld (spec.lines_fit register.now) (state S.Store conn.old) (state S.Store conn.new) result }
+    ensures looks { spec.TellsOld (spec.lines_fit register.now)
+        (state S.Store conn.old) (state S.Store conn.new) result }
     ensures fails { IfErr result (λ fault. (fault ≡ StoreFault.Memory) ⊎ (fault ≡ StoreFault.Disk)) }
 {
     are_registered(conn, register, "SELECT supplier FROM line")
 }
 
 fn advices_fit<S: Alter>(conn: &mut Connection<S>, register: &Register) -> Result<bool, StoreFault>
-    ensures looks { spec.TellsOld (spec.advices_fit register.now) (state S.Store conn.old) (state S.Store conn.new) result }
+    ensures looks { spec.TellsOld (spec.advices_fit register.now)
+        (state S.Store conn.old) (state S.Store conn.new) result }
     ensures fails { IfErr result (λ fault. (fault ≡ StoreFault.Memory) ⊎ (fault ≡ StoreFault.Disk)) }
 {
     are_registered(conn, register, "SELECT supplier FROM advice")
 }
 
 fn pallets_fit<S: Alter>(conn: &mut Connection<S>, register: &Register) -> Result<bool, StoreFault>
-    ensures looks { spec.TellsOld (spec.pallets_fit register.now) (state S.Store conn.old) (state S.Store conn.new) result }
+    ensures looks { spec.TellsOld (spec.pallets_fit register.now)
+        (state S.Store conn.old) (state S.Store conn.new) result }
     ensures fails { IfErr result (λ fault. (fault ≡ StoreFault.Memory) ⊎ (fault ≡ StoreFault.Disk)) }
 {
     do_pallets_fit(conn, register, "SELECT sscc, supplier FROM pallet")
@@ -130,14 +134,16 @@ fn remembered_fit<S: Alter>(
     conn: &mut Connection<S>,
     register: &Register,
 ) -> Result<bool, StoreFault>
-    ensures looks { spec.TellsOld (spec.remembered_fit register.now) (state S.Store conn.old) (state S.Store conn.new) result }
+    ensures looks { spec.TellsOld (spec.remembered_fit register.now)
+        (state S.Store conn.old) (state S.Store conn.new) result }
     ensures fails { IfErr result (λ fault. (fault ≡ StoreFault.Memory) ⊎ (fault ≡ StoreFault.Disk)) }
 {
     are_registered(conn, register, "SELECT supplier FROM remembered")
 }
 
 fn mail_fits<S: Alter>(conn: &mut Connection<S>, register: &Register) -> Result<bool, StoreFault>
-    ensures looks { spec.TellsOld (spec.mail_fits register.now) (state S.Store conn.old) (state S.Store conn.new) result }
+    ensures looks { spec.TellsOld (spec.mail_fits register.now)
+        (state S.Store conn.old) (state S.Store conn.new) result }
     ensures fails { IfErr result (λ fault. (fault ≡ StoreFault.Memory) ⊎ (fault ≡ StoreFault.Disk)) }
 {
     are_registered(conn, register, "SELECT supplier FROM mail")
@@ -145,7 +151,8 @@ fn mail_fits<S: Alter>(conn: &mut Connection<S>, register: &Register) -> Result<
 
 // The pallets, what is remembered, and the mail.
 fn from_pallets<S: Alter>(conn: &mut Connection<S>, register: &Register) -> Result<bool, StoreFault>
-    ensures looks { spec.TellsOld (spec.from_pallets register.now) (state S.Store conn.old) (state S.Store conn.new) result }
+    ensures looks { spec.TellsOld (spec.from_pallets register.now)
+        (state S.Store conn.old) (state S.Store conn.new) result }
     ensures fails { IfErr result (λ fault. (fault ≡ StoreFault.Memory) ⊎ (fault ≡ StoreFault.Disk)) }
 {
     let pallets = pallets_fit(conn, register)?;
@@ -163,7 +170,7 @@ fn from_pallets<S: Alter>(conn: &mut Connection<S>, register: &Register) -> Resu
 /// one of its company prefixes. Cells that are no GLN or no SSCC fit to no register.
 pub fn fits<S: Alter>(conn: &mut Connection<S>, register: &Register) -> Result<bool, StoreFault>
     ensures looks { LooksForOld (λ t is. is ≡ founding.fits register.now t)
-        (λ _. ⊥) (state S.Store conn.old) (state S.Store conn.new) result }
+        Never (state S.Store conn.old) (state S.Store conn.new) result }
     ensures fails { IfErr result (λ fault. (fault ≡ StoreFault.Memory) ⊎ (fault ≡ StoreFault.Disk)) }
 {
     let orders = orders_fit(conn, register)?;

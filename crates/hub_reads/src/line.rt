@@ -23,7 +23,8 @@ pub fn lines_of<S: Alter>(
     supplier: &Gln,
     number: &[u8],
 ) -> Result<Items<LineRow>, StoreFault>
-    ensures looks { LooksUp (λ t. lines (view supplier.now t) number.now) (state S.Store conn.old) (state S.Store conn.new) result }
+    ensures looks { LooksUp (λ t. lines (view supplier.now t) number.now)
+        (state S.Store conn.old) (state S.Store conn.new) result }
     ensures clean { IfOk result (λ rows. IsTrue (list_all clean_line rows)) }
 {
     rows_of(
@@ -41,7 +42,8 @@ pub fn all_lines<S: Alter>(
     alloc: Global,
     supplier: &Gln,
 ) -> Result<Items<LineRow>, StoreFault>
-    ensures looks { LooksUp (λ t. (view supplier.now t).lines) (state S.Store conn.old) (state S.Store conn.new) result }
+    ensures looks { LooksUp (λ t. (view supplier.now t).lines)
+        (state S.Store conn.old) (state S.Store conn.new) result }
     ensures clean { IfOk result (λ rows. IsTrue (list_all clean_line rows)) }
 {
     rows_of(

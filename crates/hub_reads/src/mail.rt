@@ -36,7 +36,8 @@ fn signed<'a>(number: u64) -> ValueRef<'a>
 
 // Whether the supplier has an entry whose number is no greater than zero.
 fn has_low<S: Alter>(conn: &mut Connection<S>, supplier: &Gln) -> Result<bool, StoreFault>
-    ensures looks { LooksUp (λ t. list_any (spec.low_of supplier.now) t.mail) (state S.Store conn.old) (state S.Store conn.new) result }
+    ensures looks { LooksUp (λ t. list_any (spec.low_of supplier.now) t.mail)
+        (state S.Store conn.old) (state S.Store conn.new) result }
 {
     has_row(
         conn,
@@ -70,7 +71,8 @@ fn entry_of<S: Alter>(
     number: u64,
 ) -> Result<Option<MailRow>, StoreFault>
     requires { number < 2 ^ 63 }
-    ensures looks { LooksUp (λ t. entry_at (view supplier.now t) number) (state S.Store conn.old) (state S.Store conn.new) result }
+    ensures looks { LooksUp (λ t. entry_at (view supplier.now t) number)
+        (state S.Store conn.old) (state S.Store conn.new) result }
     ensures clean { IfOk result (λ found. IfSome found (λ entry. IsTrue (clean_mail entry))) }
 {
     let key = signed(number);
@@ -87,7 +89,8 @@ pub fn mail_item<S: Alter>(
     supplier: &Gln,
     number: u64,
 ) -> Result<Option<MailRow>, StoreFault>
-    ensures looks { LooksUp (λ t. entry_at (view supplier.now t) number) (state S.Store conn.old) (state S.Store conn.new) result }
+    ensures looks { LooksUp (λ t. entry_at (view supplier.now t) number)
+        (state S.Store conn.old) (state S.Store conn.new) result }
     ensures clean { IfOk result (λ found. IfSome found (λ entry. IsTrue (clean_mail entry))) }
 {
     if number <= LAST_MAIL_NUMBER {
@@ -129,7 +132,8 @@ fn heads_above<S: Alter>(
     most: ValueRef<'_>,
 ) -> Result<Items<MailHead>, StoreFault>
     requires { number < 2 ^ 63 }
-    ensures looks { LooksUp (λ t. limited (as_count (bound_value (owned most.entry))) (spec.untaken_heads supplier.now number t))
+    ensures looks { LooksUp (λ t.
+        limited (as_count (bound_value (owned most.entry))) (spec.untaken_heads supplier.now number t))
         (state S.Store conn.old) (state S.Store conn.new) result }
     ensures clean { IfOk result (λ heads. IsTrue (list_all clean_head heads)) }
 {
@@ -208,7 +212,8 @@ pub fn mail_after<S: Alter>(
 
 // The number of the last entry above zero.
 fn highest<S: Alter>(conn: &mut Connection<S>, supplier: &Gln) -> Result<Option<u64>, StoreFault>
-    ensures looks { LooksUp (spec.highest supplier.now) (state S.Store conn.old) (state S.Store conn.new) result }
+    ensures looks { LooksUp (spec.highest supplier.now)
+        (state S.Store conn.old) (state S.Store conn.new) result }
     ensures within { IfOk result (λ found. IfSome found (λ number. IsTrue (is_within 1 last_number number))) }
 {
     first_of(
@@ -220,7 +225,8 @@ fn highest<S: Alter>(conn: &mut Connection<S>, supplier: &Gln) -> Result<Option<
 
 // The same, and 0 where there is none.
 fn highest_or_zero<S: Alter>(conn: &mut Connection<S>, supplier: &Gln) -> Result<u64, StoreFault>
-    ensures looks { LooksUp (λ t. unwrap_or (spec.highest supplier.now t) 0) (state S.Store conn.old) (state S.Store conn.new) result }
+    ensures looks { LooksUp (λ t. unwrap_or (spec.highest supplier.now t) 0)
+        (state S.Store conn.old) (state S.Store conn.new) result }
     ensures within { IfOk result (λ number. number ≤ last_number) }
 {
     let number = highest(conn, supplier)?;
@@ -229,7 +235,8 @@ fn highest_or_zero<S: Alter>(conn: &mut Connection<S>, supplier: &Gln) -> Result
 
 /// The number of the last entry of the supplier's mailbox, 0 where there is none.
 pub fn last_mail<S: Alter>(conn: &mut Connection<S>, supplier: &Gln) -> Result<u64, StoreFault>
-    ensures looks { LooksUp (λ t. last (view supplier.now t)) (state S.Store conn.old) (state S.Store conn.new) result }
+    ensures looks { LooksUp (λ t. last (view supplier.now t))
+        (state S.Store conn.old) (state S.Store conn.new) result }
     ensures within { IfOk result (λ number. number ≤ last_number) }
 {
     let low = has_low(conn, supplier)?;

@@ -18,7 +18,8 @@ use std::alloc::Global;
 
 /// Whether any supplier has a pallet of this SSCC.
 pub fn used<S: Alter>(conn: &mut Connection<S>, sscc: &Sscc) -> Result<bool, StoreFault>
-    ensures looks { LooksUp (λ t. has_pallet t sscc.now) (state S.Store conn.old) (state S.Store conn.new) result }
+    ensures looks { LooksUp (λ t. has_pallet t sscc.now)
+        (state S.Store conn.old) (state S.Store conn.new) result }
 {
     has_row(
         conn,
@@ -33,7 +34,8 @@ pub(crate) fn is_held<S: Alter>(
     supplier: &Gln,
     sscc: &Sscc,
 ) -> Result<bool, StoreFault>
-    ensures looks { LooksUp (λ t. holds supplier.now t.pallets sscc.now) (state S.Store conn.old) (state S.Store conn.new) result }
+    ensures looks { LooksUp (λ t. holds supplier.now t.pallets sscc.now)
+        (state S.Store conn.old) (state S.Store conn.new) result }
 {
     has_row(
         conn,
@@ -51,7 +53,8 @@ pub fn pallet_of<S: Alter>(
     supplier: &Gln,
     sscc: &Sscc,
 ) -> Result<Option<PalletRow>, StoreFault>
-    ensures looks { LooksUp (λ t. pallet (view supplier.now t) sscc.now) (state S.Store conn.old) (state S.Store conn.new) result }
+    ensures looks { LooksUp (λ t. pallet (view supplier.now t) sscc.now)
+        (state S.Store conn.old) (state S.Store conn.new) result }
     ensures clean { IfOk result (λ found. IfSome found (λ row. IsTrue (clean_pallet row))) }
 {
     first_of(
@@ -70,7 +73,8 @@ pub fn all_pallets<S: Alter>(
     alloc: Global,
     supplier: &Gln,
 ) -> Result<Items<PalletRow>, StoreFault>
-    ensures looks { LooksUp (λ t. (view supplier.now t).pallets) (state S.Store conn.old) (state S.Store conn.new) result }
+    ensures looks { LooksUp (λ t. (view supplier.now t).pallets)
+        (state S.Store conn.old) (state S.Store conn.new) result }
     ensures clean { IfOk result (λ rows. IsTrue (list_all clean_pallet rows)) }
 {
     rows_of(

@@ -74,7 +74,8 @@ fn register_by<S: Alter>(
     hubs: &[HubRow],
     keys: &[KeyRow],
 ) -> Result<Option<Register>, StoreFault>
-    ensures { LooksIn (λ t register. t.hubs ≡ hubs.now → t.keys ≡ keys.now → Rising t → IsHeldBy t register) HoldsNone
+    ensures { LooksIn (λ t register. t.hubs ≡ hubs.now → t.keys ≡ keys.now → Rising t →
+        IsHeldBy t register) HoldsNone
         (state S.Store conn.old) (state S.Store conn.new) result }
 {
     let prefixes = all_prefixes(conn, alloc)?;

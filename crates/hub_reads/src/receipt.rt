@@ -43,7 +43,8 @@ pub fn receipts_of<S: Alter>(
     supplier: &Gln,
     sscc: &Sscc,
 ) -> Result<Items<ReceiptRow>, StoreFault>
-    ensures looks { LooksUp (λ t. receipts (view supplier.now t) sscc.now) (state S.Store conn.old) (state S.Store conn.new) result }
+    ensures looks { LooksUp (λ t. receipts (view supplier.now t) sscc.now)
+        (state S.Store conn.old) (state S.Store conn.new) result }
     ensures clean { IfOk result (λ rows. IsTrue (list_all clean_receipt rows)) }
 {
     let own = is_held(conn, supplier, sscc)?;

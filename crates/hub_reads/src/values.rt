@@ -42,7 +42,8 @@ fn items_of(bytes: Vec<u8>) -> Items<u8>
 // The bytes of a cell, where they stand.
 fn blob_at(row: &Row, at: usize) -> Result<&[u8], StoreFault>
     ensures ok { IfOk result (λ bytes. bytes.now ≡ bytes_in (column row.now at)) }
-    ensures unclean { IfErr result (λ fault. (fault ≡ StoreFault.Unclean) × (bytes_in (column row.now at) ≡ 256 ∷ [])) }
+    ensures unclean { IfErr result (λ fault.
+        (fault ≡ StoreFault.Unclean) × (bytes_in (column row.now at) ≡ 256 ∷ [])) }
 {
     match row.get_ref(at) {
         Ok(ValueRef::Blob(bytes)) => Ok(bytes),
@@ -79,7 +80,8 @@ pub(crate) fn number_at(row: &Row, at: usize) -> Result<u64, StoreFault>
 pub(crate) fn within_at(row: &Row, at: usize, low: u64, high: u64) -> Result<u64, StoreFault>
     ensures ok { IfOk result (λ number. number ≡ number_in (column row.now at)) }
     ensures right { IfOk result (λ number. IsTrue (is_within low high number)) }
-    ensures unclean { result ≡ Err StoreFault.Unclean → is_within low high (number_in (column row.now at)) ≡ false }
+    ensures unclean { result ≡ Err StoreFault.Unclean →
+        is_within low high (number_in (column row.now at)) ≡ false }
     ensures fails { IfErr result (λ fault. (fault ≡ StoreFault.Memory) ⊎ (fault ≡ StoreFault.Unclean)) }
 {
     let number = number_at(row, at)?;
@@ -107,7 +109,8 @@ pub(crate) fn document_at(row: &Row, at: usize) -> Result<Items<u8>, StoreFault>
 pub(crate) fn gln_at(row: &Row, at: usize) -> Result<Gln, StoreFault>
     ensures ok { IfOk result (λ gln. gln ≡ bytes_in (column row.now at)) }
     ensures right { IfOk result (λ gln. IsTrue (is_gln gln)) }
-    ensures unclean { IfErr result (λ fault. (fault ≡ StoreFault.Unclean) × (is_gln (bytes_in (column row.now at)) ≡ false)) }
+    ensures unclean { IfErr result (λ fault.
+        (fault ≡ StoreFault.Unclean) × (is_gln (bytes_in (column row.now at)) ≡ false)) }
 {
     let digits = blob_at(row, at)?;
     match Gln::parse(digits) {
@@ -120,7 +123,8 @@ pub(crate) fn gln_at(row: &Row, at: usize) -> Result<Gln, StoreFault>
 pub(crate) fn prefix_at(row: &Row, at: usize) -> Result<Prefix, StoreFault>
     ensures ok { IfOk result (λ prefix. prefix ≡ bytes_in (column row.now at)) }
     ensures right { IfOk result (λ prefix. IsTrue (is_prefix prefix)) }
-    ensures unclean { IfErr result (λ fault. (fault ≡ StoreFault.Unclean) × (is_prefix (bytes_in (column row.now at)) ≡ false)) }
+    ensures unclean { IfErr result (λ fault.
+        (fault ≡ StoreFault.Unclean) × (is_prefix (bytes_in (column row.now at)) ≡ false)) }
 {
     let digits = blob_at(row, at)?;
     match Prefix::parse(digits) {
@@ -133,7 +137,8 @@ pub(crate) fn prefix_at(row: &Row, at: usize) -> Result<Prefix, StoreFault>
 pub(crate) fn key_at(row: &Row, at: usize) -> Result<Key, StoreFault>
     ensures ok { IfOk result (λ key. key ≡ bytes_in (column row.now at)) }
     ensures right { IfOk result (λ key. IsTrue (is_party_key key)) }
-    ensures unclean { IfErr result (λ fault. (fault ≡ StoreFault.Unclean) × (is_party_key (bytes_in (column row.now at)) ≡ false)) }
+    ensures unclean { IfErr result (λ fault.
+        (fault ≡ StoreFault.Unclean) × (is_party_key (bytes_in (column row.now at)) ≡ false)) }
 {
     let bytes = blob_at(row, at)?;
     match Key::parse(bytes) {
@@ -146,7 +151,8 @@ pub(crate) fn key_at(row: &Row, at: usize) -> Result<Key, StoreFault>
 pub(crate) fn sscc_at(row: &Row, at: usize) -> Result<Sscc, StoreFault>
     ensures ok { IfOk result (λ sscc. sscc ≡ bytes_in (column row.now at)) }
     ensures right { IfOk result (λ sscc. IsTrue (is_key 18 sscc)) }
-    ensures unclean { IfErr result (λ fault. (fault ≡ StoreFault.Unclean) × (is_key 18 (bytes_in (column row.now at)) ≡ false)) }
+    ensures unclean { IfErr result (λ fault.
+        (fault ≡ StoreFault.Unclean) × (is_key 18 (bytes_in (column row.now at)) ≡ false)) }
 {
     let digits = blob_at(row, at)?;
     match Sscc::parse(digits) {
@@ -159,7 +165,8 @@ pub(crate) fn sscc_at(row: &Row, at: usize) -> Result<Sscc, StoreFault>
 pub(crate) fn gtin_at(row: &Row, at: usize) -> Result<Gtin, StoreFault>
     ensures ok { IfOk result (λ gtin. gtin ≡ bytes_in (column row.now at)) }
     ensures right { IfOk result (λ gtin. IsTrue (is_key 14 gtin)) }
-    ensures unclean { IfErr result (λ fault. (fault ≡ StoreFault.Unclean) × (is_key 14 (bytes_in (column row.now at)) ≡ false)) }
+    ensures unclean { IfErr result (λ fault.
+        (fault ≡ StoreFault.Unclean) × (is_key 14 (bytes_in (column row.now at)) ≡ false)) }
 {
     let digits = blob_at(row, at)?;
     if digits.len() != 14 {
@@ -203,7 +210,8 @@ pub(crate) fn decimal_at(row: &Row, at: usize) -> Result<u8, StoreFault>
 pub(crate) fn moment_at(row: &Row, at: usize) -> Result<Moment, StoreFault>
     ensures ok { IfOk result (λ moment. moment ≡ number_in (column row.now at)) }
     ensures right { IfOk result (λ moment. moment ≤ last_moment) }
-    ensures unclean { result ≡ Err StoreFault.Unclean → nat_le (number_in (column row.now at)) last_moment ≡ false }
+    ensures unclean { result ≡ Err StoreFault.Unclean →
+        nat_le (number_in (column row.now at)) last_moment ≡ false }
     ensures fails { IfErr result (λ fault. (fault ≡ StoreFault.Memory) ⊎ (fault ≡ StoreFault.Unclean)) }
 {
     match Moment::new(number_at(row, at)?) {

@@ -8,6 +8,7 @@ use Rattle.std.specs.declared.cmp.Ordering.TheVariants.{Less, Equal, Greater}
 use Rattle.std.proofs.lemmas.Bool.{and_parts, and_from, or_parts, or_from, not-true, leb-true, le-leb}
 use Rattle.std.proofs.lemmas.Cmp.{nat_list_cmp_total}
 use Rattle.std.proofs.lemmas.Map.Text.{is_eq-slice_cmp}
+use Rattle.std.proofs.lemmas.List.{append-nil, append_assoc}
 use Rattle.edi_base.specs.Seen.{is_among}
 use Rattle.gs1_ids.specs.Gln.{is_gln}
 use Rattle.gs1_ids.proofs.Overlaps.{apart-iff}
@@ -24,14 +25,6 @@ use Rattle.hub_register.proofs.Right.{Differ, Free, not_among, once, free, prefi
 -- Rows that rise, put one after another.
 abbrev pub Below : SupplierRow → SupplierRow → Type 0
 Below r s = bytes_cmp r.gln s.gln ≡ Less
-
-nothing_more : (rows : List SupplierRow) → rows ≡ rows ++ []
-nothing_more [] = refl
-nothing_more (row ∷ rows) = ap (λ rest. row ∷ rest) (nothing_more rows)
-
-one_after : (done : List SupplierRow) (row : SupplierRow) (rows : List SupplierRow) → (done ++ row ∷ []) ++ rows ≡ done ++ row ∷ rows
-one_after [] row rows = refl
-one_after (r ∷ done) row rows = ap (λ rest. r ∷ rest) (one_after done row rows)
 
 put-last : (row : SupplierRow) (done : List SupplierRow)
     → AllByRecursion (λ r. bytes_cmp r.gln row.gln ≡ Less) done
@@ -55,12 +48,12 @@ all_below row rows (r ∷ done) rises = (head done rises.0, all_below row rows d
     head (s ∷ others) all = head others all.1
 
 put_after : (rows done : List SupplierRow) → Rises bytes_cmp (map (λ r. r.gln) (done ++ rows)) → put_all rows done ≡ done ++ rows
-put_after [] done rises = nothing_more done
+put_after [] done rises = sym (append-nil done)
 put_after (row ∷ rows) done rises =
     ap (put_all rows) (put-last row done (all_below row rows done rises))
     ∙ put_after rows (done ++ row ∷ [])
-    (subst (λ (all : List SupplierRow). Rises bytes_cmp (map (λ r. r.gln) all)) (sym (one_after done row rows)) rises)
-    ∙ one_after done row rows
+    (subst (λ (all : List SupplierRow). Rises bytes_cmp (map (λ r. r.gln) all)) (sym (append_assoc done (row ∷ []) rows)) rises)
+    ∙ append_assoc done (row ∷ []) rows
 
 pub as_they_stand : (rows : List SupplierRow) → Rises bytes_cmp (map (λ r. r.gln) rows) → put_all rows [] ≡ rows
 as_they_stand rows rises = put_after rows [] rises

@@ -1,10 +1,10 @@
 -- What holds of rows holds of them in the order of their GLNs.
-use Rattle.std.proofs.Common.{◌≡◌, ℕ, ◌+◌, ◌≤◌, Bool, true, ◌&&◌, List, [], ◌∷◌, length, map, Ordering, refl, ap, ap₂, ◌∙◌, arith}
+use Rattle.std.proofs.Common.{◌≡◌, ℕ, ◌+◌, ◌≤◌, Bool, true, List, [], ◌∷◌, length, map, Ordering, refl, ap, ◌∙◌, arith}
 use Rattle.std.specs.List.{list_all, AllByRecursion}
 use Rattle.std.specs.Cmp.Lexicographic.{slice_cmp}
 use Rattle.std.specs.Ordering.{nat_cmp, match_ordering, ordering_reverse}
 use Rattle.std.specs.declared.cmp.Ordering.TheVariants.{Less, Equal, Greater}
-use Rattle.std.proofs.lemmas.Bool.{and_parts}
+use Rattle.std.proofs.lemmas.Bool.{and_parts, and_from}
 use Rattle.std.proofs.lemmas.Cmp.{nat_list_cmp_total}
 use Rattle.hub_parties.specs.KeyOrder.{bytes_cmp, Rises}
 use Rattle.hub_parties.specs.declared.row.SupplierRow.{SupplierRow}
@@ -27,18 +27,15 @@ length-put_all [] done = omega arith
 length-put_all (row ∷ rows) done = omega (arith, length-put_all rows (put row done), length-put row done)
 
 module _ {A : Type 0} (f : SupplierRow → A) (p : A → Bool) where
-  both : {a b : Bool} → a ≡ true → b ≡ true → (a && b) ≡ true
-  both x y = ap₂ (λ a b. a && b) x y
-
   all-put : (row : SupplierRow) (rows : List SupplierRow)
       → p (f row) ≡ true
       → list_all p (map f rows) ≡ true
       → list_all p (map f (put row rows)) ≡ true
-  all-put row [] here there = both here refl
+  all-put row [] here there = and_from _ _ here refl
   all-put row (r ∷ rs) here there =
       let parts = and_parts (p (f r)) (list_all p (map f rs)) there in
       by_place (λ rows. list_all p (map f rows) ≡ true) (slice_cmp nat_cmp row.gln r.gln) (row ∷ r ∷ rs) (row ∷ rs) (r ∷ put row rs)
-      (both here there) (both here parts.1) (both parts.0 (all-put row rs here parts.1))
+      (and_from _ _ here there) (and_from _ _ here parts.1) (and_from _ _ parts.0 (all-put row rs here parts.1))
 
   -- a test that all rows pass
   pub all-put_all : (rows done : List SupplierRow)

@@ -1,4 +1,4 @@
-//! The columns of a document's rows, each judged as a whole.
+//! The columns of a document's rows, each checked as a whole.
 
 ghost use Rattle.std.specs.Prelude.{◌≡◌, ◌≢◌, true, false, [], IfOk, IfErr, OnOk, map};
 ghost use Rattle.std.specs.BTreeMap.{keys, values};
@@ -103,7 +103,8 @@ pub(crate) fn prefixes(
     alloc: Global,
     entries: &[Entry<'_>],
 ) -> Result<Vec<CompanyPrefixes>, RegisterFault>
-    ensures ok { IfOk result (λ prefixes. (prefixes.items ≡ map (λ row. by_bytes row.prefixes) (map row_in entries.now))
+    ensures ok { IfOk result (λ prefixes.
+        (prefixes.items ≡ map (λ row. by_bytes row.prefixes) (map row_in entries.now))
         × (list_all (λ row. are_company_prefixes (by_bytes row.prefixes)) (map row_in entries.now) ≡ true)) }
     ensures err { IfErr result (λ fault. fault ≢ RegisterFault.Memory → (fault ≡ RegisterFault.Prefix)
         × (list_all (λ row. are_company_prefixes (by_bytes row.prefixes)) (map row_in entries.now) ≡ false)) }
@@ -138,7 +139,8 @@ fn put_supplier(
     suppliers: &mut BTreeMap<Gln, SupplierRow>,
 ) -> Result<(), RegisterFault>
     requires { keys suppliers.old ≡ map (λ row. row.gln) (values suppliers.old) }
-    ensures rows { OnOk result (values suppliers.new ≡ put (row_with gln prefixes.now key.now) (values suppliers.old)) }
+    ensures rows { OnOk result (values suppliers.new
+        ≡ put (row_with gln prefixes.now key.now) (values suppliers.old)) }
     ensures at_gln { OnOk result (keys suppliers.new ≡ map (λ row. row.gln) (values suppliers.new)) }
     ensures key { OnOk result (is_party_key key.now ≡ true) }
     ensures err { IfErr result (λ fault. fault ≢ RegisterFault.Memory →
@@ -152,7 +154,7 @@ fn put_supplier(
     Ok(())
 }
 
-/// The rows of the suppliers, each with its key judged, by their GLNs.
+/// The rows of the suppliers, each with its key checked, by their GLNs.
 pub(crate) fn suppliers(
     alloc: Global,
     entries: &[Entry<'_>],
@@ -161,9 +163,11 @@ pub(crate) fn suppliers(
 ) -> Result<BTreeMap<Gln, SupplierRow>, RegisterFault>
     requires glns { glns.now ≡ map (λ row. row.gln) (map row_in entries.now) }
     requires prefixes { prefixes.now ≡ map (λ row. by_bytes row.prefixes) (map row_in entries.now) }
-    ensures rows { IfOk result (λ suppliers. values suppliers ≡ put_all (map with_sorted_prefixes (map row_in entries.now)) []) }
+    ensures rows { IfOk result (λ suppliers.
+        values suppliers ≡ put_all (map with_sorted_prefixes (map row_in entries.now)) []) }
     ensures at_gln { IfOk result (λ suppliers. keys suppliers ≡ map (λ row. row.gln) (values suppliers)) }
-    ensures keys { IfOk result (λ suppliers. list_all is_party_key (map (λ row. row.key) (map row_in entries.now)) ≡ true) }
+    ensures keys { IfOk result (λ suppliers.
+        list_all is_party_key (map (λ row. row.key) (map row_in entries.now)) ≡ true) }
     ensures err { IfErr result (λ fault. fault ≢ RegisterFault.Memory → (fault ≡ RegisterFault.Key)
         × (list_all is_party_key (map (λ row. row.key) (map row_in entries.now)) ≡ false)) }
 {

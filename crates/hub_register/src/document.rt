@@ -1,4 +1,4 @@
-//! The strings that the text of a register holds, before they are judged.
+//! The strings that the text of a register holds, before they are checked.
 
 ghost use Rattle.toml.specs.Data.{get_member, as_str};
 ghost use Rattle.toml.specs.View.{table_view, items_view, view};
@@ -43,7 +43,8 @@ fn string_at<'a>(table: &'a Table, key: &str) -> Option<&'a str>
 
 // The table at a key of a table.
 fn table_at<'a>(table: &'a Table, key: &str) -> Option<&'a Table>
-    ensures { option_map (λ found. table_view found.now) result ≡ spec.table_at key.now (table_view table.now) }
+    ensures { option_map (λ found. table_view found.now) result
+        ≡ spec.table_at key.now (table_view table.now) }
 {
     value_at(table, key)?.as_table()
 }
@@ -64,7 +65,8 @@ fn put_string<'a>(value: &'a Value, texts: &mut Vec<&'a str>) -> Result<(), Regi
 
 // The strings of an array.
 fn strings_in<'a>(alloc: Global, values: &'a [Value]) -> Result<Vec<&'a str>, RegisterFault>
-    ensures ok { IfOk result (λ texts. spec.strings_in (items_view values.now) ≡ Some (texts_of texts.items)) }
+    ensures ok { IfOk result (λ texts.
+        spec.strings_in (items_view values.now) ≡ Some (texts_of texts.items)) }
     ensures err { IfErr result (λ fault. fault ≢ RegisterFault.Memory →
         (fault ≡ RegisterFault.Text) × (spec.strings_in (items_view values.now) ≡ None)) }
 {
@@ -100,7 +102,8 @@ fn prefixes_from<'a>(alloc: Global, value: &'a Value) -> Result<Vec<&'a str>, Re
 
 // The prefixes at the key `prefix` of a table.
 fn prefixes_in<'a>(alloc: Global, table: &'a Table) -> Result<Vec<&'a str>, RegisterFault>
-    ensures ok { IfOk result (λ texts. spec.prefixes_at (codes "prefix") (table_view table.now) ≡ Some (texts_of texts.items)) }
+    ensures ok { IfOk result (λ texts.
+        spec.prefixes_at (codes "prefix") (table_view table.now) ≡ Some (texts_of texts.items)) }
     ensures err { IfErr result (λ fault. fault ≢ RegisterFault.Memory →
         (fault ≡ RegisterFault.Text) × (spec.prefixes_at (codes "prefix") (table_view table.now) ≡ None)) }
 {
@@ -143,7 +146,8 @@ fn put_entry<'a>(
 
 // The strings of the suppliers' tables.
 fn entries_in<'a>(alloc: Global, values: &'a [Value]) -> Result<Vec<Entry<'a>>, RegisterFault>
-    ensures ok { IfOk result (λ entries. spec.suppliers_in (items_view values.now) ≡ Some (map row_in entries.items)) }
+    ensures ok { IfOk result (λ entries.
+        spec.suppliers_in (items_view values.now) ≡ Some (map row_in entries.items)) }
     ensures err { IfErr result (λ fault. fault ≢ RegisterFault.Memory →
         (fault ≡ RegisterFault.Text) × (spec.suppliers_in (items_view values.now) ≡ None)) }
 {
@@ -156,7 +160,8 @@ fn entries_in<'a>(alloc: Global, values: &'a [Value]) -> Result<Vec<Entry<'a>>, 
 
 // The strings of all suppliers' tables. Where no key `supplier` stands there are none.
 fn suppliers_in<'a>(alloc: Global, table: &'a Table) -> Result<Vec<Entry<'a>>, RegisterFault>
-    ensures ok { IfOk result (λ entries. spec.suppliers_at (codes "supplier") (table_view table.now) ≡ Some (map row_in entries.items)) }
+    ensures ok { IfOk result (λ entries.
+        spec.suppliers_at (codes "supplier") (table_view table.now) ≡ Some (map row_in entries.items)) }
     ensures err { IfErr result (λ fault. fault ≢ RegisterFault.Memory →
         (fault ≡ RegisterFault.Text) × (spec.suppliers_at (codes "supplier") (table_view table.now) ≡ None)) }
 {
@@ -172,7 +177,8 @@ fn suppliers_in<'a>(alloc: Global, table: &'a Table) -> Result<Vec<Entry<'a>>, R
 impl<'a> Document<'a> {
     /// What the table of a text says.
     pub(crate) fn read(alloc: Global, table: &'a Table) -> Result<Document<'a>, RegisterFault>
-        ensures ok { IfOk result (λ document. spec.rows_in (table_view table.now) ≡ Some (rows_from document)) }
+        ensures ok { IfOk result (λ document.
+            spec.rows_in (table_view table.now) ≡ Some (rows_from document)) }
         ensures err { IfErr result (λ fault. fault ≢ RegisterFault.Memory →
             (fault ≡ RegisterFault.Text) × (spec.rows_in (table_view table.now) ≡ None)) }
     {

@@ -93,10 +93,12 @@ fn held(
 
 // Every GLN of what a text says, the hub's and the retailer's first, where there are no more suppliers than may be.
 fn glns_of(alloc: Global, document: &Document<'_>) -> Result<Vec<Gln>, RegisterFault>
-    ensures few { IfOk result (λ glns. nat_lt most_suppliers (length (rows_from document.now).suppliers) ≡ false) }
+    ensures few { IfOk result (λ glns.
+        nat_lt most_suppliers (length (rows_from document.now).suppliers) ≡ false) }
     ensures ok { IfOk result (λ glns. (glns.items ≡ spec.glns (rows_from document.now))
         × (list_all is_gln (spec.glns (rows_from document.now)) ≡ true)) }
-    ensures err { IfErr result (λ fault. fault ≢ RegisterFault.Memory → fault_of (rows_from document.now) ≡ Some fault) }
+    ensures err { IfErr result (λ fault.
+        fault ≢ RegisterFault.Memory → fault_of (rows_from document.now) ≡ Some fault) }
 {
     if document.suppliers.len() > MOST_SUPPLIERS {
         return Err(RegisterFault::Many);
@@ -107,7 +109,8 @@ fn glns_of(alloc: Global, document: &Document<'_>) -> Result<Vec<Gln>, RegisterF
 
 // The fault of suppliers of which a prefix of one begins one of another. Its places count from 1.
 fn overlap_in(suppliers: &[CompanyPrefixes]) -> Option<RegisterFault>
-    ensures value { result ≡ option_map (λ places. Overlap (places.0 + 1) (places.1 + 1)) (first_overlap_between suppliers.now) }
+    ensures value { result
+        ≡ option_map (λ places. Overlap (places.0 + 1) (places.1 + 1)) (first_overlap_between suppliers.now) }
     ensures free { IfNone result (PrefixFree suppliers.now) }
 {
     match first_overlap(suppliers) {
@@ -119,7 +122,8 @@ fn overlap_in(suppliers: &[CompanyPrefixes]) -> Option<RegisterFault>
 // The register of what a text says.
 fn register_of_document(alloc: Global, document: &Document<'_>) -> Result<Register, RegisterFault>
     ensures ok { IfOk result (λ register. register_of_rows (Some (rows_from document.now)) ≡ Ok register) }
-    ensures err { IfErr result (λ fault. fault ≢ RegisterFault.Memory → register_of_rows (Some (rows_from document.now)) ≡ Err fault) }
+    ensures err { IfErr result (λ fault.
+        fault ≢ RegisterFault.Memory → register_of_rows (Some (rows_from document.now)) ≡ Err fault) }
     ensures register { IfOk result IsRegister }
 {
     let entries = document.suppliers.as_slice();
@@ -140,7 +144,8 @@ fn register_of_document(alloc: Global, document: &Document<'_>) -> Result<Regist
 // The table that a text is.
 fn table_of(alloc: Global, text: &str) -> Result<Table, RegisterFault>
     ensures ok { IfOk result (λ table. parse_document text.now ≡ Some (table_view table)) }
-    ensures err { IfErr result (λ fault. fault ≢ RegisterFault.Memory → (fault ≡ RegisterFault.Text) × (parse_document text.now ≡ None)) }
+    ensures err { IfErr result (λ fault. fault ≢ RegisterFault.Memory →
+        (fault ≡ RegisterFault.Text) × (parse_document text.now ≡ None)) }
 {
     match toml::table_from_str(alloc, text) {
         Ok(table) => Ok(table),
@@ -167,7 +172,8 @@ impl Register {
     /// strings. Else the first fault of the text, in the order of `RegisterFault`, wherever in the list it stands.
     pub fn from_toml(alloc: Global, text: &str) -> Result<Register, RegisterFault>
         ensures ok { IfOk result (λ register. register_of text.now ≡ Ok register) }
-        ensures err { IfErr result (λ fault. fault ≢ RegisterFault.Memory → register_of text.now ≡ Err fault) }
+        ensures err { IfErr result (λ fault.
+            fault ≢ RegisterFault.Memory → register_of text.now ≡ Err fault) }
         ensures register { IfOk result IsRegister }
     {
         let table = table_of(alloc, text)?;
@@ -183,9 +189,11 @@ impl Register {
         retailer_key: Key,
         suppliers: Vec<SupplierRow>,
     ) -> Result<Option<Register>, MemoryFault>
-        ensures some { IfOk result (λ found. IfSome found (λ register. (register ≡ rows_by hub retailer retailer_key suppliers.items)
+        ensures some { IfOk result (λ found.
+            IfSome found (λ register. (register ≡ rows_by hub retailer retailer_key suppliers.items)
             × IsRegister register)) }
-        ensures none { IfOk result (λ found. IfNone found (IsRegister (rows_by hub retailer retailer_key suppliers.items) → ⊥)) }
+        ensures none { IfOk result (λ found.
+            IfNone found (IsRegister (rows_by hub retailer retailer_key suppliers.items) → ⊥)) }
     {
         let kept = keep_all(alloc, &hub, &retailer, suppliers.as_slice())?;
         if !kept {

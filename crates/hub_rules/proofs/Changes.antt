@@ -1,8 +1,7 @@
 -- What a change of one supplier's rows does to what each supplier sees.
-use Rattle.std.proofs.Common.{◌≡◌, ◌≢◌, ℕ, true, false, not, ◌&&◌, ◌==◌, inl, inr, List, [], ◌∷◌, filter, Some, refl, sym}
+use Rattle.std.proofs.Common.{◌≡◌, ◌≢◌, ℕ, true, false, not, ◌&&◌, inl, inr, List, [], ◌∷◌, filter, Some, refl, sym}
 use Rattle.std.proofs.Common.{◌∙◌, ap, subst, arith}
 use Rattle.std.specs.List.{AllByRecursion}
-use Rattle.std.proofs.lemmas.Bool.{and_parts}
 use Rattle.std.proofs.lemmas.Bool.Decides.{nat_tests}
 use Rattle.gs1_ids.specs.Sscc.{under_some}
 use Rattle.gs1_ids.specs.Overlap.{PrefixFree}
@@ -17,19 +16,17 @@ use Rattle.hub_tables.specs.declared.change.Change.{Change}
 use Rattle.hub_tables.specs.declared.change.Change.TheVariants.{AddHub, AddKey, AddPrefix}
 use Rattle.hub_tables.specs.declared.change.Change.TheVariants.{AddOrder, AddLine, SetLine, AddAdvice, AddPallet, SetPallet}
 use Rattle.hub_tables.specs.declared.change.Change.TheVariants.{AddContent, AddReceipt, ClearReceipts, Remember, AddMail, SetMail}
-use Rattle.hub_tables.specs.declared.rows.LineRow.{LineRow}
 use Rattle.hub_tables.specs.declared.rows.PalletRow.{PalletRow}
-use Rattle.hub_tables.specs.declared.rows.MailRow.{MailRow}
+use Rattle.hub_tables.proofs.Filters.{filter_again, filter_swap}
 use Rattle.hub_tables.proofs.Lists.{decide, same_is, same_if, differ, filter_alike, filter_replace, filter_replace_out}
 use Rattle.hub_tables.proofs.Lists.{all_replace, all_weaker, all_always}
 use Rattle.hub_tables.proofs.KeyOrder.{all_put, any_put, filter_put_in, filter_put_out}
 use Rattle.hub_tables.proofs.KindOrders.{order_total, line_total, advice_total, pallet_total, content_total, receipt_total}
-use Rattle.hub_tables.proofs.KindOrders.{remembered_total, mail_total, ordered_after}
+use Rattle.hub_tables.proofs.KindOrders.{remembered_total, mail_total, line_key, mail_key, ordered_after}
 use Rattle.hub_rules.specs.Laws.{PartiesStay}
 use Rattle.hub_rules.specs.Sound.{IsRooted, Rooted}
 use Rattle.hub_rules.proofs.Belonging.{Belongs, BelongAll, Follows}
 use Rattle.hub_rules.proofs.OnPallets.{OnPallet, contents_after, receipts_after}
-use Rattle.hub_rules.proofs.Filters.{filter_again, filter_swap}
 use Rattle.hub_rules.proofs.Prefixes.{ours, under_held, holds_seen, holds_all, holds_none}
 
 -- a pallet set keeps its SSCC and supplier, so each supplier holds what it held
@@ -57,12 +54,6 @@ holds_new other r t x fresh there =
     let apart : same r.sscc x ≡ false = differ r.sscc x (λ e. let both = ap (has_pallet t) e in (cc)) in
     any_put pallet_cmp (λ p. same p.supplier other && same p.sscc x) t.pallets r
     ∙ grind (arith, nat_tests, apart, decide (same r.supplier other), decide (holds other t.pallets x))
-
-key_line : (r y : LineRow) → same_line r y ≡ true → y.supplier ≡ r.supplier
-key_line r y h = same_is y.supplier r.supplier ((and_parts (same y.supplier r.supplier) (same y.number r.number && (y.line == r.line)) h).0)
-
-key_mail : (r y : MailRow) → same_mail r y ≡ true → y.supplier ≡ r.supplier
-key_mail r y h = same_is y.supplier r.supplier ((and_parts (same y.supplier r.supplier) (y.number == r.number) h).0)
 
 module _ (suppliers : List SupplierRow) (free : PrefixFree (company_prefixes suppliers)) (s : SupplierRow)
     (known : supplier_row suppliers s.gln ≡ Some s) (t : Tables) (rooted : Rooted suppliers t) where
@@ -140,7 +131,7 @@ module _ (suppliers : List SupplierRow) (free : PrefixFree (company_prefixes sup
       ap (λ xs. record (view s.gln t) { lines = xs })
       (filter_replace (λ r. same r.supplier s.gln) (same_line r) r t.lines (same_if r.supplier s.gln h)
       (all_always (λ y. same_line r y ≡ true → same y.supplier s.gln ≡ true)
-      (λ y e. same_if y.supplier s.gln (key_line r y e ∙ h)) t.lines))
+      (λ y e. same_if y.supplier s.gln ((line_key r y e).0 ∙ h)) t.lines))
   seen (AddAdvice r) h =
       ap (λ xs. record (view s.gln t) { advices = xs })
       (filter_put_in advice_total (λ r. same r.supplier s.gln) t.advices r (rooted.ordered).advices
@@ -178,7 +169,7 @@ module _ (suppliers : List SupplierRow) (free : PrefixFree (company_prefixes sup
       ap (λ xs. record (view s.gln t) { mail = xs })
       (filter_replace (λ r. same r.supplier s.gln) (same_mail r) r t.mail (same_if r.supplier s.gln h)
       (all_always (λ y. same_mail r y ≡ true → same y.supplier s.gln ≡ true)
-      (λ y e. same_if y.supplier s.gln (key_mail r y e ∙ h)) t.mail))
+      (λ y e. same_if y.supplier s.gln ((mail_key r y e).0 ∙ h)) t.mail))
 
   -- and no other supplier does
   pub unseen : (c : Change) → Belongs s (view s.gln t) c → (other : List ℕ) → other ≢ s.gln → view other (apply c t) ≡ view other t
@@ -195,7 +186,7 @@ module _ (suppliers : List SupplierRow) (free : PrefixFree (company_prefixes sup
       ap (λ xs. record (view other t) { lines = xs })
       (filter_replace_out (λ r. same r.supplier other) (same_line r) r t.lines (not_theirs r.supplier other ne h)
       (all_always (λ y. same_line r y ≡ true → same y.supplier other ≡ false)
-      (λ y e. not_theirs y.supplier other ne (key_line r y e ∙ h)) t.lines))
+      (λ y e. not_theirs y.supplier other ne ((line_key r y e).0 ∙ h)) t.lines))
   unseen (AddAdvice r) h other ne =
       ap (λ xs. record (view other t) { advices = xs })
       (filter_put_out advice_cmp (λ r. same r.supplier other) t.advices r (not_theirs r.supplier other ne h))
@@ -236,7 +227,7 @@ module _ (suppliers : List SupplierRow) (free : PrefixFree (company_prefixes sup
       ap (λ xs. record (view other t) { mail = xs })
       (filter_replace_out (λ r. same r.supplier other) (same_mail r) r t.mail (not_theirs r.supplier other ne h)
       (all_always (λ y. same_mail r y ≡ true → same y.supplier other ≡ false)
-      (λ y e. not_theirs y.supplier other ne (key_mail r y e ∙ h)) t.mail))
+      (λ y e. not_theirs y.supplier other ne ((mail_key r y e).0 ∙ h)) t.mail))
 
   in_all : (x : List ℕ) → has_pallet (view s.gln t) x ≡ true → has_pallet t x ≡ true
   in_all x h = used_seen x (below_held x h) ∙ h

@@ -13,26 +13,28 @@ use Rattle.edi_base.specs.Seen.{has_twice}
 use Rattle.gs1_ids.specs.Gln.{is_gln}
 use Rattle.gs1_ids.specs.Prefix.{overlap}
 use Rattle.hub_parties.specs.Key.{is_party_key}
-use Rattle.hub_parties.specs.KeyOrder.{put, bytes_cmp, InOrder, Rises}
+use Rattle.hub_parties.specs.KeyOrder.{put, bytes_cmp, Rises}
 use Rattle.hub_parties.specs.Prefixes.{are_company_prefixes}
 use Rattle.hub_parties.specs.Rows.{RegisterRows, IsRegister, rows_by, most_suppliers, supplier_row}
 use Rattle.hub_parties.specs.declared.row.SupplierRow.{SupplierRow}
 use Rattle.hub_tables.specs.Change.{apply_all}
 use Rattle.hub_tables.specs.Register.{HoldsRegister, supplier_cmp, has_key, row_in, suppliers_of, register_of, register_by, hub_in}
 use Rattle.hub_tables.specs.Register.{row_at, row_changes, founded}
-use Rattle.hub_tables.specs.Rows.{same, hub_cmp}
+use Rattle.hub_tables.specs.Rows.{same}
 use Rattle.hub_tables.specs.Sets.{Has}
 use Rattle.hub_tables.specs.Tables.{Tables, Ordered, view, empty}
 use Rattle.hub_tables.specs.declared.change.Change.{Change}
 use Rattle.hub_tables.specs.declared.rows.HubRow.{HubRow}
 use Rattle.hub_tables.specs.declared.rows.KeyRow.{KeyRow}
 use Rattle.hub_tables.proofs.Enrolling.{Enrolled, with_row, row_added, row_seen, row_unseen, row_stays, suppliers_after}
-use Rattle.hub_tables.proofs.Enrolling.{enrolled_after, map_put, in_order_rising}
-use Rattle.hub_tables.proofs.Founding.{OnlyParties, prefixes_rising, holds_register, nothing_else}
+use Rattle.hub_tables.proofs.Enrolling.{enrolled_after, map_put}
+use Rattle.hub_tables.proofs.Founding.{OnlyParties, prefixes_rising, holds_register, nothing_else, founded_rises}
 use Rattle.hub_tables.proofs.Freedom.{Apart, free_from, free_to, free_put}
 use Rattle.hub_tables.proofs.KeyOrder.{any_put}
+use Rattle.hub_tables.proofs.KindOrders.{ordered_after_all}
 use Rattle.hub_tables.proofs.Lists.{same_if, all_weaker}
 use Rattle.hub_tables.proofs.Members.{all_if, none_of, none_if, has_map}
+use Rattle.hub_tables.proofs.Sets.{rising_ordered}
 use Rattle.hub_tables.proofs.Setting.{rises_put}
 use Rattle.gs1_ids.specs.Overlap.{overlap_some}
 use Rattle.hub_rules.specs.JoinRules.{is_join, is_known, overlap_others, is_full, judge_join}
@@ -41,6 +43,7 @@ use Rattle.hub_rules.specs.Sound.{IsRooted, Rooted, Kept, Sound}
 use Rattle.hub_rules.specs.declared.code.Code.TheVariants.{GlnKnown, PrefixOverlaps, RegisterFull}
 use Rattle.hub_rules.specs.declared.verdict.Verdict.{Verdict}
 use Rattle.hub_rules.specs.declared.verdict.Verdict.TheVariants.{Accept}
+use Rattle.hub_rules.proofs.Keeping.{kept_others}
 use Rattle.hub_rules.proofs.Verdicts.{not_refused}
 
 -- Lists with one more.
@@ -161,20 +164,9 @@ module _ (hub retailer key : List ℕ) (suppliers : List SupplierRow) (row : Sup
 
 -- The rows of the parties alone are others.
 kept_beside : (t after : Tables) → OnlyParties t after → (gln : List ℕ) → Kept (view gln t) → Kept (view gln after)
-kept_beside t after only gln kept = subst (λ u. Kept (view gln u)) (sym only) (record {
-  orders = kept.orders;
-  lines = kept.lines;
-  advices = kept.advices;
-  pallets = kept.pallets;
-  contents = kept.contents;
-  receipts = kept.receipts;
-  remembered = kept.remembered;
-  mail = kept.mail;
-  line_orders = kept.line_orders;
-  content_lines = kept.content_lines;
-  receipt_pallets = kept.receipt_pallets;
-  balanced = kept.balanced;
-})
+kept_beside t after only gln kept =
+    subst (λ u. Kept (view gln u)) (sym only)
+    (kept_others (view gln t) kept refl kept.advices kept.remembered kept.mail)
 
 enrolled : (t : Tables) → HoldsRegister t → Enrolled t
 enrolled t holds = record {
@@ -259,19 +251,7 @@ module _ (row : SupplierRow) (t : Tables) (here : SoundHub t) (may : is_join row
   sound_after : Sound (suppliers_of after) after
   sound_after = record {
     rooted = record {
-      ordered = record {
-        hubs = ordered.hubs;
-        keys = in_order_rising _ _ still_enrolled.keys_rise;
-        prefixes = in_order_rising _ _ still_enrolled.prefixes_rise;
-        orders = ordered.orders;
-        lines = ordered.lines;
-        advices = ordered.advices;
-        pallets = ordered.pallets;
-        contents = ordered.contents;
-        receipts = ordered.receipts;
-        remembered = ordered.remembered;
-        mail = ordered.mail;
-      };
+      ordered = subst Ordered (row_added row t) (ordered_after_all (row_changes row) t ordered);
       pallets = all_weaker (IsRooted (suppliers_of t)) (IsRooted (suppliers_of after)) (λ pallet rooted. record {
         supplier = rooted.supplier;
         known = row_stays row t new pallet.supplier rooted.supplier rooted.known;
@@ -333,19 +313,7 @@ founded_sound register right =
       register = holds;
       sound = record {
         rooted = subst (Rooted (suppliers_of (founded register))) (sym only) (record {
-          ordered = record {
-            hubs = subst (InOrder hub_cmp) (sym holds.one_hub) (tt, tt);
-            keys = in_order_rising _ _ holds.keys_rise;
-            prefixes = in_order_rising _ _ holds.prefixes_rise;
-            orders = tt;
-            lines = tt;
-            advices = tt;
-            pallets = tt;
-            contents = tt;
-            receipts = tt;
-            remembered = tt;
-            mail = tt;
-          };
+          ordered = subst Ordered only (rising_ordered (founded register) (founded_rises register right));
           pallets = tt;
           contents = tt;
           receipts = tt;

@@ -1,5 +1,6 @@
 -- What each change has to be for the rows of a supplier to stay as they are to be.
-use Rattle.std.proofs.Common.{◌≡◌, ℕ, ◌+◌, true, false, ◌&&◌, ◌==◌, inl, inr, List, [], ◌∷◌, filter, length, sym, ◌∙◌, ap, ap₂, arith}
+use Rattle.std.proofs.Common.{◌≡◌, ℕ, ◌+◌, true, false, ◌&&◌, ◌==◌, inl, inr, List, [], ◌∷◌, filter, length, refl, sym, ◌∙◌}
+use Rattle.std.proofs.Common.{ap, ap₂, subst, arith}
 use Rattle.std.specs.List.{AllByRecursion, list_any}
 use Rattle.std.proofs.lemmas.Bool.{and_parts}
 use Rattle.std.proofs.lemmas.Bool.Decides.{nat_tests}
@@ -21,20 +22,64 @@ use Rattle.hub_tables.specs.declared.rows.ReceiptRow.{ReceiptRow}
 use Rattle.hub_tables.specs.declared.rows.RememberedRow.{RememberedRow}
 use Rattle.hub_tables.specs.declared.rows.MailRow.{MailRow}
 use Rattle.hub_tables.proofs.KeyOrder.{all_put, any_more}
-use Rattle.hub_tables.proofs.Lists.{decide, same_is, same_if, all_replace, all_replaced, all_weaker}
-use Rattle.hub_rules.specs.Sound.{Balanced, Single, same_order, same_line_number, same_advice, same_sscc, same_gtin}
+use Rattle.hub_tables.proofs.KindOrders.{line_key}
+use Rattle.hub_tables.proofs.Lists.{any_replaced, decide, same_is, same_if, all_replace, all_replaced, all_weaker}
+use Rattle.hub_rules.specs.Sound.{Balanced, Numbered, Single, same_order, same_line_number, same_advice, same_sscc, same_gtin}
 use Rattle.hub_rules.specs.Sound.{same_reference, knows_line, was_received, Kept, same_place}
-use Rattle.hub_rules.proofs.KeptLists.{any_replaced, single_replace, numbered_put, contents_put, sent_more, sent_same}
+use Rattle.hub_rules.proofs.KeptLists.{single_replace, numbered_put, contents_put, sent_more, sent_same}
 use Rattle.hub_rules.proofs.KeptLists.{receipts_put, is_received, received_more, single_put}
 
--- a line set in place of another has its number and its place
-line_key : (r y : LineRow) → same_line r y ≡ true → (y.number ≡ r.number) × (y.line ≡ r.line)
-line_key r y e =
-    let rest = (and_parts (same y.supplier r.supplier) (same y.number r.number && (y.line == r.line)) e).1 in
-    let parts = and_parts (same y.number r.number) (y.line == r.line) rest in
-    (same_is y.number r.number parts.0, grind (arith, nat_tests, parts.1))
-
 module _ (state : Tables) (kept : Kept state) where
+  -- only rows change on which no row of another kind rests
+  pub kept_others : {after : Tables}
+      → after ≡ record after {
+        orders = state.orders;
+        lines = state.lines;
+        pallets = state.pallets;
+        contents = state.contents;
+        receipts = state.receipts;
+      }
+      → Single same_advice after.advices
+      → Single same_reference after.remembered
+      → Numbered 0 after.mail
+      → Kept after
+  kept_others only advices remembered mail = subst Kept (sym only) (record {
+    orders = kept.orders;
+    lines = kept.lines;
+    advices = advices;
+    pallets = kept.pallets;
+    contents = kept.contents;
+    receipts = kept.receipts;
+    remembered = remembered;
+    mail = mail;
+    line_orders = kept.line_orders;
+    content_lines = kept.content_lines;
+    receipt_pallets = kept.receipt_pallets;
+    balanced = kept.balanced;
+  })
+
+  -- only pallets and receipts change
+  pub kept_goods : {after : Tables}
+      → after ≡ record state { pallets = after.pallets; receipts = after.receipts }
+      → Single same_sscc after.pallets
+      → ((sscc : List ℕ) → Single same_gtin (filter (λ receipt. same receipt.sscc sscc) after.receipts))
+      → AllByRecursion (λ receipt. was_received after receipt.sscc ≡ true) after.receipts
+      → Kept after
+  kept_goods only pallets receipts receipt_pallets = subst Kept (sym only) (record {
+    orders = kept.orders;
+    lines = kept.lines;
+    advices = kept.advices;
+    pallets = pallets;
+    contents = kept.contents;
+    receipts = receipts;
+    remembered = kept.remembered;
+    mail = kept.mail;
+    line_orders = kept.line_orders;
+    content_lines = kept.content_lines;
+    receipt_pallets = receipt_pallets;
+    balanced = kept.balanced;
+  })
+
   pub kept_order : (r : OrderRow) → knows_order state r.number ≡ false → Kept (apply (AddOrder r) state)
   kept_order r fresh = record {
     orders = single_put order_cmp same_order (λ x y. bytes_eq-sym x.number y.number) state.orders r kept.orders fresh;
@@ -83,13 +128,13 @@ module _ (state : Tables) (kept : Kept state) where
   lines_known : (r : LineRow) (number : List ℕ) (n : ℕ) → knows_line (apply (SetLine r) state) number n ≡ knows_line state number n
   lines_known r number n =
       any_replaced (λ l. same l.number number && (l.line == n)) (same_line r) r state.lines
-      (λ y e. let key = line_key r y e in ap₂ (λ m k. same m number && (k == n)) key.0 key.1)
+      (λ y e. let key = line_key r y e in ap₂ (λ m k. same m number && (k == n)) key.1 key.2)
 
   lines_single : (r : LineRow) → Single same_line_number (apply (SetLine r) state).lines
   lines_single r =
       single_replace same_line_number (same_line r) r state.lines
-      (λ y z e. let key = line_key r y e in ap₂ (λ n k. same n z.number && (k == z.line)) (sym key.0) (sym key.1))
-      (λ y z e. let key = line_key r y e in ap₂ (λ n k. same z.number n && (z.line == k)) key.0 key.1) kept.lines
+      (λ y z e. let key = line_key r y e in ap₂ (λ n k. same n z.number && (k == z.line)) (sym key.1) (sym key.2))
+      (λ y z e. let key = line_key r y e in ap₂ (λ n k. same z.number n && (z.line == k)) key.1 key.2) kept.lines
 
   pub kept_set_line : (r : LineRow) → knows_order state r.number ≡ true → Balanced state r → Kept (apply (SetLine r) state)
   kept_set_line r known balance = record {
@@ -170,118 +215,50 @@ module _ (state : Tables) (kept : Kept state) where
       others (l ∷ ls) a b = (other l a.0 b.0, others ls a.1 b.1)
 
   pub kept_advice : (r : AdviceRow) → list_any (λ a. same a.number r.number) state.advices ≡ false → Kept (apply (AddAdvice r) state)
-  kept_advice r fresh = record {
-    orders = kept.orders;
-    lines = kept.lines;
-    advices = single_put advice_cmp same_advice (λ x y. bytes_eq-sym x.number y.number) state.advices r kept.advices fresh;
-    pallets = kept.pallets;
-    contents = kept.contents;
-    receipts = kept.receipts;
-    remembered = kept.remembered;
-    mail = kept.mail;
-    line_orders = kept.line_orders;
-    content_lines = kept.content_lines;
-    receipt_pallets = kept.receipt_pallets;
-    balanced = kept.balanced;
-  }
+  kept_advice r fresh =
+      kept_others refl
+      (single_put advice_cmp same_advice (λ x y. bytes_eq-sym x.number y.number) state.advices r kept.advices fresh)
+      kept.remembered kept.mail
 
   pub kept_pallet : (r : PalletRow) → has_pallet state r.sscc ≡ false → Kept (apply (AddPallet r) state)
-  kept_pallet r fresh = record {
-    orders = kept.orders;
-    lines = kept.lines;
-    advices = kept.advices;
-    pallets = single_put pallet_cmp same_sscc (λ x y. bytes_eq-sym x.sscc y.sscc) state.pallets r kept.pallets fresh;
-    contents = kept.contents;
-    receipts = kept.receipts;
-    remembered = kept.remembered;
-    mail = kept.mail;
-    line_orders = kept.line_orders;
-    content_lines = kept.content_lines;
-    receipt_pallets =
-        all_weaker (λ x. was_received state x.sscc ≡ true) (λ x. was_received (apply (AddPallet r) state) x.sscc ≡ true)
-        (λ x h. any_more pallet_cmp (λ p. same p.sscc x.sscc && is_received p) state.pallets r h) state.receipts
-        kept.receipt_pallets;
-    balanced = kept.balanced;
-  }
+  kept_pallet r fresh =
+      kept_goods refl (single_put pallet_cmp same_sscc (λ x y. bytes_eq-sym x.sscc y.sscc) state.pallets r kept.pallets fresh)
+      kept.receipts
+      (all_weaker (λ x. was_received state x.sscc ≡ true) (λ x. was_received (apply (AddPallet r) state) x.sscc ≡ true)
+      (λ x h. any_more pallet_cmp (λ p. same p.sscc x.sscc && is_received p) state.pallets r h) state.receipts
+      kept.receipt_pallets)
 
   pub kept_received : (r : PalletRow) → is_received r ≡ true → Kept (apply (SetPallet r) state)
-  kept_received r now = record {
-    orders = kept.orders;
-    lines = kept.lines;
-    advices = kept.advices;
-    pallets =
-        single_replace same_sscc (same_pallet r) r state.pallets
-        (λ y z e. ap (λ n. same n z.sscc) (sym (same_is y.sscc r.sscc e)))
-        (λ y z e. ap (same z.sscc) (same_is y.sscc r.sscc e)) kept.pallets;
-    contents = kept.contents;
-    receipts = kept.receipts;
-    remembered = kept.remembered;
-    mail = kept.mail;
-    line_orders = kept.line_orders;
-    content_lines = kept.content_lines;
-    receipt_pallets =
-        all_weaker (λ x. was_received state x.sscc ≡ true) (λ x. was_received (apply (SetPallet r) state) x.sscc ≡ true)
-        (λ x h. received_more r state.pallets x.sscc now h) state.receipts kept.receipt_pallets;
-    balanced = kept.balanced;
-  }
+  kept_received r now =
+      kept_goods refl
+      (single_replace same_sscc (same_pallet r) r state.pallets
+      (λ y z e. ap (λ n. same n z.sscc) (sym (same_is y.sscc r.sscc e)))
+      (λ y z e. ap (same z.sscc) (same_is y.sscc r.sscc e)) kept.pallets) kept.receipts
+      (all_weaker (λ x. was_received state x.sscc ≡ true) (λ x. was_received (apply (SetPallet r) state) x.sscc ≡ true)
+      (λ x h. received_more r state.pallets x.sscc now h) state.receipts kept.receipt_pallets)
 
   pub kept_receipt : (r : ReceiptRow)
       → InOrder receipt_cmp state.receipts
       → was_received state r.sscc ≡ true
       → list_any (λ y. same_gtin y r) (filter (λ y. same y.sscc r.sscc) state.receipts) ≡ false
       → Kept (apply (AddReceipt r) state)
-  kept_receipt r ordered received fresh = record {
-    orders = kept.orders;
-    lines = kept.lines;
-    advices = kept.advices;
-    pallets = kept.pallets;
-    contents = kept.contents;
-    receipts = λ sscc. receipts_put sscc state.receipts r ordered (kept.receipts sscc) fresh;
-    remembered = kept.remembered;
-    mail = kept.mail;
-    line_orders = kept.line_orders;
-    content_lines = kept.content_lines;
-    receipt_pallets = all_put receipt_cmp (λ x. was_received state x.sscc ≡ true) state.receipts r kept.receipt_pallets received;
-    balanced = kept.balanced;
-  }
+  kept_receipt r ordered received fresh =
+      kept_goods refl kept.pallets (λ sscc. receipts_put sscc state.receipts r ordered (kept.receipts sscc) fresh)
+      (all_put receipt_cmp (λ x. was_received state x.sscc ≡ true) state.receipts r kept.receipt_pallets received)
 
   pub kept_remembered : (r : RememberedRow)
       → list_any (λ row. same_reference row r) state.remembered ≡ false
       → Kept (apply (Remember r) state)
-  kept_remembered r fresh = record {
-    orders = kept.orders;
-    lines = kept.lines;
-    advices = kept.advices;
-    pallets = kept.pallets;
-    contents = kept.contents;
-    receipts = kept.receipts;
-    remembered =
-        single_put remembered_cmp same_reference (λ x y. ap₂ (λ v w. v && w) (nat_eq-sym x.side y.side)
-        (ap₂ (λ v w. v && w) (bytes_eq-sym x.control y.control) (bytes_eq-sym x.message y.message))) state.remembered r
-        kept.remembered fresh;
-    mail = kept.mail;
-    line_orders = kept.line_orders;
-    content_lines = kept.content_lines;
-    receipt_pallets = kept.receipt_pallets;
-    balanced = kept.balanced;
-  }
+  kept_remembered r fresh =
+      kept_others refl kept.advices
+      (single_put remembered_cmp same_reference (λ x y. ap₂ (λ v w. v && w) (nat_eq-sym x.side y.side)
+      (ap₂ (λ v w. v && w) (bytes_eq-sym x.control y.control) (bytes_eq-sym x.message y.message))) state.remembered r
+      kept.remembered fresh) kept.mail
 
   pub kept_mail : (s : List ℕ) (r : MailRow)
       → AllByRecursion (λ entry. entry.supplier ≡ s) state.mail
       → r.supplier ≡ s
       → r.number ≡ length state.mail + 1
       → Kept (apply (AddMail r) state)
-  kept_mail s r own whose next = record {
-    orders = kept.orders;
-    lines = kept.lines;
-    advices = kept.advices;
-    pallets = kept.pallets;
-    contents = kept.contents;
-    receipts = kept.receipts;
-    remembered = kept.remembered;
-    mail = numbered_put s state.mail r kept.mail own whose next;
-    line_orders = kept.line_orders;
-    content_lines = kept.content_lines;
-    receipt_pallets = kept.receipt_pallets;
-    balanced = kept.balanced;
-  }
+  kept_mail s r own whose next =
+      kept_others refl kept.advices kept.remembered (numbered_put s state.mail r kept.mail own whose next)

@@ -19,6 +19,7 @@ use Rattle.hub_tables.specs.declared.change.Change.{Change}
 use Rattle.hub_tables.specs.declared.change.Change.TheVariants.{SetPallet, AddReceipt, ClearReceipts}
 use Rattle.hub_tables.specs.declared.rows.PalletRow.{PalletRow}
 use Rattle.hub_tables.specs.declared.rows.ReceiptRow.{ReceiptRow}
+use Rattle.hub_tables.proofs.Filters.{filter_swap, filter_opposite}
 use Rattle.hub_tables.proofs.KeyOrder.{any_put, filter_put_in}
 use Rattle.hub_tables.proofs.KindOrders.{receipt_total}
 use Rattle.hub_tables.proofs.Lists.{decide, same_is, same_if, differ, all_filter, all_weaker, all_always, all_found, any_if_found}
@@ -31,9 +32,8 @@ use Rattle.hub_rules.specs.ReceiptRules.{gtins, total, new_receipt, arrival_by, 
 use Rattle.hub_rules.specs.Rules.{judge_receipt}
 use Rattle.hub_rules.specs.declared.code.Code.TheVariants as codes
 use Rattle.hub_rules.specs.declared.incoming.IncomingMessage.{IncomingMessage}
-use Rattle.hub_rules.proofs.Filters.{filter_swap, filter_opposite}
 use Rattle.hub_rules.proofs.GoodRows.{good_after, leaves_good}
-use Rattle.hub_rules.proofs.Keeping.{kept_received, kept_receipt, kept_mail}
+use Rattle.hub_rules.proofs.Keeping.{kept_goods, kept_received, kept_receipt, kept_mail}
 use Rattle.hub_rules.proofs.KeptByMessages.{leads_message}
 use Rattle.hub_rules.proofs.KeptLists.{is_received, received_now, found_unreceived}
 use Rattle.hub_rules.proofs.OnPallets.{pallet_stays}
@@ -58,23 +58,12 @@ single_filter alike p (x ∷ xs) a =
 
 -- the receipts of a pallet go
 kept_cleared : (state : Tables) (sscc : List ℕ) → Kept state → Kept (apply (ClearReceipts sscc) state)
-kept_cleared state sscc kept = record {
-  orders = kept.orders;
-  lines = kept.lines;
-  advices = kept.advices;
-  pallets = kept.pallets;
-  contents = kept.contents;
-  receipts = λ of.
-      subst (Single same_gtin) (filter_swap (λ (r : ReceiptRow). not (same r.sscc sscc)) (λ r. same r.sscc of) state.receipts)
-      (single_filter same_gtin (λ r. not (same r.sscc sscc)) (filter (λ r. same r.sscc of) state.receipts) (kept.receipts of));
-  remembered = kept.remembered;
-  mail = kept.mail;
-  line_orders = kept.line_orders;
-  content_lines = kept.content_lines;
-  receipt_pallets =
-      all_filter (λ r. was_received state r.sscc ≡ true) (λ r. not (same r.sscc sscc)) state.receipts kept.receipt_pallets;
-  balanced = kept.balanced;
-}
+kept_cleared state sscc kept =
+    kept_goods state kept refl kept.pallets
+    (λ of.
+    subst (Single same_gtin) (filter_swap (λ (r : ReceiptRow). not (same r.sscc sscc)) (λ r. same r.sscc of) state.receipts)
+    (single_filter same_gtin (λ r. not (same r.sscc sscc)) (filter (λ r. same r.sscc of) state.receipts) (kept.receipts of)))
+    (all_filter (λ r. was_received state r.sscc ≡ true) (λ r. not (same r.sscc sscc)) state.receipts kept.receipt_pallets)
 
 gone : (gtin : List ℕ) (gtins : List (List ℕ)) → list_any (same gtin) (filter (λ other. not (same other gtin)) gtins) ≡ false
 gone gtin [] = refl

@@ -19,7 +19,7 @@ use Rattle.hub_tables.specs.declared.rows.ReceiptRow.{ReceiptRow}
 use Rattle.hub_tables.specs.State.{is_announced}
 use Rattle.hub_tables.proofs.KeyOrder.{any_put, filter_put_in, filter_put_out, sum_put, put_last}
 use Rattle.hub_tables.proofs.KindOrders.{content_total, receipt_total}
-use Rattle.hub_tables.proofs.Lists.{decide, same_is, same_if}
+use Rattle.hub_tables.proofs.Lists.{any_replaced, decide, same_is, same_if}
 use Rattle.hub_rules.specs.Sound.{Numbered, Single, same_place, same_gtin, same_sscc}
 
 -- A list with one more.
@@ -44,18 +44,6 @@ module _ {X : Type 0} (cmp : X → X → Ordering) where
       turned (z ∷ zs) g =
           let parts = or_parts (alike z x) (list_any (λ y. alike y x) zs) g in
           ap₂ (λ v w. v || w) (turn x z ∙ parts.0) (turned zs parts.1)
-
--- a row with the same key is found alike
-pub any_replaced : {X : Type 0} (p at : X → Bool) (r : X) (xs : List X)
-    → ((y : X) → at y ≡ true → p y ≡ p r)
-    → list_any p (replace at r xs) ≡ list_any p xs
-any_replaced p at r [] f = refl
-any_replaced p at r (y ∷ ys) f =
-    let ih = any_replaced p at r ys f in
-    elim (decide (at y)) [
-      | inl e ↦ let alike : p y ≡ p r = f y e in grind (arith, e, alike, ih)
-      | inr e ↦ grind (arith, e, ih)
-    ]
 
 any_alike : {X : Type 0} (p q : X → Bool) (xs : List X) → ((x : X) → p x ≡ q x) → list_any p xs ≡ list_any q xs
 any_alike p q [] f = refl

@@ -2,7 +2,6 @@ pub mod Alike
 pub mod Belonging
 pub mod Changes
 mod Examples
-pub mod Filters
 pub mod Fitting
 pub mod GoodRows
 mod JoinExamples

@@ -1,31 +1,16 @@
 -- Pallets stay, and contents and receipts are on pallets that are there.
-use Rattle.std.proofs.Common.{◌≡◌, ℕ, true, not, ◌||◌, inl, inr, List, [], ◌∷◌, refl, ap, ◌∙◌, arith}
+use Rattle.std.proofs.Common.{◌≡◌, ℕ, true, not, ◌||◌, List, [], ◌∷◌, ap, ◌∙◌}
 use Rattle.std.specs.Prelude.{⊤}
 use Rattle.std.specs.List.{AllByRecursion, list_any}
-use Rattle.hub_parties.specs.KeyOrder.{replace}
 use Rattle.hub_tables.specs.Change.{apply}
 use Rattle.hub_tables.specs.Rows.{same, pallet_cmp, content_cmp, receipt_cmp, same_pallet}
 use Rattle.hub_tables.specs.Tables.{Tables, has_pallet}
 use Rattle.hub_tables.specs.declared.change.Change.{Change}
 use Rattle.hub_tables.specs.declared.change.Change.TheVariants.{AddPallet, SetPallet, AddContent, AddReceipt, ClearReceipts}
 use Rattle.hub_tables.specs.declared.rows.ContentRow.{ContentRow}
-use Rattle.hub_tables.specs.declared.rows.PalletRow.{PalletRow}
 use Rattle.hub_tables.specs.declared.rows.ReceiptRow.{ReceiptRow}
 use Rattle.hub_tables.proofs.KeyOrder.{all_put, any_put}
-use Rattle.hub_tables.proofs.Lists.{decide, same_is, all_filter, all_weaker}
-
-has_set : (r : PalletRow) (ps : List PalletRow) (x : List ℕ)
-    → list_any (λ p. same p.sscc x) (replace (same_pallet r) r ps) ≡ list_any (λ p. same p.sscc x) ps
-has_set r [] x = refl
-has_set r (p ∷ ps) x =
-    let ih = has_set r ps x in
-    elim (decide (same p.sscc r.sscc)) [
-      | inl e ↦
-          let number : p.sscc ≡ r.sscc = same_is p.sscc r.sscc e in
-          let head : same r.sscc x ≡ same p.sscc x = cc in
-          grind (arith, e, head, ih)
-      | inr e ↦ grind (arith, e, ih)
-    ]
+use Rattle.hub_tables.proofs.Lists.{any_replaced, same_is, all_filter, all_weaker}
 
 -- a pallet stays
 pub pallet_stays : (sscc : List ℕ) (t : Tables) (change : Change)
@@ -33,7 +18,8 @@ pub pallet_stays : (sscc : List ℕ) (t : Tables) (change : Change)
     → has_pallet (apply change t) sscc ≡ true
 pallet_stays sscc t (AddPallet r) h =
     any_put pallet_cmp (λ p. same p.sscc sscc) t.pallets r ∙ ap (λ v. v || list_any (λ p. same p.sscc sscc) (r ∷ [])) h
-pallet_stays sscc t (SetPallet r) h = has_set r t.pallets sscc ∙ h
+pallet_stays sscc t (SetPallet r) h =
+    any_replaced (λ p. same p.sscc sscc) (same_pallet r) r t.pallets (λ y e. ap (λ n. same n sscc) (same_is y.sscc r.sscc e)) ∙ h
 pallet_stays sscc t other h = h
 
 -- a content or a receipt that is added is on a pallet that is there

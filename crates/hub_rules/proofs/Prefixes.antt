@@ -1,9 +1,10 @@
 -- Whose an SSCC is.
-use Rattle.std.proofs.Common.{◌≡◌, ◌≢◌, ℕ, zero, suc, ◌<◌, Bool, true, false, cond, ◌&&◌, ◌||◌, inl, inr, List, [], ◌∷◌}
+use Rattle.std.proofs.Common.{◌≡◌, ◌≢◌, ℕ, suc, ◌<◌, true, false, cond, ◌&&◌, ◌||◌, inl, inr, List, [], ◌∷◌}
 use Rattle.std.proofs.Common.{length, get_or, filter, Some, refl, sym, ◌∙◌, ap, arith}
+use Rattle.std.specs.Bool.{⊤}
 use Rattle.std.specs.List.{AllByRecursion, list_any}
 use Rattle.std.proofs.lemmas.Bool.{and_parts}
-use Rattle.std.proofs.lemmas.List.{get_or-map, length-map}
+use Rattle.std.proofs.lemmas.List.{get_or_default, get_or-map, length-map}
 use Rattle.gs1_ids.specs.Sscc.{under_some}
 use Rattle.gs1_ids.specs.Overlap.{PrefixFree}
 use Rattle.gs1_ids.proofs.Overlaps.{one_supplier}
@@ -12,35 +13,13 @@ use Rattle.hub_parties.specs.declared.row.SupplierRow.{SupplierRow}
 use Rattle.hub_tables.specs.Rows.{same}
 use Rattle.hub_tables.specs.Tables.{Tables, holds}
 use Rattle.hub_tables.specs.declared.rows.PalletRow.{PalletRow}
-use Rattle.hub_tables.proofs.Lists.{decide, same_is, same_if, differ, all_weaker}
+use Rattle.hub_tables.proofs.Lists.{decide, same_is, same_if, differ, all_weaker, all_always, all_found}
 use Rattle.hub_rules.specs.Sound.{IsRooted}
 
--- one that passes; and what passes it finds it
-pub any_found : {X : Type 0} (p : X → Bool) (xs : List X)
-    → list_any p xs ≡ true
-    → (x : X) × (p x ≡ true) × ((r : X → Bool) → r x ≡ true → list_any r xs ≡ true)
-any_found p [] h = cc
-any_found {X} p (y ∷ ys) h =
-    elim (p y) as (λ v. p y ≡ v
-    → (v || list_any p ys) ≡ true
-    → (x : X) × (p x ≡ true) × ((r : X → Bool) → r x ≡ true → (r y || list_any r ys) ≡ true)) [
-      | true ↦ λ e _. (y, e, λ r h. ap (λ v. v || list_any r ys) h)
-      | false ↦ λ e g. let found = any_found p ys g in
-          (found.0, found.1, λ r h. elim (r y) as (λ v. (v || list_any r ys) ≡ true) [ true ↦ refl | false ↦ found.2 r h ])
-    ] refl h
-
-get_or_default : {X : Type 0} (xs : List X) (i : ℕ) (d e : X) → i < length xs → get_or xs i d ≡ get_or xs i e
-get_or_default [] i d e h = absurd (omega arith)
-get_or_default (x ∷ xs) zero d e h = refl
-get_or_default (x ∷ xs) (suc i) d e h = get_or_default xs i d e (omega arith)
-
 pub gln_found : (suppliers : List SupplierRow) (gln : List ℕ) (s : SupplierRow) → supplier_row suppliers gln ≡ Some s → s.gln ≡ gln
-gln_found [] gln s h = cc
-gln_found (first ∷ suppliers) gln s h =
-    elim (same first.gln gln) as (λ v. same first.gln gln ≡ v → cond v (Some first) (supplier_row suppliers gln) ≡ Some s → s.gln ≡ gln) [
-      | true ↦ λ e found. let is : first ≡ s = cc in ap (λ (r : SupplierRow). r.gln) (sym is) ∙ same_is first.gln gln e
-      | false ↦ λ e found. gln_found suppliers gln s found
-    ] refl h
+gln_found suppliers gln s known =
+    same_is s.gln gln (all_found (λ _. ⊤) (λ supplier. same supplier.gln gln) suppliers s (all_always (λ _. ⊤) (λ _. tt) suppliers)
+    known).1
 
 -- a supplier that is found stands at a place
 place_of : (suppliers : List SupplierRow) (gln : List ℕ) (s : SupplierRow)

@@ -1,39 +1,25 @@
 -- What is accepted is remembered, and what is remembered is repeated.
 use Rattle.std.proofs.Common.{◌≡◌, ℕ, Bool, true, false, cond, ◌&&◌, ◌==◌, inl, inr, List, [], ◌∷◌, find, Option}
 use Rattle.std.proofs.Common.{Some, None, refl, sym, ◌∙◌, ap, subst, arith}
-use Rattle.std.specs.declared.cmp.Ordering.{Ordering}
-use Rattle.std.specs.Ordering.{is_gt}
 use Rattle.std.proofs.lemmas.Bool.{and_from}
 use Rattle.std.proofs.lemmas.Bool.Decides.{nat_tests}
 use Rattle.hub_tables.specs.Cases.{side_letter}
 use Rattle.hub_tables.specs.Change.{apply, apply_all}
-use Rattle.hub_parties.specs.KeyOrder.{put}
 use Rattle.hub_tables.specs.Rows.{same, remembered_cmp}
 use Rattle.hub_tables.specs.Sets.{Has}
 use Rattle.hub_tables.specs.State.{remembered_of}
 use Rattle.hub_tables.specs.Tables.{Tables, view}
 use Rattle.hub_tables.specs.declared.change.Change.{Change}
-use Rattle.hub_tables.specs.declared.change.Change.TheVariants.{AddHub, AddKey, AddPrefix}
-use Rattle.hub_tables.specs.declared.change.Change.TheVariants.{AddOrder, AddLine, SetLine, AddAdvice, AddPallet, SetPallet}
-use Rattle.hub_tables.specs.declared.change.Change.TheVariants.{AddContent, AddReceipt, ClearReceipts, Remember, AddMail, SetMail}
+use Rattle.hub_tables.specs.declared.change.Change.TheVariants.{Remember}
 use Rattle.hub_tables.specs.declared.rows.RememberedRow.{RememberedRow}
 use Rattle.hub_tables.proofs.Lists.{same_if}
-use Rattle.hub_tables.proofs.Members.{none_of, has_filter}
+use Rattle.hub_tables.proofs.Members.{none_of, has_put, has_filter}
 use Rattle.hub_rules.specs.Judging.{Judge, gives, joined, in_turn}
 use Rattle.hub_rules.specs.Sound.{Single, same_reference}
 use Rattle.hub_rules.specs.RepeatRules.{Reference, remembered, once, judge_once}
 use Rattle.hub_rules.specs.declared.code.Code.TheVariants.{OtherContent}
 use Rattle.hub_rules.specs.declared.verdict.Verdict.{Verdict}
 use Rattle.hub_rules.specs.declared.verdict.Verdict.TheVariants.{Accept, Refuse}
-
-module _ {X : Type 0} (cmp : X → X → Ordering) where
-  put_has : (xs : List X) (x y : X) → Has (x ∷ xs) y → Has (put cmp x xs) y
-  put_has [] x y h = h
-  put_has (z ∷ zs) x y h =
-      elim (is_gt (cmp z x)) as (λ v. Has (cond v (x ∷ z ∷ zs) (z ∷ put cmp x zs)) y) [
-        | true ↦ h
-        | false ↦ elim h [ inl e ↦ inr (put_has zs x y (inl e)) | inr g ↦ elim g [ inl e ↦ inl e | inr k ↦ inr (put_has zs x y (inr k)) ] ]
-      ]
 
 -- the one row that passes is found
 found_single : {X : Type 0} (alike : X → X → Bool) (p : X → Bool) (x : X)
@@ -58,21 +44,8 @@ found_single alike p x tied passes (y ∷ ys) single h =
 
 -- a row that is remembered stays
 has_after : (change : Change) (t : Tables) (row : RememberedRow) → Has t.remembered row → Has (apply change t).remembered row
-has_after (AddHub r) t row h = h
-has_after (AddKey r) t row h = h
-has_after (AddPrefix r) t row h = h
-has_after (AddOrder r) t row h = h
-has_after (AddLine r) t row h = h
-has_after (SetLine r) t row h = h
-has_after (AddAdvice r) t row h = h
-has_after (AddPallet r) t row h = h
-has_after (SetPallet r) t row h = h
-has_after (AddContent r) t row h = h
-has_after (AddReceipt r) t row h = h
-has_after (ClearReceipts sscc) t row h = h
-has_after (Remember r) t row h = put_has remembered_cmp t.remembered r row (inr h)
-has_after (AddMail r) t row h = h
-has_after (SetMail r) t row h = h
+has_after (Remember r) t row h = has_put remembered_cmp t.remembered r row (inr h)
+has_after _ t row h = h
 
 pub has_after_all : (changes : List Change) (t : Tables) (row : RememberedRow)
     → Has t.remembered row
@@ -120,7 +93,7 @@ accepted_has r content fresh state t change changes h =
     (fresh (apply (Remember (remembered r content)) state)) change changes h in
     subst (λ c. Has (apply_all (c ∷ changes) t).remembered (remembered r content)) first
     (has_after_all changes (apply (Remember (remembered r content)) t) (remembered r content)
-    (put_has remembered_cmp t.remembered (remembered r content) (remembered r content) (inl refl)))
+    (has_put remembered_cmp t.remembered (remembered r content) (remembered r content) (inl refl)))
 
 -- what is remembered is repeated
 pub once_again : (r : Reference) (content : List ℕ) (fresh : Judge) (state : Tables)

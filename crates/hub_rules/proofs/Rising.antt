@@ -19,13 +19,14 @@ use Rattle.hub_tables.specs.Rows.{same, order_cmp, line_cmp, advice_cmp, pallet_
 use Rattle.hub_tables.specs.Sets.{Rising}
 use Rattle.hub_tables.specs.Tables.{Tables, Ordered, has_pallet, holds, view}
 use Rattle.hub_tables.specs.declared.rows.MailRow.{MailRow}
+use Rattle.hub_tables.proofs.Filters.{filter_again}
 use Rattle.hub_tables.proofs.KeyOrder.{in_order_filter, rises_filter}
 use Rattle.hub_tables.proofs.Lists.{decide, same_is, same_if, filter_none, all_weaker, all_always}
+use Rattle.hub_tables.proofs.Members.{one_of, any_if}
 use Rattle.hub_rules.specs.Laws.{PartiesRise}
 use Rattle.hub_rules.specs.Sound.{Numbered, Single, same_order, same_line_number, same_advice, same_sscc, same_place}
 use Rattle.hub_rules.specs.Sound.{same_gtin, same_reference, Kept, IsRooted, Rooted}
-use Rattle.hub_rules.proofs.Filters.{filter_again}
-use Rattle.hub_rules.proofs.Prefixes.{any_found, owner}
+use Rattle.hub_rules.proofs.Prefixes.{owner}
 use Rattle.hub_rules.proofs.Views.{ordered_view}
 
 -- Keys that tie.
@@ -198,11 +199,11 @@ module _ {X : Type 0} (cmp : X → X → Ordering) (sscc : X → List ℕ) (t : 
   rises_on_pallet of there f =
       elim (decide (has_pallet t of)) [
         | inl e ↦
-            let pallet = any_found (λ p. same p.sscc of) t.pallets e in
+            let pallet = one_of (λ p. same p.sscc of) t.pallets e in
             let gln = (pallet.0).supplier in
             let held : holds gln t.pallets of ≡ true =
-            pallet.2 (λ p. same p.supplier gln && same p.sscc of)
-            (and_from (same gln gln) (same (pallet.0).sscc of) (same_if gln gln refl) pallet.1) in
+            any_if (λ p. same p.supplier gln && same p.sscc of) t.pallets pallet.0 pallet.1
+            (and_from (same gln gln) (same (pallet.0).sscc of) (same_if gln gln refl) pallet.2) in
             subst (Rises cmp) (filter_again (λ x. same (sscc x) of) (λ x. holds gln t.pallets (sscc x)) xs
             (λ x h. ap (holds gln t.pallets) (same_is (sscc x) of h) ∙ held))
             (rises_filter cmp (λ x. same (sscc x) of) (filter (λ x. holds gln t.pallets (sscc x)) xs) (f gln))

@@ -41,7 +41,8 @@ pub fn empty_tables_are_rooted()
 /// line of a content and the pallet of a receipt are there; numbers go on; and on every line ordered is open, refused,
 /// cancelled and despatched together.
 pub fn rules_keep_rows()
-    ensures order { (s : SupplierRow) (state : Tables) (retailer : List ℕ) (incoming : IncomingMessage) (body : List ℕ)
+    ensures order { (s : SupplierRow) (state : Tables) (retailer : List ℕ)
+        (incoming : IncomingMessage) (body : List ℕ)
         (order : Order) (changes : List Change) →
         KeptOwn s state → has_number_twice (map (λ line. line.line) order.lines) ≡ false →
         judge_order retailer (Some s) incoming body order state ≡ Accept changes →
@@ -58,7 +59,8 @@ pub fn rules_keep_rows()
         (body : List ℕ) (receipt : Receipt) (changes : List Change) →
         KeptOwn s state → judge_receipt retailer (Some s) incoming body receipt state ≡ Accept changes →
         KeptOwn s (apply_all changes state) }
-    ensures cancel { (s : SupplierRow) (state : Tables) (content : List ℕ) (cancel : Cancel) (changes : List Change) →
+    ensures cancel { (s : SupplierRow) (state : Tables) (content : List ℕ) (cancel : Cancel)
+        (changes : List Change) →
         KeptOwn s state → judge_cancel (Some s) content cancel state ≡ Accept changes →
         KeptOwn s (apply_all changes state) }
 {}
@@ -89,7 +91,8 @@ pub fn rules_keep_suppliers_apart()
     ensures cancel { (suppliers : List SupplierRow) (s : SupplierRow) (t : Tables) (content : List ℕ)
         (cancel : Cancel) (changes : List Change) →
         Registered suppliers s t →
-        judge_cancel (Some s) content cancel (view s.gln t) ≡ Accept changes → KeepsApart suppliers s t changes }
+        judge_cancel (Some s) content cancel (view s.gln t) ≡ Accept changes →
+        KeepsApart suppliers s t changes }
 {}
 
 /// What the rules accept of what a supplier sees of sound tables fits these, where the rows of the register rise: they
@@ -97,7 +100,8 @@ pub fn rules_keep_suppliers_apart()
 pub fn accepted_changes_fit()
     ensures order { (suppliers : List SupplierRow) (s : SupplierRow) (t : Tables) (retailer : List ℕ)
         (incoming : IncomingMessage) (body : List ℕ) (order : Order) (changes : List Change) →
-        Registered suppliers s t → PartiesRise t → has_number_twice (map (λ line. line.line) order.lines) ≡ false →
+        Registered suppliers s t → PartiesRise t →
+        has_number_twice (map (λ line. line.line) order.lines) ≡ false →
         judge_order retailer (Some s) incoming body order (view s.gln t) ≡ Accept changes → Fit changes t }
     ensures response { (suppliers : List SupplierRow) (s : SupplierRow) (t : Tables) (retailer : List ℕ)
         (incoming : IncomingMessage) (response : Response) (changes : List Change) →
@@ -106,11 +110,13 @@ pub fn accepted_changes_fit()
     ensures despatch { (suppliers : List SupplierRow) (s : SupplierRow) (t : Tables) (retailer : List ℕ)
         (used : List ℕ → Bool) (incoming : IncomingMessage) (despatch : Despatch) (changes : List Change) →
         Registered suppliers s t → PartiesRise t →
-        judge_despatch retailer (Some s) used incoming despatch (view s.gln t) ≡ Accept changes → Fit changes t }
+        judge_despatch retailer (Some s) used incoming despatch (view s.gln t) ≡ Accept changes →
+        Fit changes t }
     ensures receipt { (suppliers : List SupplierRow) (s : SupplierRow) (t : Tables) (retailer : List ℕ)
         (incoming : IncomingMessage) (body : List ℕ) (receipt : Receipt) (changes : List Change) →
         Registered suppliers s t → PartiesRise t →
-        judge_receipt retailer (Some s) incoming body receipt (view s.gln t) ≡ Accept changes → Fit changes t }
+        judge_receipt retailer (Some s) incoming body receipt (view s.gln t) ≡ Accept changes →
+        Fit changes t }
     ensures cancel { (suppliers : List SupplierRow) (s : SupplierRow) (t : Tables) (content : List ℕ)
         (cancel : Cancel) (changes : List Change) →
         Registered suppliers s t → PartiesRise t →
@@ -134,7 +140,8 @@ pub fn founded_tables_are_sound()
 /// What the rules accept with changes is remembered, by the first of these. They accept without any change exactly what
 /// is remembered with the same content, of no other buyer (B01) and of the supplier itself (B02).
 pub fn accepted_is_remembered()
-    ensures order { (s : SupplierRow) (state : Tables) (retailer : List ℕ) (incoming : IncomingMessage) (body : List ℕ)
+    ensures order { (s : SupplierRow) (state : Tables) (retailer : List ℕ)
+        (incoming : IncomingMessage) (body : List ℕ)
         (order : Order) →
         Remembers (referred_by s sides.Retailer incoming) incoming.content
         ((is_other_buyer retailer (Some order.buyer) ≡ false) × (order.supplier ≡ s.gln)) state

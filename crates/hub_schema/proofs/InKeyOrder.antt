@@ -2,6 +2,7 @@
 use Rattle.std.proofs.Common.{◌≡◌, ◌⊎◌, inl, inr, Bool, true, false, cond, ◌||◌, List, [], ◌∷◌, ◌++◌, fold, filter, map}
 use Rattle.std.proofs.Common.{refl, sym, ap, ap₂, ◌∙◌}
 use Rattle.std.specs.Bool.{⊤}
+use Rattle.std.proofs.Math.Bool.{or-false}
 use Rattle.std.specs.List.{AllByRecursion, list_any}
 use Rattle.std.specs.declared.cmp.Ordering.{Ordering}
 use Rattle.std.specs.declared.cmp.Ordering.TheVariants.{Less, Equal, Greater}
@@ -117,13 +118,9 @@ module _ {X : Type 0} (cmp : X → X → Ordering) where
       all_any p xs (put cmp x there) ∙ ap (λ v. list_any p xs || v) (any_put cmp p there x)
       ∙ turned (list_any p xs) (list_any p there) (p x)
 
-  or_none : (b : Bool) → (b || false) ≡ b
-  or_none true = refl
-  or_none false = refl
-
   -- whether some row passes
   pub listed_any : (p : X → Bool) (xs : List X) → list_any p (in_key_order cmp xs) ≡ list_any p xs
-  listed_any p xs = all_any p xs [] ∙ or_none (list_any p xs)
+  listed_any p xs = all_any p xs [] ∙ or-false (list_any p xs)
 
 module _ {X : Type 0} {cmp : X → X → Ordering} (total : IsTotalOrder cmp) where
   all_filter : (p : X → Bool) (xs there : List X) → InOrder cmp there

@@ -1,6 +1,7 @@
 -- What the making of a table leaves.
 use Rattle.std.proofs.Common.{◌≡◌, ◌⊎◌, ◌<◌, ◌≤◌, ℕ, pos, if◌then◌else◌, List, [], ◌∷◌, ◌++◌, length, map, drop, take}
-use Rattle.std.proofs.Common.{◌-◌, get_or, ◌==◌, None, Result, Ok, Err, OnOk, OnErr, inl, inr, false, refl, sym, ap, subst, ◌∙◌, arith}
+use Rattle.std.proofs.Common.{◌-◌, get_or, ◌==◌, None, Result, Ok, Err, OnOk, OnErr, inl, inr, false, refl, sym, ap, subst}
+use Rattle.std.proofs.Common.{append_assoc, append-nil, ◌∙◌, arith}
 use Rattle.std.specs.List.{AllByRecursion}
 use Rattle.std.specs.Prelude.{fold}
 use Rattle.std.proofs.lemmas.Bool.Decides.{nat_tests}
@@ -69,11 +70,6 @@ with_more : (made : Schema) (begun : List Table) (table : Table)
 with_more made [] table = refl
 with_more made (first ∷ begun) table = with_more (created made (record first { tree = 0 })) begun table
 
-behind : (begun : List Table) (table : Table) (tables : List Table)
-    → (begun ++ table ∷ []) ++ tables ≡ begun ++ table ∷ tables
-behind [] table tables = refl
-behind (first ∷ begun) table tables = ap (λ ts. first ∷ ts) (behind begun table tables)
-
 module _ (rows : Trees) (d : Definition) (definitions : List Definition) (old mid new : State)
     (one : (schema : Schema) (table : Table) → Defines d.text.now schema table → rows (next_tree schema) ≡ []
     → HasMade rows schema old → MakesOn rows (created schema table) old mid) where
@@ -97,7 +93,7 @@ module _ (rows : Trees) (d : Definition) (definitions : List Definition) (old mi
   made_more r rest begun [] make none has = absurd make
   made_more r rest begun (table ∷ tables) make none has =
       let first = first_made begun tables table make none has in
-      subst (λ all. OnOk r (MakesOn rows (schema_with all) old new)) (behind begun table tables)
+      subst (λ all. OnOk r (MakesOn rows (schema_with all) old new)) (append_assoc begun (table ∷ []) tables)
       (joined r (schema_with ((begun ++ table ∷ []) ++ tables)) first.committed
       (rest (begun ++ table ∷ []) tables make.2 none.1 first.made))
 
@@ -124,7 +120,7 @@ module _ (rows : Trees) (d : Definition) (definitions : List Definition) (old mi
   stops_on r kept left begun (table ∷ tables) rest make none are has =
       let first = first_made begun tables table make none has in
       later_fault r first.committed kept
-      (left (begun ++ table ∷ []) tables rest make.2 none.1 (are ∙ sym (behind begun table (tables ++ rest)))
+      (left (begun ++ table ∷ []) tables rest make.2 none.1 (are ∙ sym (append_assoc begun (table ∷ []) (tables ++ rest)))
       first.made)
 
 others : {X : Type 0} (x : X) (xs : List X) → take (length (x ∷ xs) - 1) (drop 1 (x ∷ xs)) ≡ xs
@@ -167,11 +163,7 @@ pub made_none : (rows : Trees) (begun tables : List Table) (definitions : List D
     → length definitions < 1 → Make begun definitions tables → HasMade rows (schema_with begun) s
     → MakesOn rows (schema_with (begun ++ tables)) s s
 made_none rows begun [] [] s low make has =
-    record { made = subst (λ all. HasMade rows (schema_with all) s) (sym (nothing_more begun)) has; committed = refl }
-  where
-    nothing_more : (begun : List Table) → begun ++ [] ≡ begun
-    nothing_more [] = refl
-    nothing_more (first ∷ begun) = ap (λ ts. first ∷ ts) (nothing_more begun)
+    record { made = subst (λ all. HasMade rows (schema_with all) s) (sym (append-nil begun)) has; committed = refl }
 made_none rows begun (table ∷ tables) [] s low make has = absurd make
 made_none rows begun tables (d ∷ definitions) s low make has = absurd (omega (arith, low))
 

@@ -87,11 +87,6 @@ natural_same (negsuc n) (pos m) e =
     ])
 natural_same (negsuc n) (negsuc m) e = let same : n ≡ m = omega (arith, e) in ap negsuc same
 
-equal_is : (o : Ordering) → is_eq o ≡ true → o ≡ Equal
-equal_is Less h = cc
-equal_is Equal h = refl
-equal_is Greater h = cc
-
 same_blobs : (v w : Value) (b c : List ℕ) → v ≡ value.Blob b → w ≡ value.Blob c → bytes_in v ≡ bytes_in w
     → equal Binary v w ≡ true
 same_blobs v w b c is at e =

@@ -23,6 +23,10 @@ use Rattle.hub_store.specs.declared.fault.StoreFault.TheVariants.{Unclean}
 use Rattle.hub_schema.specs.Rows.{tables_in}
 use Rattle.hub_schema.specs.Schema.{old_schema, hub_schema, hub_tables, schema_table, traffic_tables}
 
+-- what is never so
+abbrev pub Never : {X : Type 0} → X → Type 0
+Never x = ⊥
+
 -- under the number of each of these tables stands a table
 abbrev pub AreTables : (ℕ → Shape) → List declared.Table → Type 0
 AreTables shape tables = AllByRecursion (λ table. shape table.tree ≡ Table) tables
@@ -125,7 +129,7 @@ pub record LooksAmong {X : Type 0} (schema : Schema) (Are : State → Type 0) (s
       IsTrue old.is_open × (new.now ≡ old.now)
   pub leaves : HasCleanDisk new → Spares old new result
   pub mode : old.in_transaction ≡ false → new.in_transaction ≡ false
-  pub crash : Survives old new (λ _. ⊥)
+  pub crash : Survives old new Never
   pub unclean :
       HasCleanDisk new → (IsTrue old.is_open → Are old) → result ≡ Err Unclean →
       IsTrue old.is_open × spoilt (tables_in old.now.trees)

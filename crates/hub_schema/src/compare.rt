@@ -125,7 +125,8 @@ fn is_first(primary: &Items<usize>, keys: &[Items<usize>]) -> bool
 // Whether the table has columns and keys, and no other rule.
 fn is_plain(table: &Table, name: &[u8]) -> bool
     ensures { IsTrue result ↔ (table.now
-        ≡ plain_table table.now.tree name.now table.now.columns table.now.primary table.now.uniques table.now.orders) }
+        ≡ plain_table table.now.tree name.now table.now.columns table.now.primary table.now.uniques
+        table.now.orders) }
 {
     table.name.as_slice() == name
         && table.key.is_none()

@@ -12,7 +12,7 @@ ghost use Rattle.hub_schema.specs.Making.{HasMade, HaveNoRows, Defines, MakesOn,
 ghost use Rattle.hub_schema.specs.Making.{schema_with, traffic_rows};
 ghost use Rattle.hub_schema.specs.Rows.{tables_in, traffic_in};
 ghost use Rattle.hub_schema.specs.Schema.{no_schema, hub_schema, hub_tables, traffic_tables};
-ghost use Rattle.hub_schema.specs.State.{AreOrdered, HasNumber, IsOldHub, IsUndone, Makes, ShowsTheSame};
+ghost use Rattle.hub_schema.specs.State.{AreOrdered, HasNumber, IsOldHub, IsUndone, Makes, Never, ShowsTheSame};
 ghost use Rattle.hub_schema.specs.State.{StatementLeaves};
 
 use crate::definitions::{Definition, all, parties};
@@ -21,14 +21,15 @@ use sqlite::{Alter, Error, Transaction};
 // Makes one table.
 fn create<S: Alter>(tx: &mut Transaction<'_, S>, text: &str) -> Result<usize, Error>
     ensures same_reference { tx.new.conn.ghost_name ≡ tx.old.conn.ghost_name }
-    ensures makes { HasCleanDisk (state S.Store tx.new.conn.now) → (rows : Trees) (schema : Schema) (table : Table) →
+    ensures makes { HasCleanDisk (state S.Store tx.new.conn.now) →
+        (rows : Trees) (schema : Schema) (table : Table) →
         Defines text.now schema table → rows (next_tree schema) ≡ [] →
         HasMade rows schema (state S.Store tx.old.conn.now) →
         OnOk result (MakesOn rows (created schema table) (state S.Store tx.old.conn.now)
         (state S.Store tx.new.conn.now)) }
     ensures kept { HasCleanDisk (state S.Store tx.new.conn.now) →
         KeepsCommit (state S.Store tx.old.conn.now) (state S.Store tx.new.conn.now) }
-    ensures survives { Survives (state S.Store tx.old.conn.now) (state S.Store tx.new.conn.now) (λ _. ⊥) }
+    ensures survives { Survives (state S.Store tx.old.conn.now) (state S.Store tx.new.conn.now) Never }
     ensures leaves { StatementLeaves (state S.Store tx.old.conn.now) (state S.Store tx.new.conn.now) result }
 {
     tx.execute(text, &[])
@@ -37,21 +38,23 @@ fn create<S: Alter>(tx: &mut Transaction<'_, S>, text: &str) -> Result<usize, Er
 // Makes these tables, one after another.
 fn make_all<S: Alter>(tx: &mut Transaction<'_, S>, definitions: &[Definition]) -> Result<(), Error>
     ensures same_reference { tx.new.conn.ghost_name ≡ tx.old.conn.ghost_name }
-    ensures makes { HasCleanDisk (state S.Store tx.new.conn.now) → (rows : Trees) (begun tables : List Table) →
+    ensures makes { HasCleanDisk (state S.Store tx.new.conn.now) →
+        (rows : Trees) (begun tables : List Table) →
         Make begun definitions.now tables → HaveNoRows tables rows →
         HasMade rows (schema_with begun) (state S.Store tx.old.conn.now) →
         OnOk result (MakesOn rows (schema_with (begun ++ tables)) (state S.Store tx.old.conn.now)
         (state S.Store tx.new.conn.now)) }
     ensures kept { HasCleanDisk (state S.Store tx.new.conn.now) →
         KeepsCommit (state S.Store tx.old.conn.now) (state S.Store tx.new.conn.now) }
-    ensures survives { Survives (state S.Store tx.old.conn.now) (state S.Store tx.new.conn.now) (λ _. ⊥) }
+    ensures survives { Survives (state S.Store tx.old.conn.now) (state S.Store tx.new.conn.now) Never }
     ensures fault { (rows : Trees) (begun tables rest : List Table) → Make begun definitions.now tables →
         HaveNoRows tables rows → hub_tables ≡ begun ++ (tables ++ rest) →
         HasCleanDisk (state S.Store tx.new.conn.now) →
         HasMade rows (schema_with begun) (state S.Store tx.old.conn.now) →
         OnErr result (MakesFirstTables rows (state S.Store tx.old.conn.now) (state S.Store tx.new.conn.now)
         ⊎ IsUndone (state S.Store tx.old.conn.now) (state S.Store tx.new.conn.now)) }
-    ensures ended { (state S.Store tx.old.conn.now).in_transaction ≡ false → OnOk result (definitions.now ≡ [])
+    ensures ended { (state S.Store tx.old.conn.now).in_transaction ≡ false →
+        OnOk result (definitions.now ≡ [])
         × ShowsTheSame (state S.Store tx.old.conn.now) (state S.Store tx.new.conn.now) }
 {
     let [definition, definitions @ ..] = definitions else {
@@ -69,8 +72,9 @@ fn put_number<S: Alter>(tx: &mut Transaction<'_, S>) -> Result<usize, Error>
         OnOk result (Makes (λ _. empty) (state S.Store tx.old.conn.now) (state S.Store tx.new.conn.now)) }
     ensures kept { HasCleanDisk (state S.Store tx.new.conn.now) →
         KeepsCommit (state S.Store tx.old.conn.now) (state S.Store tx.new.conn.now) }
-    ensures survives { Survives (state S.Store tx.old.conn.now) (state S.Store tx.new.conn.now) (λ _. ⊥) }
-    ensures leaves { LeavesTables no_trees hub_tables (state S.Store tx.old.conn.now) (state S.Store tx.new.conn.now)
+    ensures survives { Survives (state S.Store tx.old.conn.now) (state S.Store tx.new.conn.now) Never }
+    ensures leaves { LeavesTables no_trees hub_tables
+        (state S.Store tx.old.conn.now) (state S.Store tx.new.conn.now)
         result }
 {
     tx.execute("INSERT INTO schema (number) VALUES (3)", &[])
@@ -81,10 +85,11 @@ pub fn set_number<S: Alter>(tx: &mut Transaction<'_, S>) -> Result<usize, Error>
     ensures same_reference { tx.new.conn.ghost_name ≡ tx.old.conn.ghost_name }
     ensures makes { HasCleanDisk (state S.Store tx.new.conn.now) → (number : ℕ) (rows : Trees) →
         HasNumber number rows → AreOrdered rows → HasMade rows hub_schema (state S.Store tx.old.conn.now) →
-        OnOk result (Makes (λ _. tables_in rows) (state S.Store tx.old.conn.now) (state S.Store tx.new.conn.now)) }
+        OnOk result (Makes (λ _. tables_in rows)
+        (state S.Store tx.old.conn.now) (state S.Store tx.new.conn.now)) }
     ensures kept { HasCleanDisk (state S.Store tx.new.conn.now) →
         KeepsCommit (state S.Store tx.old.conn.now) (state S.Store tx.new.conn.now) }
-    ensures survives { Survives (state S.Store tx.old.conn.now) (state S.Store tx.new.conn.now) (λ _. ⊥) }
+    ensures survives { Survives (state S.Store tx.old.conn.now) (state S.Store tx.new.conn.now) Never }
     ensures leaves { (rows : Trees) →
         LeavesTables rows hub_tables (state S.Store tx.old.conn.now) (state S.Store tx.new.conn.now) result }
 {
@@ -99,8 +104,9 @@ pub fn make_tables<S: Alter>(tx: &mut Transaction<'_, S>) -> Result<(), Error>
         OnOk result (Makes (λ _. empty) (state S.Store tx.old.conn.now) (state S.Store tx.new.conn.now)) }
     ensures kept { HasCleanDisk (state S.Store tx.new.conn.now) →
         KeepsCommit (state S.Store tx.old.conn.now) (state S.Store tx.new.conn.now) }
-    ensures survives { Survives (state S.Store tx.old.conn.now) (state S.Store tx.new.conn.now) (λ _. ⊥) }
-    ensures leaves { LeavesTables no_trees [] (state S.Store tx.old.conn.now) (state S.Store tx.new.conn.now) result }
+    ensures survives { Survives (state S.Store tx.old.conn.now) (state S.Store tx.new.conn.now) Never }
+    ensures leaves { LeavesTables no_trees []
+        (state S.Store tx.old.conn.now) (state S.Store tx.new.conn.now) result }
 {
     make_all(tx, all())?;
     put_number(tx)?;
@@ -117,7 +123,7 @@ pub fn make_party_tables<S: Alter>(tx: &mut Transaction<'_, S>) -> Result<(), Er
         (state S.Store tx.old.conn.now) (state S.Store tx.new.conn.now)) }
     ensures kept { HasCleanDisk (state S.Store tx.new.conn.now) →
         KeepsCommit (state S.Store tx.old.conn.now) (state S.Store tx.new.conn.now) }
-    ensures survives { Survives (state S.Store tx.old.conn.now) (state S.Store tx.new.conn.now) (λ _. ⊥) }
+    ensures survives { Survives (state S.Store tx.old.conn.now) (state S.Store tx.new.conn.now) Never }
     ensures leaves { LeavesTables (traffic_rows (state S.Store tx.old.conn.now).now.trees) traffic_tables
         (state S.Store tx.old.conn.now) (state S.Store tx.new.conn.now) result }
 {

@@ -36,13 +36,13 @@ failed_so (Err Read) closed read write r w raised kept cut same = (raised refl, 
 failed_so (Err Write) closed read write r w raised kept cut same = (kept (λ e. cc) ∙ r, cut refl)
 
 -- a client that went away before it was taken
-pub gone : (Does : Input → Reply → Type 0) (Same : Type 0) (register : RegisterRows) (old new : Known)
+pub gone : {Does : Input → Reply → Type 0} {Same : Type 0} {register : RegisterRows} {old new : Known}
     → TakesFirst old.coming new.coming (None ∷ [])
     → new.closed ≡ old.closed
     → new.moments ≡ old.moments
     → Same
     → ServesOne Does Same register old new Gone
-gone Does Same register old new clients closed moments same = record {
+gone {old = old} {new = new} clients closed moments same = record {
   one = record { bytes = None; moment = None; asked = None; closed = None; ending = Gone };
   ends = refl;
   passes = record {
@@ -116,35 +116,37 @@ module _ (Does : Input → Reply → Type 0) (Same : Type 0) (register : Registe
   is_served bytes asked closed (Err Read) taken = taken
   is_served bytes asked closed (Err Write) taken = taken
 
-  -- a connection that was taken
-  pub taken : (old new : Known) (bytes was : Option (List ℕ)) (read write : Bool) (closed : Closed)
-      (served : Result Served IoFault)
-      → TakesFirst old.coming new.coming (bytes ∷ [])
-      → TakesFirst old.moments new.moments (moment ∷ [])
-      → Adds old.closed new.closed (closed ∷ [])
-      → IsNew was read write
-      → FailedSo served closed
-      → closed.ending ≡ ending_of served
-      → Ended Asks Same register bytes closed.left was closed.sent served
-      → OneStep Asks Same
-      → ServesOne Does Same register old new (ending_of served)
-  taken old new bytes was read write closed served clients moments adds begun failed told ended step =
-      let by = asked_so bytes closed.left was closed.sent served ended step in record {
-        one = so_ended bytes by.0 closed served;
-        ends = refl;
-        passes = record { clients = clients; moments = moments; closed = adds };
-        is =
-            is_served bytes by.0 closed served (record {
-              moment = moment;
-              moment_is = refl;
-              asked_then = by.1;
-              closed = closed;
-              closed_is = refl;
-              failed_so = failed;
-              told_so = told;
-              begun = was;
-              nothing_sent = begun.nothing_sent;
-              ended = by.2;
-            });
-        did = by.3;
-      }
+-- a connection that was taken
+pub taken : {Does : Input → Reply → Type 0} {Same : Type 0} {register : RegisterRows} {old new : Known}
+    {was : Option (List ℕ)} {read write : Bool} (moment : ℕ) (bytes : Option (List ℕ)) (closed : Closed)
+    (served : Result Served IoFault)
+    → TakesFirst old.coming new.coming (bytes ∷ [])
+    → TakesFirst old.moments new.moments (moment ∷ [])
+    → Adds old.closed new.closed (closed ∷ [])
+    → IsNew was read write
+    → FailedSo served closed
+    → closed.ending ≡ ending_of served
+    → Ended (Asks Does Same register moment) Same register bytes closed.left was closed.sent served
+    → OneStep (Asks Does Same register moment) Same
+    → ServesOne Does Same register old new (ending_of served)
+taken {Does = Does} {Same = Same} {register = register} {was = was} moment bytes closed served clients moments adds begun failed told
+    ended step =
+    let by = asked_so Does Same register moment bytes closed.left was closed.sent served ended step in record {
+      one = so_ended Does Same register moment bytes by.0 closed served;
+      ends = refl;
+      passes = record { clients = clients; moments = moments; closed = adds };
+      is =
+          is_served Does Same register moment bytes by.0 closed served (record {
+            moment = moment;
+            moment_is = refl;
+            asked_then = by.1;
+            closed = closed;
+            closed_is = refl;
+            failed_so = failed;
+            told_so = told;
+            begun = was;
+            nothing_sent = begun.nothing_sent;
+            ended = by.2;
+          });
+      did = by.3;
+    }

@@ -6,7 +6,7 @@ use Rattle.std.specs.List.{AllByRecursion}
 use Rattle.std.specs.Io.KnownBytes.{Appends}
 use Rattle.std.proofs.KnownBytes.{Appends-nil, Appends-trans}
 use Rattle.std.proofs.lemmas.Bool.{true≢false, false≢true}
-use Rattle.std.proofs.lemmas.List.{append-nil}
+use Rattle.std.proofs.lemmas.List.{append-nil, length_push}
 use Rattle.edi_base.specs.Buffer.{AppendsFront, Flags}
 use Rattle.http_messages.specs.Response.{Writes}
 use Rattle.hub_requests.specs.declared.reply.Reply.{Reply}
@@ -46,11 +46,6 @@ lines_more number (first ∷ served) one =
     ∙ ap (λ (t : List ℕ). line_of number first.ending ++ t)
     (ap (λ (n : ℕ). lines_from (number + 1) served ++ line_of n one.ending) next ∙ lines_more (number + 1) served one)
 
-length_more : (served : List Connection) (one : Connection) → length (served ++ one ∷ []) ≡ length served + 1
-length_more [] one = refl
-length_more (first ∷ served) one =
-    let e : suc (length served + 1) ≡ suc (length served) + 1 = omega arith in ap suc (length_more served one) ∙ e
-
 greatest_more : (status : ℕ) (served : List Connection) (one : Connection)
     → max (fold (λ status one. max status (ending_status one.ending)) status served) (ending_status one.ending)
     ≡ fold (λ status one. max status (ending_status one.ending)) status (served ++ one ∷ [])
@@ -58,11 +53,11 @@ greatest_more status [] one = refl
 greatest_more status (first ∷ served) one = greatest_more (max status (ending_status first.ending)) served one
 
 -- no connection was served
-pub so_far_none : (Runs : List Input → List Reply → Type 0) (register : RegisterRows) (known : Known) (old : Option (List ℕ))
-    (failed : Bool)
+pub so_far_none : {Runs : List Input → List Reply → Type 0} {register : RegisterRows} {known : Known}
+    {old : Option (List ℕ)} {failed : Bool}
     → Runs [] []
     → SoFar Runs register known known old old failed failed 0 0
-so_far_none Runs register known old failed ran = record {
+so_far_none {known = known} {old = old} ran = record {
   served = [];
   passed = passes_none known;
   each = tt;
@@ -73,7 +68,7 @@ so_far_none Runs register known old failed ran = record {
 }
 
 -- what was printed of a line
-pub printed : {E : Type 0} (old new : Option (List ℕ)) (failed after : Bool) (text : List ℕ) (r : Result (Unit {0}) E)
+printed : {E : Type 0} (old new : Option (List ℕ)) (failed after : Bool) (text : List ℕ) (r : Result (Unit {0}) E)
     → Writes r old new text
     → Flags r failed after
     → is_err r ≡ false
@@ -81,7 +76,7 @@ pub printed : {E : Type 0} (old new : Option (List ℕ)) (failed after : Bool) (
 printed old new failed after text (Ok done) bytes flag e = record { bytes = bytes; flag = flag }
 printed old new failed after text (Err fault) bytes flag e = absurd (true≢false e)
 
-pub broken : {E : Type 0} (old new : Option (List ℕ)) (failed after : Bool) (text : List ℕ) (r : Result (Unit {0}) E)
+broken : {E : Type 0} (old new : Option (List ℕ)) (failed after : Bool) (text : List ℕ) (r : Result (Unit {0}) E)
     → Writes r old new text
     → Flags r failed after
     → is_err r ≡ true
@@ -103,16 +98,15 @@ stops_behind Over Unknown coming between rest sent first (inl over) =
 stops_behind Over Unknown coming between rest sent first (inr one) =
     inr (one.0, (one.1.0, takes_both coming between rest sent (one.1.0 ∷ []) first one.1.1))
 
-module _ (register : RegisterRows) (known : Known) (Going Over Unknown : Type 0) (count : ℕ) (old : Option (List ℕ))
-    (failed : Bool) where
+module _ {register : RegisterRows} {known : Known} {old : Option (List ℕ)} {failed : Bool}
+    {Runs : List Input → List Reply → Type 0} {rest : Known} {number status : ℕ} where
   -- all were served
-  pub whole : (Runs : List Input → List Reply → Type 0) (rest : Known) (new : Option (List ℕ)) (after : Bool)
-      (number status : ℕ)
+  pub whole : {Going Over Unknown : Type 0} {count : ℕ} {new : Option (List ℕ)} {after : Bool}
       → SoFar Runs register known rest old new failed after number status
       → Going
       → number ≡ count
       → Serves Runs register known rest Going Over Unknown count old new failed after status
-  whole Runs rest new after number status s going all = record {
+  whole s going all = record {
     served = s.served;
     first = are_first known.coming rest.coming (sent_in s.served) s.passed.clients;
     timed = are_first known.moments rest.moments (moments_in s.served) s.passed.moments;
@@ -130,15 +124,16 @@ module _ (register : RegisterRows) (known : Known) (Going Over Unknown : Type 0)
   }
 
   -- no more can be
-  pub cut_short : (Runs After : List Input → List Reply → Type 0) (rest later : Known) (new : Option (List ℕ)) (after : Bool)
-      (number status : ℕ) (s : SoFar Runs register known rest old new failed after number status)
+  pub cut_short : {Going Over Unknown : Type 0} {count : ℕ} {new : Option (List ℕ)} {after : Bool}
+      {After : List Input → List Reply → Type 0} {later : Known}
+      (s : SoFar Runs register known rest old new failed after number status)
       → later.closed ≡ rest.closed
       → later.moments ≡ rest.moments
       → Stops Over Unknown rest.coming later.coming []
       → number < count
       → After (inputs s.served) (replies s.served)
       → Serves After register known later Going Over Unknown count old new failed after 3
-  cut_short Runs After rest later new after number status s still moments stopped fewer ran = record {
+  cut_short {Over = Over} {Unknown = Unknown} {count = count} {later = later} s still moments stopped fewer ran = record {
     served = s.served;
     first = are_first known.coming rest.coming (sent_in s.served) s.passed.clients;
     timed = are_first known.moments rest.moments (moments_in s.served) s.passed.moments;
@@ -155,45 +150,47 @@ module _ (register : RegisterRows) (known : Known) (Going Over Unknown : Type 0)
         }));
   }
 
-  -- and then one connection more, over a sink and with a status
-  module _ (Runs After : List Input → List Reply → Type 0) (rest later : Known) (between new : Option (List ℕ))
-      (middle after : Bool) (number status : ℕ) (s : SoFar Runs register known rest old between failed middle number status)
+  -- and then one connection more, of whose line this was printed
+  module _ {E : Type 0} {After : List Input → List Reply → Type 0} {later : Known} {between new : Option (List ℕ)}
+      {middle after : Bool} {next : ℕ} (s : SoFar Runs register known rest old between failed middle number status)
       (one : Connection) (passes : Passes rest later (one ∷ [])) (is : IsServed register one)
-      (ran : After (inputs (s.served ++ one ∷ [])) (replies (s.served ++ one ∷ []))) (next : ℕ) (next_is : next ≡ number + 1) where
-    at : 1 + length s.served ≡ next
-    at = let counted = s.counted in omega (arith, counted, next_is)
-
-    pub so_far_more : Written between new middle after (line_of next one.ending)
-        → (greater given : ℕ) → greater ≡ max status given
+      (ran : After (inputs (s.served ++ one ∷ [])) (replies (s.served ++ one ∷ []))) (next_is : next ≡ number + 1)
+      (line : Result (Unit {0}) E) (bytes : Writes line between new (line_of next one.ending)) (flag : Flags line middle after) where
+    pub so_far_more : is_err line ≡ false
+        → {greater : ℕ} (given : ℕ) → greater ≡ max status given
         → given ≡ ending_status one.ending
         → SoFar After register known later old new failed after next greater
-    so_far_more written greater given greater_is given_is = record {
-      served = s.served ++ one ∷ [];
-      passed = passes_more known rest later s.served one s.passed passes;
-      each = all_more (IsServed register) s.served one s.each is;
-      ran = ran;
-      counted = let counted = s.counted in length_more s.served one ∙ ap (λ (n : ℕ). n + 1) counted ∙ sym next_is;
-      written = record {
-        bytes =
-            subst (λ (t : List ℕ). Appends old new t)
-            (ap (λ (n : ℕ). lines_from 1 s.served ++ line_of n one.ending) (sym at) ∙ lines_more 1 s.served one)
-            (Appends-trans old between new (lines_from 1 s.served) (line_of next one.ending) s.written.bytes written.bytes);
-        flag = written.flag ∙ s.written.flag;
-      };
-      status_is =
-          greater_is
-          ∙ ap (λ (n : ℕ). max status n) given_is
-          ∙ ap (λ (n : ℕ). max n (ending_status one.ending)) s.status_is
-          ∙ greatest_more 0 s.served one;
-    }
-
-    pub lost : Going → number < count → AppendsFront between new (line_of next one.ending) × IsTrue after
-        → Serves After register known later Going Over Unknown count old new failed after 3
-    lost going fewer cut =
+    so_far_more whole given greater_is given_is =
         let counted = s.counted in
-        let more = length_more s.served one in
+        let at : 1 + length s.served ≡ next = omega (arith, counted, next_is) in
+        let written = printed between new middle after (line_of next one.ending) line bytes flag whole in record {
+          served = s.served ++ one ∷ [];
+          passed = passes_more known rest later s.served one s.passed passes;
+          each = all_more (IsServed register) s.served one s.each is;
+          ran = ran;
+          counted = length_push s.served one ∙ ap (λ (n : ℕ). n + 1) counted ∙ sym next_is;
+          written = record {
+            bytes =
+                subst (λ (t : List ℕ). Appends old new t)
+                (ap (λ (n : ℕ). lines_from 1 s.served ++ line_of n one.ending) (sym at) ∙ lines_more 1 s.served one)
+                (Appends-trans old between new (lines_from 1 s.served) (line_of next one.ending) s.written.bytes written.bytes);
+            flag = written.flag ∙ s.written.flag;
+          };
+          status_is =
+              greater_is
+              ∙ ap (λ (n : ℕ). max status n) given_is
+              ∙ ap (λ (n : ℕ). max n (ending_status one.ending)) s.status_is
+              ∙ greatest_more 0 s.served one;
+        }
+
+    pub lost : {Going Over Unknown : Type 0} {count : ℕ} → is_err line ≡ true → Going → number < count
+        → Serves After register known later Going Over Unknown count old new failed after 3
+    lost {count = count} failed going fewer =
+        let counted = s.counted in
+        let more = length_push s.served one in
         let last : next ≡ length (s.served ++ one ∷ []) = omega (arith, counted, more, next_is) in
         let within : length (s.served ++ one ∷ []) ≤ count = omega (arith, counted, more, fewer) in
+        let cut = broken between new middle after (line_of next one.ending) line bytes flag failed in
         let passed = passes_more known rest later s.served one s.passed passes in record {
           served = s.served ++ one ∷ [];
           first = are_first known.coming later.coming (sent_in (s.served ++ one ∷ [])) passed.clients;

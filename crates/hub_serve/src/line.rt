@@ -67,7 +67,8 @@ fn put_number<W: Sink>(
 
 // Puts the end of the line of a connection.
 fn put_end<W: Sink>(out: &mut W, waiting: &mut Buffer, ending: Ending) -> Result<(), WriteFault>
-    ensures bytes { Puts result (W.contents out.old) (W.contents out.new) waiting.old waiting.new (end_of ending) }
+    ensures bytes { Puts result (W.contents out.old) (W.contents out.new) waiting.old waiting.new
+        (end_of ending) }
     ensures flag { Flags result (W.failed out.old) (W.failed out.new) }
 {
     match ending {

@@ -27,7 +27,8 @@ fn serve_next<L: Connections, S: Store, M: Moments>(
     hub: &mut Hub<S>,
     moments: &mut M,
 ) -> Result<Ending, NoMore>
-    ensures served { ServesNext (DoesTo S.content S.honest S.left hub.old hub.new) (hub.new ≡ hub.old) hub.old.0
+    ensures served { ServesNext (DoesTo S.content S.honest S.left hub.old hub.new)
+        (hub.new ≡ hub.old) hub.old.0
         (known (L.coming connections.old) (L.closed connections.old) (M.coming moments.old))
         (known (L.coming connections.new) (L.closed connections.new) (M.coming moments.new)) result }
 
@@ -80,7 +81,8 @@ pub fn serve_on<L: Connections, S: Store, M: Moments, W: Sink>(
         Ran (S.content hub.old.1) (S.content hub.new.1) (S.left hub.old.1) (S.left hub.new.1) inputs replies)
         hub.old.0 (known (L.coming connections.old) (L.closed connections.old) (M.coming moments.old))
         (known (L.coming connections.new) (L.closed connections.new) (M.coming moments.new))
-        ((L.failed connections.new ≡ L.failed connections.old) × (M.failed moments.new ≡ M.failed moments.old))
+        ((L.failed connections.new ≡ L.failed connections.old)
+        × (M.failed moments.new ≡ M.failed moments.old))
         (IsTrue (L.failed connections.new)) (IsTrue (M.failed moments.new)) count
         (W.contents out.old) (W.contents out.new) (W.failed out.old) (W.failed out.new) result }
     ensures held { StaysSound S.content S.honest hub.old hub.new }

@@ -95,7 +95,8 @@ impl<'c, C: Clock, T: OpenStream + Read> Read for Timed<'c, C, T> {
     // Gives what the stream gives. The time goes on, or begins.
     fn read(&mut self, buffer: &mut [u8]) -> io::Result<usize>
         ensures bound { ReadsAtMost result buffer.new }
-        ensures bytes { ReadConsumes (T.Read.remaining self.old.0) (T.Read.remaining self.new.0) result buffer.new }
+        ensures bytes { ReadConsumes (T.Read.remaining self.old.0) (T.Read.remaining self.new.0)
+            result buffer.new }
         ensures time { GoesOn self.old.1 self.new.1 }
         ensures begun { IfOk result (λ _. HasBegun self.new.1) }
     {
@@ -115,7 +116,8 @@ impl<'c, C: Clock, T: OpenStream + Write> Write for Timed<'c, C, T> {
     fn write(&mut self, bytes: &[u8]) -> io::Result<usize>
         ensures bound { WritesAtMost result bytes.now }
         ensures bytes { WriteAppends None None result bytes.now }
-        ensures handed { WriteAppends (T.Write.contents self.old.0) (T.Write.contents self.new.0) result bytes.now }
+        ensures handed { WriteAppends (T.Write.contents self.old.0) (T.Write.contents self.new.0)
+            result bytes.now }
         ensures time { GoesOn self.old.1 self.new.1 }
         ensures begun { IfOk result (λ _. HasBegun self.new.1) }
     {

@@ -1,5 +1,6 @@
 -- A store that takes over a connection with tables.
-use Rattle.std.proofs.Common.{◌≡◌, ◌≢◌, inl, inr, true, IsTrue, [], ◌∷◌, None, Ok, refl, sym, ap, subst, ◌∙◌}
+use Rattle.std.proofs.Common.{◌≡◌, ◌≢◌, inl, inr, true, IsTrue, [], ◌∷◌, None, Result, Ok, Err, IfOk, refl, sym, ap, subst}
+use Rattle.std.proofs.Common.{◌∙◌}
 use Rattle.sqlite.specs.Effect.{Database}
 use Rattle.sqlite.specs.Held.{Held, state}
 use Rattle.sqlite.specs.Schema.{Schema}
@@ -15,11 +16,14 @@ use Rattle.hub_schema.specs.State.{AreOrdered, HasNumber, IsFounded, LooksAmong}
 use Rattle.hub_store.specs.declared.fault.StoreFault.{StoreFault}
 use Rattle.hub_store.specs.declared.fault.StoreFault.TheVariants.{Unclean, Version}
 use Rattle.hub_sql.specs.Opening.{Adopts, ComesBack, Refuses, IsAsBefore, IsSpared, MayBeRaised, MayBeRenumbered}
+use Rattle.hub_sql.specs.Opening.{SparesConnection}
 use Rattle.hub_sql.specs.declared.returned.Returned.{Returned}
-use Rattle.hub_sql.specs.Stored.{Stored, content, left, honest}
-use Rattle.hub_sql.specs.Version.{AreRising, AreShaped, HoldsHub, HoldsTables, number_of}
+use Rattle.hub_sql.specs.declared.returned.Returned.TheVariants.{Connection}
+use Rattle.hub_sql.specs.Stored.{Stored, HoldsRows, content, left, honest}
+use Rattle.hub_sql.specs.Version.{AreRising, AreShaped, HoldsHub, HoldsTables, number_of, schema_of}
 use Rattle.hub_sql.specs.declared.version.Version.{Version as Stage}
 use Rattle.hub_sql.specs.declared.version.Version.TheVariants.{First, Second, Third}
+use Rattle.hub_sql.proofs.Sparing.{IsAnew, same_trees, spared_anew, spared_ever}
 
 -- a crash leaves the rows of an idle connection
 pub left_alone : {S : Type 0} (g : Ghosts S) (h : Held S)
@@ -29,11 +33,28 @@ pub left_alone : {S : Type 0} (g : Ghosts S) (h : Held S)
 left_alone g h settled idle up t (inl e) = e
 left_alone g h settled idle up t (inr it) = it.2 ∙ ap tables_in (settled it.0 up it.1 ∙ ap (λ d. d.trees) (sym (idle up)))
 
+-- what holds the rows of a connection that was found as it was before holds those that it had
+pub rows_held_before : {S E : Type 0} (g : Ghosts S) (was now : State) (rows : Trees → Tables) (r : Result (Stored S) E)
+    → (HasCleanDisk now → IsAsBefore was now) → (HasCleanDisk now → HasCleanDisk was)
+    → IfOk r (HoldsRows g now (rows now.now.trees)) → IfOk r (HoldsRows g was (rows was.now.trees))
+rows_held_before g was now rows (Ok store) same clean it = record {
+  whole = it.whole;
+  rows_are = λ honest. it.rows_are honest ∙ ap (λ d. rows d.trees) (same (it.clean honest)).shown;
+  crash = it.crash;
+  clean = λ honest. clean (it.clean honest);
+}
+rows_held_before g was now rows (Err e) same clean it = tt
+
 -- of the versions of the tables all but schema 1 are a hub's
 pub holds_hub : (version : Stage) (db : Database) → version ≢ First → HoldsTables version db → HoldsHub db
 holds_hub First db later it = absurd (later refl)
 holds_hub Second db later it = inl it
 holds_hub Third db later it = inr it
+
+pub later_hub : (version : Stage) → version ≢ First → schema_of version ≡ hub_schema
+later_hub First later = absurd (later refl)
+later_hub Second later = refl
+later_hub Third later = refl
 
 -- and in each the row numbers rise
 pub hub_shaped : (version : Stage) (trees : Trees) → version ≢ First → AreShaped version trees → AreOrdered trees
@@ -90,51 +111,70 @@ held_neither was mid now one two = (
   as_before_then was mid now one.1 two.1,
 )
 
--- a connection is found as it was, and opened again as its commit left it
-module _ {S : Type 0} (g : Ghosts S) (was : State) (version : Stage) (later : version ≢ First) (mid conn : Held S)
-    (hub : HasCleanDisk (state g mid) → HoldsTables version was.now × IsAsBefore was (state g mid))
-    (early : HasCleanDisk (state g conn) → HasCleanDisk (state g mid))
-    (first : HasCleanDisk (state g mid) → HasCleanDisk was)
-    (trees : HasCleanDisk (state g conn) → (state g conn).now.trees ≡ (state g mid).committed.trees) where
-  same_trees : HasCleanDisk (state g conn) → (state g conn).now.trees ≡ was.committed.trees
-  same_trees clean = trees clean ∙ ap (λ d. d.trees) (hub (early clean)).1.committed
+-- the tables are not a hub's
+pub refused_version : {S : Type 0} {g : Ghosts S} {was : State} {conn : Held S} {fault : StoreFault}
+    → (fault ≡ Version → HasCleanDisk (state g conn) → ¬ HoldsHub was.now × IsAsBefore was (state g conn))
+    → (was.now.schema ≢ hub_schema → fault ≡ Version) → fault ≢ Unclean
+    → SparesConnection g (λ _. ⊥) was conn
+    → Refuses g was (Connection conn) fault
+refused_version {conn = conn} refuses other unclean spared = record {
+  version = λ is. (conn, refl, refuses is);
+  other = other;
+  unclean = λ is. absurd (unclean is);
+  spared = spared_ever spared;
+}
 
-  pub adopted : (s : Stored S)
+-- once the tables are known to be a hub's, `Version` does not come any more
+pub refused_later : {S : Type 0} {g : Ghosts S} {was : State} {back : Returned S} {fault : StoreFault}
+    → was.now.schema ≡ hub_schema → fault ≢ Version
+    → (fault ≡ Unclean → ComesBack g back (λ now. HoldsNone (tables_in was.committed.trees)) × IsSpared g (λ _. ⊥) was back)
+    → IsSpared g (MayBeRaised was) was back
+    → Refuses g was back fault
+refused_later has opened unclean spared = record {
+  version = λ is. absurd (opened is);
+  other = λ hub. absurd (hub has);
+  unclean = unclean;
+  spared = spared;
+}
+
+-- the connection was opened anew
+module _ {S : Type 0} {g : Ghosts S} {was : State} {version : Stage} {mid conn : Held S} (anew : IsAnew g version was mid conn)
+    (later : version ≢ First) where
+  pub adopted : {s : Stored S}
       → s.fault ≡ None → (honest g s → content g s ≡ tables_in (state g conn).now.trees)
       → (honest g s → HoldsRegister (tables_in (state g conn).now.trees))
       → (honest g s → (t : Tables) → left g s t → t ≡ content g s) → (honest g s → HasCleanDisk (state g conn))
       → Adopts g was s
-  adopted s whole same register crash clean = record {
+  adopted whole same register crash clean = record {
     whole = whole;
-    hub = λ honest. holds_hub version was.now later (hub (early (clean honest))).0;
-    rows = λ honest. same honest ∙ ap tables_in (same_trees (clean honest));
+    hub = λ honest. holds_hub version was.now later (anew.holds (anew.early (clean honest))).0;
+    rows = λ honest. same honest ∙ ap tables_in (same_trees anew (clean honest));
     holds = λ honest. subst HoldsRegister (sym (same honest)) (register honest);
     crash = crash;
-    clean = λ honest. first (early (clean honest));
+    clean = λ honest. anew.clean (anew.early (clean honest));
   }
 
   -- no register is held, and so none was
-  pub none_was : HasCleanDisk (state g conn) → HoldsNone (tables_in (state g conn).now.trees) → HoldsNone (tables_in was.committed.trees)
-  none_was clean none = subst (λ (rows : Trees). HoldsNone (tables_in rows)) (same_trees clean) none
+  none_was : HasCleanDisk (state g conn) → HoldsNone (tables_in (state g conn).now.trees) → HoldsNone (tables_in was.committed.trees)
+  none_was clean none = subst (λ (rows : Trees). HoldsNone (tables_in rows)) (same_trees anew clean) none
 
   -- what may be left is what may be left of the connection as it was
-  pub may_be_raised : (back : Held S) → (HasCleanDisk (state g back) → HasCleanDisk (state g conn))
-      → HasCleanDisk (state g back) → (db : Trees) → MayBeRenumbered version (tables_in (state g conn).now.trees) db
+  may_be_raised : HasCleanDisk (state g conn) → (db : Trees) → MayBeRenumbered version (tables_in (state g conn).now.trees) db
       → MayBeRaised was db
-  may_be_raised back before clean db made = (
-    subst (λ (v : Stage). HoldsTables v was.now) made.0 (hub (early (before clean))).0,
-    subst (λ (rows : Trees). IsFounded (tables_in rows) db) (same_trees (before clean)) made.1,
+  may_be_raised clean db made = (
+    subst (λ (v : Stage). HoldsTables v was.now) made.0 (anew.holds (anew.early clean)).0,
+    subst (λ (rows : Trees). IsFounded (tables_in rows) db) (same_trees anew clean) made.1,
   )
 
--- once the tables are known to be a hub's, `Version` does not come any more
-module _ {S : Type 0} (g : Ghosts S) (was : State) (has : was.now.schema ≡ hub_schema) where
-  pub refused_later : (back : Returned S) (fault : StoreFault) → fault ≢ Version
-      → (fault ≡ Unclean → ComesBack g back (λ now. HoldsNone (tables_in was.committed.trees)) × IsSpared g (λ _. ⊥) was back)
-      → IsSpared g (MayBeRaised was) was back
-      → Refuses g was back fault
-  refused_later back fault opened unclean spared = record {
-    version = λ is. absurd (opened is);
-    other = λ hub. absurd (hub has);
-    unclean = unclean;
-    spared = spared;
-  }
+  pub refused_anew : {back : Held S} {fault : StoreFault} → fault ≢ Version
+      → (fault ≡ Unclean → (HasCleanDisk (state g back) → HoldsNone (tables_in (state g conn).now.trees))
+      × SparesConnection g (λ _. ⊥) (state g conn) back)
+      → SparesConnection g (MayBeRenumbered version (tables_in (state g conn).now.trees)) (state g conn) back
+      → Refuses g was (Connection back) fault
+  refused_anew {back = back} opened unclean spared =
+      refused_later (anew.known ∙ later_hub version later) opened
+      (λ is. let none = unclean is in (
+        (back, refl, λ clean. none_was (spared.clean clean) (none.0 clean)),
+        spared_anew anew (λ clean trees never. never) none.1,
+      ))
+      (spared_anew anew (λ clean. may_be_raised (spared.clean clean)) spared)

@@ -4,6 +4,7 @@ use Rattle.std.proofs.Common.{Ok, Err, refl, sym, ap, subst, ◌∙◌}
 use Rattle.std.specs.List.{last_or}
 use Rattle.sqlite.specs.Held.{state}
 use Rattle.sqlite_trees.specs.declared.store.Store.{Ghosts}
+use Rattle.sql_rows.proofs.Transactions.{clean_before}
 use Rattle.hub_parties.specs.Rows.{RegisterRows}
 use Rattle.hub_tables.specs.Change.{apply_all}
 use Rattle.hub_tables.specs.Sets.{Fit}
@@ -21,85 +22,90 @@ last_added : {X : Type 0} (xs : List X) (x : X) (d : Option X) → last_or d (xs
 last_added [] x d = refl
 last_added (y ∷ ys) x d = last_added ys x (Some y)
 
+content_after : {S : Type 0} (g : Ghosts S) (old new : Stored S) → new.past ≡ old.past ++ (new.held, true) ∷ []
+    → content g new ≡ tables_in (state g new.held).now.trees
+content_after g old new past = ap (λ p. rows_in g (last_or None p)) past ∙ ap (rows_in g)
+    (last_added old.past (new.held, true) None)
+
+-- what was so before
 module _ {S : Type 0} (g : Ghosts S) {kept : Option RegisterRows} (old new : Stored S) (settled : IsSettled g kept old)
-    (whole : old.fault ≡ None)
-    (changes : List Change)
     (back : honest g new → honest g old) where
-  abbrev Done : Result (Unit {0}) StoreFault → Type 0
-  Done found = CommitsTo changes (state g old.held) (state g new.held) found
-
-  abbrev after : Tables
-  after = apply_all changes (content g old)
-
-  -- the rows before
   before_is : honest g new → IsTrue (state g old.held).is_open → tables_in (state g old.held).now.trees ≡ content g old
   before_is clean o = settled.rows (back clean) o
 
   held_before : honest g new → Holds (state g old.held)
   held_before clean o = settled.hub (back clean) o
 
-  -- all changes are made
-  module _ (did : Done (Ok (tt {0}))) (past : new.past ≡ old.past ++ (new.held, true) ∷ []) where
-    content_after : content g new ≡ tables_in (state g new.held).now.trees
-    content_after = ap (λ p. rows_in g (last_or None p)) past ∙ ap (rows_in g)
-        (last_added old.past (new.held, true) None)
+  -- no change is made
+  module _ (whole : old.fault ≡ None) (changes : List Change) where
+    abbrev Done : Result (Unit {0}) StoreFault → Type 0
+    Done found = CommitsTo changes (state g old.held) (state g new.held) found
 
-    pub made : Commits {X = Unit {0}} (content g) (honest g) (left g) (λ s. s.fault) old new changes (Ok (tt {0}))
-    made = record {
-      done = λ clean fit. content_after ∙ (did.done clean (held_before clean)).2 ∙ ap (apply_all changes)
-          (before_is clean (did.ran clean));
-      kept = λ clean. tt;
-      durable = λ clean t h. elim h [
-        | inl e ↦ e
-        | inr it ↦ it.2 ∙ ap tables_in (did.durable clean it.0 it.1) ∙ sym content_after
-      ];
-      crash = λ clean. tt;
-      was_honest = back;
-      unclean = λ clean none is. cc;
-    }
+    abbrev after : Tables
+    after = apply_all changes (content g old)
 
-    pub made_settles : IsSettled g None new
-    made_settles = record {
-      idle = did.mode;
-      schema = λ none clean. (did.done clean (held_before clean)).1.schema;
-      hub = λ clean o. (did.done clean (held_before clean)).1;
-      rows = λ clean o. sym content_after;
-      register = λ clean. tt;
-    }
+    module _ (fault told : StoreFault) (did : Done (Err fault))
+        (makes : Settles {X = Unit {0}} (Err fault) new.held.schema (Err told) new.fault)
+        (past : new.past ≡ old.past) where
+      same : content g new ≡ content g old
+      same = same_content g old new settled whole past
 
-  -- none is
-  module _ (fault told : StoreFault) (did : Done (Err fault))
-      (makes : Settles {X = Unit {0}} (Err fault) new.held.schema (Err told) new.fault)
-      (past : new.past ≡ old.past) where
-    same : content g new ≡ content g old
-    same = same_content g old new settled whole past
+      pub kept_all : Commits {X = Unit {0}} (content g) (honest g) (left g) (λ s. s.fault) old new changes (Err told)
+      kept_all = record {
+        done = λ clean fit. tt;
+        kept = λ clean. same;
+        durable = λ clean. tt;
+        crash = λ clean t h. elim h [
+          | inl e ↦ inl (inl (e ∙ same))
+          | inr it ↦ elim (did.crash.crash clean it.0 it.1) [
+            | inl was ↦ inl (inr (it.0, was, it.2))
+            | inr all ↦
+                let now = all (held_before clean) in
+                let is : tables_in it.0 ≡ after = now.2 ∙ ap (apply_all changes) (before_is clean now.0) in
+                inr (subst (Fit changes) (before_is clean now.0) now.1, it.2 ∙ is)
+          ]
+        ];
+        was_honest = back;
+        unclean = λ clean none is fit have. elim (did.unclean clean (held_before clean) (makes.unclean is)) [
+          | inl may ↦ subst (MayRefuse changes) (before_is clean may.0) may.1 fit have
+          | inr any ↦ inr (any (content g old) have)
+        ];
+      }
 
-    pub kept_all : Commits {X = Unit {0}} (content g) (honest g) (left g) (λ s. s.fault) old new changes (Err told)
-    kept_all = record {
-      done = λ clean fit. tt;
-      kept = λ clean. same;
-      durable = λ clean. tt;
-      crash = λ clean t h. elim h [
-        | inl e ↦ inl (inl (e ∙ same))
-        | inr it ↦ elim (did.crash.crash clean it.0 it.1) [
-          | inl was ↦ inl (inr (it.0, was, it.2))
-          | inr all ↦
-              let now = all (held_before clean) in
-              let is : tables_in it.0 ≡ after = now.2 ∙ ap (apply_all changes) (before_is clean now.0) in
-              inr (subst (Fit changes) (before_is clean now.0) now.1, it.2 ∙ is)
-        ]
-      ];
-      was_honest = back;
-      unclean = λ clean none is fit have. elim (did.unclean clean (held_before clean) (makes.unclean is)) [
-        | inl may ↦ subst (MayRefuse changes) (before_is clean may.0) may.1 fit have
-        | inr any ↦ inr (any (content g old) have)
-      ];
-    }
+      pub kept_settles : IsSettled g kept new
+      kept_settles =
+          still g old new settled whole past did.mode (λ clean none. makes.usable none) back
+          (λ clean o. did.kept clean (held_before clean) o)
 
-    pub kept_settles : IsSettled g kept new
-    kept_settles =
-        still g old new settled whole past did.mode (λ clean none. makes.usable none) back
-        (λ clean o. did.kept clean (held_before clean) o)
+      pub kept_fails : Fails {X = Unit {0}} false old.fault new.fault (Err told)
+      kept_fails = failed old.fault new.fault (Err told) whole makes.lasting makes.version
 
-    pub kept_fails : Fails {X = Unit {0}} false old.fault new.fault (Err told)
-    kept_fails = failed old.fault new.fault (Err told) whole makes.lasting makes.version
+-- all changes are made
+module _ {S : Type 0} {g : Ghosts S} {kept : Option RegisterRows} {old new : Stored S} (settled : IsSettled g kept old)
+    {changes : List Change} (did : CommitsTo changes (state g old.held) (state g new.held) (Ok (tt {0})))
+    (past : new.past ≡ old.past ++ (new.held, true) ∷ []) where
+  pub made : Commits {X = Unit {0}} (content g) (honest g) (left g) (λ s. s.fault) old new changes (Ok (tt {0}))
+  made =
+      let back = clean_before (state g old.held) (state g new.held) _ did.crash in
+      let after = content_after g old new past in record {
+        done = λ clean fit. after ∙ (did.done clean (held_before g old new settled back clean)).2 ∙ ap (apply_all changes)
+            (before_is g old new settled back clean (did.ran clean));
+        kept = λ clean. tt;
+        durable = λ clean t h. elim h [
+          | inl e ↦ e
+          | inr it ↦ it.2 ∙ ap tables_in (did.durable clean it.0 it.1) ∙ sym after
+        ];
+        crash = λ clean. tt;
+        was_honest = back;
+        unclean = λ clean none is. cc;
+      }
+
+  pub made_settles : IsSettled g None new
+  made_settles =
+      let back = clean_before (state g old.held) (state g new.held) _ did.crash in record {
+        idle = did.mode;
+        schema = λ none clean. (did.done clean (held_before g old new settled back clean)).1.schema;
+        hub = λ clean o. (did.done clean (held_before g old new settled back clean)).1;
+        rows = λ clean o. sym (content_after g old new past);
+        register = λ clean. tt;
+      }

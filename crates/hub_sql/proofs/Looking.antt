@@ -21,11 +21,11 @@ use Rattle.hub_sql.specs.Settling.{Settles}
 use Rattle.hub_sql.specs.Stored.{Stored, rows_in, content, left, HasRegister, IsSettled, honest}
 use Rattle.hub_schema.proofs.Same.{same_hub}
 
-ok_of : {X E : Type 0} (P : X → Type 0) (found : Result X E) (x : X) → found ≡ Ok x → IfOk found P → P x
+pub ok_of : {X E : Type 0} (P : X → Type 0) (found : Result X E) (x : X) → found ≡ Ok x → IfOk found P → P x
 ok_of P (Ok y) x e h = let same : y ≡ x = cc in subst P same h
 ok_of P (Err f) x e h = cc
 
-on_ok_of : {X E P : Type 0} (found : Result X E) (x : X) → found ≡ Ok x → OnOk found P → P
+pub on_ok_of : {X E P : Type 0} (found : Result X E) (x : X) → found ≡ Ok x → OnOk found P → P
 on_ok_of (Ok y) x e h = h
 on_ok_of (Err f) x e h = cc
 
@@ -42,13 +42,13 @@ pub failed : {X : Type 0} (before after : Option LastingFault) (result : Result 
 failed None after result none lasting known = record {
   again = tt;
   after = lasting;
-  opened = not_version result known;
+  not_version = is_other result known;
   only_memory = λ plain. cc;
 }
   where
-    not_version : {X : Type 0} (r : Result X StoreFault) → r ≢ Err Version → IfErr r (λ fault. fault ≢ Version)
-    not_version (Ok x) h = tt
-    not_version (Err f) h = λ e. h (ap Err e)
+    is_other : {X : Type 0} (r : Result X StoreFault) → r ≢ Err Version → IfErr r (λ fault. fault ≢ Version)
+    is_other (Ok x) h = tt
+    is_other (Err f) h = λ e. h (ap Err e)
 failed (Some f) after result none lasting known = cc
 
 module _ {S : Type 0} (g : Ghosts S) {kept : Option RegisterRows} (old new : Stored S) (settled : IsSettled g kept old)
@@ -141,7 +141,7 @@ module _ {S : Type 0} (g : Ghosts S) (s : Stored S) {X : Type 0} (result : Resul
   refused_fails = record {
     again = rw has is;
     after = rw (has, is) (after good);
-    opened = rw is (opened good);
+    not_version = rw is (other good);
     only_memory = λ plain. cc;
   }
     where
@@ -149,6 +149,6 @@ module _ {S : Type 0} (g : Ghosts S) (s : Stored S) {X : Type 0} (result : Resul
       after lasting.Disk = refl
       after lasting.Unclean = refl
 
-      opened : (f : LastingFault) → fault_of f ≢ Version
-      opened lasting.Disk = λ e. cc
-      opened lasting.Unclean = λ e. cc
+      other : (f : LastingFault) → fault_of f ≢ Version
+      other lasting.Disk = λ e. cc
+      other lasting.Unclean = λ e. cc

@@ -24,6 +24,7 @@ use Rattle.hub_sql.specs.declared.fault.FoundFault.TheVariants as found
 use Rattle.hub_sql.specs.declared.returned.Returned.{Returned}
 use Rattle.hub_sql.specs.declared.returned.Returned.TheVariants.{Connection}
 use Rattle.hub_sql.specs.declared.version.Version.TheVariants.{First}
+use Rattle.hub_sql.proofs.Sparing.{IsAnew, same_trees, spared_anew, spared_ever}
 
 -- the row numbers of its tables rise where they did as the connection was looked at first
 pub shaped_as_before : (was now : State) → was.now.schema ≡ schema_of First → IsAsBefore was now
@@ -37,89 +38,87 @@ same_fault : (a b : StoreFault) → found.Store a ≡ found.Store b → a ≡ b
 same_fault a b e = cc
 
 -- the tables are not those of schema 1
-module _ {S : Type 0} (g : Ghosts S) (register : RegisterRows) (was : State) (tables : was.now.schema ≢ no_schema) where
-  pub refused_version : (conn : Held S) (fault : StoreFault)
-      → (fault ≡ Version → HasCleanDisk (state g conn) → ¬ HoldsTables First was.now × IsAsBefore was (state g conn))
-      → (was.now.schema ≢ schema_of First → fault ≡ Version) → fault ≢ Unclean
-      → SparesConnection g (MayBeFounded register was) was conn
-      → RefusesFounding g register was (Connection conn) (found.Store fault)
-  refused_version conn fault refuses other unclean spared = record {
-    version = λ is. (
-      conn,
-      refl,
-      λ clean.
-          let it = refuses (same_fault fault Version is) clean in (
-            λ before stood. elim stood [ inl none ↦ tables none.0 | inr old ↦ it.0 old.0 ],
-            it.1,
-          ),
-    );
-    other = λ some others. ap found.Store (other others);
-    rows = λ is. absurd cc;
-    unclean = λ is. unclean (same_fault fault Unclean is);
-    spared = spared;
-  }
+pub refused_version : {S : Type 0} {g : Ghosts S} {register : RegisterRows} {was : State} {conn : Held S} {fault : StoreFault}
+    → was.now.schema ≢ no_schema
+    → (fault ≡ Version → HasCleanDisk (state g conn) → ¬ HoldsTables First was.now × IsAsBefore was (state g conn))
+    → (was.now.schema ≢ schema_of First → fault ≡ Version) → fault ≢ Unclean
+    → SparesConnection g (λ _. ⊥) was conn
+    → RefusesFounding g register was (Connection conn) (found.Store fault)
+refused_version {conn = conn} {fault = fault} tables refuses other unclean spared = record {
+  version = λ is. (
+    conn,
+    refl,
+    λ clean.
+        let it = refuses (same_fault fault Version is) clean in (
+          λ before stood. elim stood [ inl none ↦ tables none.0 | inr old ↦ it.0 old.0 ],
+          it.1,
+        ),
+  );
+  other = λ some others. ap found.Store (other others);
+  rows = λ is. absurd cc;
+  unclean = λ is. unclean (same_fault fault Unclean is);
+  spared = spared_ever spared;
+}
 
 -- they are, and no `Version` comes any more
-module _ {S : Type 0} (g : Ghosts S) (register : RegisterRows) (was : State) (has : was.now.schema ≡ schema_of First) where
-  pub refused_old : (back : Returned S) (fault : FoundFault) → IsOfFounding fault
-      → (fault ≡ found.Rows → ComesBack g back (λ now. HoldsTables First was.now
-      × (fits register (traffic_in was.committed.trees) ≡ false) × (now.now.schema ≡ was.now.schema)))
-      → IsSpared g (MayBeFounded register was) was back
-      → RefusesFounding g register was back fault
-  refused_old back fault which rows spared = record {
-    version = λ is. absurd (elim which [ inl e ↦ cc | inr (inl e) ↦ cc | inr (inr e) ↦ cc ]);
-    other = λ some others. absurd (others has);
-    rows = rows;
-    unclean = λ is. elim which [ inl e ↦ cc | inr (inl e) ↦ cc | inr (inr e) ↦ cc ];
-    spared = spared;
-  }
+pub refused_old : {S : Type 0} {g : Ghosts S} {register : RegisterRows} {was : State} {back : Returned S} {fault : FoundFault}
+    → was.now.schema ≡ schema_of First → IsOfFounding fault
+    → (fault ≡ found.Rows → ComesBack g back (λ now. HoldsTables First was.now
+    × (fits register (traffic_in was.committed.trees) ≡ false) × (now.now.schema ≡ was.now.schema)))
+    → IsSpared g (MayBeFounded register was) was back
+    → RefusesFounding g register was back fault
+refused_old has which rows spared = record {
+  version = λ is. absurd (elim which [ inl e ↦ cc | inr (inl e) ↦ cc | inr (inr e) ↦ cc ]);
+  other = λ some others. absurd (others has);
+  rows = rows;
+  unclean = λ is. elim which [ inl e ↦ cc | inr (inl e) ↦ cc | inr (inr e) ↦ cc ];
+  spared = spared;
+}
 
--- a connection is found as it was, and opened again as its commit left it
-module _ {S : Type 0} (g : Ghosts S) (register : RegisterRows) (was : State) (mid conn : Held S)
-    (tables : HasCleanDisk (state g mid) → HoldsTables First was.now × IsAsBefore was (state g mid))
-    (early : HasCleanDisk (state g conn) → HasCleanDisk (state g mid))
-    (first : HasCleanDisk (state g mid) → HasCleanDisk was)
-    (trees : HasCleanDisk (state g conn) → (state g conn).now.trees ≡ (state g mid).committed.trees) where
-  same_trees : HasCleanDisk (state g conn) → (state g conn).now.trees ≡ was.committed.trees
-  same_trees clean = trees clean ∙ ap (λ d. d.trees) (tables (early clean)).1.committed
-
-  pub migrates : (s : Stored S) → s.fault ≡ None
+-- the connection was opened anew
+module _ {S : Type 0} {g : Ghosts S} {was : State} {mid conn : Held S} (anew : IsAnew g First was mid conn)
+    (register : RegisterRows) where
+  pub migrates : {s : Stored S} → s.fault ≡ None
       → (honest g s → fits register (traffic_in (state g conn).now.trees) ≡ true)
       → (honest g s → content g s ≡ founded_beside (traffic_in (state g conn).now.trees) register)
       → ((t : Tables) → t.hubs ≡ [] → t.keys ≡ [] → t.prefixes ≡ [] → HoldsRegister (founded_beside t register))
       → (honest g s → (t : Tables) → left g s t → t ≡ content g s) → (honest g s → HasCleanDisk (state g conn))
       → Founds g register was s
-  migrates s whole fit rows holds crash clean = record {
+  migrates whole fit rows holds crash clean = record {
     before = traffic_in was.committed.trees;
     whole = whole;
-    stood = λ honest. inr ((tables (early (clean honest))).0, refl);
-    fit = λ honest. subst (λ (rows : Trees). fits register (traffic_in rows) ≡ true) (same_trees (clean honest)) (fit honest);
-    rows = λ honest. rows honest ∙ ap (λ (rows : Trees). founded_beside (traffic_in rows) register) (same_trees (clean honest));
+    stood = λ honest. inr ((anew.holds (anew.early (clean honest))).0, refl);
+    fit = λ honest. subst (λ (rows : Trees). fits register (traffic_in rows) ≡ true) (same_trees anew (clean honest)) (fit honest);
+    rows = λ honest. rows honest ∙ ap (λ (rows : Trees). founded_beside (traffic_in rows) register) (same_trees anew (clean honest));
     holds = λ honest. subst HoldsRegister (sym (rows honest)) (holds (traffic_in (state g conn).now.trees) refl refl refl);
     crash = crash;
-    clean = λ honest. first (early (clean honest));
+    clean = λ honest. anew.clean (anew.early (clean honest));
   }
 
   -- what may be left is what may be left of the connection as it was
-  pub may_be_founded : (back : Held S) → (HasCleanDisk (state g back) → HasCleanDisk (state g conn))
-      → HasCleanDisk (state g back) → (db : Trees) → MayBeBeside (traffic_in (state g conn).now.trees) register db
+  may_be_founded : HasCleanDisk (state g conn) → (db : Trees) → MayBeBeside (traffic_in (state g conn).now.trees) register db
       → MayBeFounded register was db
-  may_be_founded back before clean db made = (
+  may_be_founded clean db made = (
     traffic_in was.committed.trees,
-    inr ((tables (early (before clean))).0, refl),
-    subst (λ (rows : Trees). MayBeBeside (traffic_in rows) register db) (same_trees (before clean)) made,
+    inr ((anew.holds (anew.early clean)).0, refl),
+    subst (λ (rows : Trees). MayBeBeside (traffic_in rows) register db) (same_trees anew clean) made,
   )
 
-  pub rows_refused : (back : Held S) → (HasCleanDisk (state g back) → HasCleanDisk (state g conn)) → was.now.schema ≡ schema_of First
-      → (HasCleanDisk (state g back) → (back.schema ≡ schema_of First) × (fits register (traffic_in (state g conn).now.trees) ≡ false))
-      → ComesBack g (Connection back) (λ now. HoldsTables First was.now
-      × (fits register (traffic_in was.committed.trees) ≡ false) × (now.now.schema ≡ was.now.schema))
-  rows_refused back before has none = (
-    back,
-    refl,
-    λ clean. (
-      (tables (early (before clean))).0,
-      subst (λ (rows : Trees). fits register (traffic_in rows) ≡ false) (same_trees (before clean)) (none clean).1,
-      (none clean).0 ∙ sym has,
-    ),
-  )
+  pub refused_anew : {back : Held S} {fault : FoundFault} → IsOfFounding fault
+      → (fault ≡ found.Rows → HasCleanDisk (state g back)
+      → (back.schema ≡ schema_of First) × (fits register (traffic_in (state g conn).now.trees) ≡ false))
+      → SparesConnection g (MayBeBeside (traffic_in (state g conn).now.trees) register) (state g conn) back
+      → RefusesFounding g register was (Connection back) fault
+  refused_anew {back = back} which none spared =
+      refused_old anew.known which
+      (λ is. (
+        back,
+        refl,
+        λ clean.
+            let early = spared.clean clean in (
+              (anew.holds (anew.early early)).0,
+              subst (λ (rows : Trees). fits register (traffic_in rows) ≡ false) (same_trees anew early) (none is clean).1,
+              (none is clean).0 ∙ sym anew.known,
+            ),
+      ))
+      (spared_anew anew (λ clean. may_be_founded (spared.clean clean)) spared)

@@ -1,6 +1,6 @@
 -- The register of a store, from what is found on the connection.
 use Rattle.std.proofs.Common.{◌≡◌, inl, inr, false, IsTrue, Option, None, Some, Result, Ok, Err, IfOk, IfErr, refl, sym, ap, subst}
-use Rattle.std.proofs.Common.{◌∙◌, OnOk}
+use Rattle.std.proofs.Common.{◌∙◌}
 use Rattle.std.specs.Option.{IfSome}
 use Rattle.sqlite.specs.Held.{state}
 use Rattle.sqlite.specs.State.{State, HasCleanDisk}
@@ -20,7 +20,7 @@ use Rattle.hub_schema.specs.State.{LooksFor, LooksIn, LooksUp}
 use Rattle.hub_reads.proofs.Joining.{of_hub}
 use Rattle.hub_sql.specs.Settling.{Settles}
 use Rattle.hub_sql.specs.Stored.{Stored, content, left, HasRegister, IsSettled, honest}
-use Rattle.hub_sql.proofs.Looking.{failed, holds, still, same_content, looked, refused_fails}
+use Rattle.hub_sql.proofs.Looking.{failed, holds, still, same_content, looked, ok_of, on_ok_of, refused_fails}
 
 -- where there is none, that is a fault
 abbrev pub as_fault : Result (Option RegisterRows) StoreFault → Result RegisterRows StoreFault
@@ -62,14 +62,6 @@ held_one old new (Err fault) looks = record {
 pub held : (old new : State) (found : Result (Option RegisterRows) StoreFault) → LooksIn IsHeldBy HoldsNone old new found
     → LooksFor HasRegister HoldsNone old new (as_fault found)
 held old new found looks = held_one old new found (of_hub IsHeldBy HoldsNone old new found looks)
-
-ok_of : {X E : Type 0} (P : X → Type 0) (found : Result X E) (x : X) → found ≡ Ok x → IfOk found P → P x
-ok_of P (Ok y) x e h = let same : y ≡ x = cc in subst P same h
-ok_of P (Err f) x e h = cc
-
-on_ok_of : {X E P : Type 0} (found : Result X E) (x : X) → found ≡ Ok x → OnOk found P → P
-on_ok_of (Ok y) x e h = h
-on_ok_of (Err f) x e h = cc
 
 -- of rows that hold one it is a look-up
 pub as_look : (old new : State) (result : Result RegisterRows StoreFault)

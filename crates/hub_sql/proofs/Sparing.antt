@@ -16,7 +16,7 @@ use Rattle.sqlite.specs.Schema.{Schema}
 use Rattle.hub_schema.specs.State.{IsUndone, FoundsTo, LooksAmong, ShowsTheSame, Spares}
 use Rattle.hub_sql.specs.Founding.{MayBeBeside}
 use Rattle.hub_sql.specs.Opening.{LeftAfter, MayBeRenumbered, SparesConnection, SparesStore, IsAsBefore, IsReady}
-use Rattle.hub_sql.specs.Version.{schema_of}
+use Rattle.hub_sql.specs.Version.{HoldsTables, schema_of}
 use Rattle.hub_sql.specs.declared.version.Version.{Version}
 use Rattle.hub_sql.specs.declared.version.Version.TheVariants.{Second}
 
@@ -152,35 +152,7 @@ module _ {S : Type 0} (g : Ghosts S) where
     crash = λ clean trees left. (before (it.clean clean)).crash trees (it.crash clean trees left);
   }
 
-  -- it was opened anew, and comes back after that
-  pub spared_anew : (MayBe May : Trees → Type 0) (was : State) (mid conn back : Held S)
-      → (HasCleanDisk (state g back) → (trees : Trees) → MayBe trees → May trees)
-      → (version : Version) → was.now.schema ≡ schema_of version
-      → (HasCleanDisk (state g mid) → IsAsBefore was (state g mid)) → (HasCleanDisk (state g mid) → HasCleanDisk was)
-      → (HasCleanDisk (state g conn) → HasCleanDisk (state g mid))
-      → (HasCleanDisk (state g conn) → (state g conn).now.trees ≡ (state g mid).committed.trees)
-      → conn.step_limit ≡ was.step_limit
-      → (HasCleanDisk (state g conn) → IsReady (state g conn))
-      → ((db : Trees) → IsTrue (state g conn).is_open → (state g conn).may_leave db → db ≡ (state g conn).committed.trees)
-      → SparesConnection g MayBe (state g conn) back → SparesConnection g May was back
-  spared_anew MayBe May was mid conn back may version known before early between rows limit ready law it =
-      let same : HasCleanDisk (state g conn) → (state g conn).committed.trees ≡ was.committed.trees =
-      λ (clean : HasCleanDisk (state g conn)). ap (λ d. d.trees) (sym (ready clean).shown) ∙ rows clean
-      ∙ ap (λ d. d.trees) (before (between clean)).committed in
-      record {
-        idle = it.idle;
-        limit = it.limit ∙ limit;
-        clean = λ clean. early (between (it.clean clean));
-        rows = λ clean up. it.rows clean up ∙ same (it.clean clean);
-        schema = λ clean up. inr (version, known);
-        crash = λ clean trees left. elim (it.crash clean trees left) [
-          | inl before ↦ inr (inl (law trees (ready (it.clean clean)).up before ∙ same (it.clean clean)))
-          | inr (inl committed) ↦ inr (inl (committed ∙ same (it.clean clean)))
-          | inr (inr made) ↦ inr (inr (may clean trees made))
-        ];
-      }
-
-  -- it was looked at, and comes back after that
+  -- the connection comes back after it was looked at
   pub spared_through : (MayBe : Trees → Type 0) (was mid back : Held S)
       → (HasCleanDisk (state g mid) → IsAsBefore (state g was) (state g mid))
       → (HasCleanDisk (state g mid) → HasCleanDisk (state g was)) → mid.step_limit ≡ was.step_limit
@@ -202,3 +174,66 @@ module _ {S : Type 0} (g : Ghosts S) where
       | inr (inr made) ↦ inr (inr made)
     ];
   }
+
+-- nothing else may be left, whatever might be
+pub spared_ever : {S : Type 0} {g : Ghosts S} {May : Trees → Type 0} {was : State} {conn : Held S}
+    → SparesConnection g (λ _. ⊥) was conn → SparesConnection g May was conn
+spared_ever {g = g} {May = May} {was = was} {conn = conn} it =
+    spared_more g (λ _. ⊥) May was conn (λ trees never. absurd never) it
+
+-- The tables of a connection were found to be of a version, and nothing changed as they were looked at. It was opened
+-- anew after that, and has the rows that were committed.
+pub record IsAnew {S : Type 0} (g : Ghosts S) (version : Version) (was : State) (mid conn : Held S) : Type 0 where
+  pub known : was.now.schema ≡ schema_of version
+  pub holds : HasCleanDisk (state g mid) → HoldsTables version was.now × IsAsBefore was (state g mid)
+  pub clean : HasCleanDisk (state g mid) → HasCleanDisk was
+  pub early : HasCleanDisk (state g conn) → HasCleanDisk (state g mid)
+  pub rows : HasCleanDisk (state g conn) → (state g conn).now.trees ≡ (state g mid).committed.trees
+  pub limit : conn.step_limit ≡ was.step_limit
+  pub ready : HasCleanDisk (state g conn) → IsReady (state g conn)
+  pub settled :
+      (db : Trees) → IsTrue (state g conn).is_open → (state g conn).may_leave db → db ≡ (state g conn).committed.trees
+
+-- a connection that was opened this moment is known so without being opened anew
+pub opened_now : {S : Type 0} {g : Ghosts S} {version : Version} {was : State} {conn : Held S}
+    → was.now.schema ≡ schema_of version
+    → (HasCleanDisk (state g conn) → HoldsTables version was.now × IsAsBefore was (state g conn))
+    → (HasCleanDisk (state g conn) → HasCleanDisk was)
+    → conn.step_limit ≡ was.step_limit
+    → (HasCleanDisk (state g conn) → IsReady (state g conn))
+    → ((db : Trees) → IsTrue (state g conn).is_open → (state g conn).may_leave db → db ≡ (state g conn).committed.trees)
+    → IsAnew g version was conn conn
+opened_now known holds clean limit ready settled = record {
+  known = known;
+  holds = holds;
+  clean = clean;
+  early = λ clean. clean;
+  rows = λ clean. ap (λ d. d.trees) (ready clean).shown;
+  limit = limit;
+  ready = ready;
+  settled = settled;
+}
+
+module _ {S : Type 0} {g : Ghosts S} {version : Version} {was : State} {mid conn : Held S} (anew : IsAnew g version was mid conn) where
+  pub same_trees : HasCleanDisk (state g conn) → (state g conn).now.trees ≡ was.committed.trees
+  same_trees clean = anew.rows clean ∙ ap (λ d. d.trees) (anew.holds (anew.early clean)).1.committed
+
+  -- the connection comes back after it was opened anew
+  pub spared_anew : {MayBe May : Trees → Type 0} {back : Held S}
+      → (HasCleanDisk (state g back) → (trees : Trees) → MayBe trees → May trees)
+      → SparesConnection g MayBe (state g conn) back → SparesConnection g May was back
+  spared_anew may it =
+      let same : HasCleanDisk (state g conn) → (state g conn).committed.trees ≡ was.committed.trees =
+      λ (clean : HasCleanDisk (state g conn)). ap (λ d. d.trees) (sym (anew.ready clean).shown) ∙ same_trees clean in
+      record {
+        idle = it.idle;
+        limit = it.limit ∙ anew.limit;
+        clean = λ clean. anew.clean (anew.early (it.clean clean));
+        rows = λ clean up. it.rows clean up ∙ same (it.clean clean);
+        schema = λ clean up. inr (version, anew.known);
+        crash = λ clean trees left. elim (it.crash clean trees left) [
+          | inl before ↦ inr (inl (anew.settled trees (anew.ready (it.clean clean)).up before ∙ same (it.clean clean)))
+          | inr (inl committed) ↦ inr (inl (committed ∙ same (it.clean clean)))
+          | inr (inr made) ↦ inr (inr (may clean trees made))
+        ];
+      }

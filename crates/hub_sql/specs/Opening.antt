@@ -13,7 +13,7 @@ use Rattle.hub_store.specs.declared.fault.StoreFault.{StoreFault}
 use Rattle.hub_store.specs.declared.fault.StoreFault.TheVariants.{Unclean, Version}
 use Rattle.hub_schema.specs.Rows.{tables_in}
 use Rattle.hub_schema.specs.Schema.{hub_schema}
-use Rattle.hub_schema.specs.State.{IsFounded}
+use Rattle.hub_schema.specs.State.{IsFounded, Never}
 use Rattle.hub_sql.specs.Stored.{Stored, content, left, honest}
 use Rattle.hub_sql.specs.Version.{HoldsHub, HoldsTables, schema_of}
 use Rattle.hub_sql.specs.declared.returned.Returned.{Returned}
@@ -93,5 +93,6 @@ ComesBack {S} g back so = (conn : Held S) × (back ≡ Connection conn) × (HasC
 pub record Refuses {S : Type 0} (g : Ghosts S) (was : State) (back : Returned S) (fault : StoreFault) : Type 0 where
   pub version : fault ≡ Version → ComesBack g back (λ now. (¬ HoldsHub was.now) × IsAsBefore was now)
   pub other : was.now.schema ≢ hub_schema → fault ≡ Version
-  pub unclean : fault ≡ Unclean → ComesBack g back (λ now. HoldsNone (tables_in was.committed.trees)) × IsSpared g (λ _. ⊥) was back
+  pub unclean : fault ≡ Unclean →
+      ComesBack g back (λ now. HoldsNone (tables_in was.committed.trees)) × IsSpared g Never was back
   pub spared : IsSpared g (MayBeRaised was) was back

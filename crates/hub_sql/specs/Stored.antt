@@ -4,7 +4,7 @@ use Rattle.std.specs.Option.{IfSome}
 use Rattle.std.specs.Coded.{Coded, code_by, coded×, coded_list, coded_option, coded_bool}
 use Rattle.std.specs.List.{last_or}
 use Rattle.sqlite.specs.Held.{Held, held_code, state}
-use Rattle.sqlite.specs.State.{HasCleanDisk}
+use Rattle.sqlite.specs.State.{State, HasCleanDisk}
 use Rattle.sqlite_trees.specs.Tree.{Trees}
 use Rattle.sqlite_trees.specs.declared.store.Store.{Ghosts}
 use Rattle.hub_parties.specs.Rows.{RegisterRows}
@@ -50,6 +50,14 @@ module _ {S : Type 0} (g : Ghosts S) where
   -- what a crash now may leave
   abbrev pub left : Stored S → Tables → Type 0
   left s t = (t ≡ content s) ⊎ ((trees : Trees) × (state g s.held).may_leave trees × (t ≡ tables_in trees))
+
+  -- a new store over a connection that was in this state: it is not broken, it has these rows, a crash leaves no others,
+  -- and its disk has returned what was written only where that of the connection had
+  pub record HoldsRows (was : State) (rows : Tables) (s : Stored S) : Type 0 where
+    pub whole : s.fault ≡ None
+    pub rows_are : honest s → content s ≡ rows
+    pub crash : honest s → (t : Tables) → left s t → t ≡ content s
+    pub clean : honest s → HasCleanDisk was
 
   -- what is true of each store: where it is open, also after a fault for good, it has the hub's tables, whose rows are
   -- the content; while no fault is for good, its schema is the hub's; and a register that it keeps is that of the content

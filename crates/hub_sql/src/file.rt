@@ -42,8 +42,10 @@ fn open_file<S: Start>(
     ensures over { IfOk result (IsOver (image_at S.Start)) }
     ensures idle { IfOk result (λ conn. conn.in_transaction ≡ false) }
     ensures ready { IfOk result (λ conn. HasCleanDisk (file_state conn) → IsReady (file_state conn)) }
-    ensures rising { IfOk result (λ conn. HasCleanDisk (file_state conn) → AreRising (file_state conn).now.trees conn.schema.tables) }
-    ensures leaves { IfErr result (λ e. LeavesUnopened (λ files. IsFresh true files.log × IsFresh false files.db) e.0 e.1) }
+    ensures rising { IfOk result (λ conn.
+        HasCleanDisk (file_state conn) → AreRising (file_state conn).now.trees conn.schema.tables) }
+    ensures leaves { IfErr result (λ e.
+        LeavesUnopened (λ files. IsFresh true files.log × IsFresh false files.db) e.0 e.1) }
 {
     match Connection::open_from(rt, path, NEW_HAS_SUMS, start) {
         Ok(conn) => Ok(conn),
@@ -65,7 +67,8 @@ impl<S: Start> SqliteStore<FileStore<FileFrom<S>>> {
     ) -> Result<Self, (StoreFault, LeftOfFile<FileFrom<S>>)>
         ensures adopts { IfOk result (AdoptsFiles (image_at S.Start)) }
         ensures leaves { IfErr result (λ e.
-            LeavesFile (λ files. IsFresh true files.log × IsFresh false files.db) (image_at S.Start) e.0 e.1) }
+            LeavesFile (λ files. IsFresh true files.log × IsFresh false files.db)
+            (image_at S.Start) e.0 e.1) }
     {
         let conn = open_file(rt, path, start)?;
         match SqliteStore::adopt_opened(rt.alloc(), conn) {
@@ -86,7 +89,8 @@ impl<S: Start> SqliteStore<FileStore<FileFrom<S>>> {
     ) -> Result<Self, (FoundFault, LeftOfFile<FileFrom<S>>)>
         ensures founds { IfOk result (FoundsFiles register.now (image_at S.Start)) }
         ensures leaves { IfErr result (λ e.
-            LeavesUnfounded (λ files. IsFresh true files.log × IsFresh false files.db) register.now (image_at S.Start) e.0 e.1) }
+            LeavesUnfounded (λ files. IsFresh true files.log × IsFresh false files.db) register.now
+            (image_at S.Start) e.0 e.1) }
     {
         let conn = match open_file(rt, path, start) {
             Ok(conn) => conn,

@@ -9,7 +9,7 @@ ghost use Rattle.hub_tables.specs.Register.{HoldsRegister, founded};
 ghost use Rattle.hub_tables.specs.Tables.{Tables, empty};
 ghost use Rattle.hub_sql.specs.Founding.{Founds, MayBeBeside, RefusesFounding};
 ghost use Rattle.hub_sql.specs.Opening.{IsReady, SparesConnection};
-ghost use Rattle.hub_sql.specs.Stored.{content, left, honest};
+ghost use Rattle.hub_sql.specs.Stored.{content, left, HoldsRows};
 ghost use Rattle.hub_sql.specs.Version.{AreRising};
 
 use crate::fault::{FoundFault, laying_fault};
@@ -34,13 +34,11 @@ fn laid<S: Alter + Drop>(
 ) -> Result<SqliteStore<S>, (Connection<S>, StoreFault)>
     requires idle { conn.in_transaction ≡ false }
     requires bare { HasCleanDisk (state S.Store conn) → conn.schema ≡ no_schema }
-    ensures whole { IfOk result (λ store. store.fault ≡ None) }
-    ensures rows { IfOk result (λ store. honest S.Store store → content S.Store store ≡ founded register.now) }
-    ensures crash { IfOk result (λ store. honest S.Store store → (t : Tables) → left S.Store store t → t ≡ content S.Store store) }
-    ensures clean { IfOk result (λ store. honest S.Store store → HasCleanDisk (state S.Store conn)) }
+    ensures holds { IfOk result (HoldsRows S.Store (state S.Store conn) (founded register.now)) }
     ensures register { IsRegister register.now }
     ensures fails { IfErr result (λ e. (e.1 ≡ StoreFault.Memory) ⊎ (e.1 ≡ StoreFault.Disk)) }
-    ensures spared { IfErr result (λ e. SparesConnection S.Store (MayBeBeside empty register.now) (state S.Store conn) e.0) }
+    ensures spared { IfErr result (λ e.
+        SparesConnection S.Store (MayBeBeside empty register.now) (state S.Store conn) e.0) }
 {
     // The contract of this call says whether a transaction is open.
     let _idle = conn.is_autocommit();
@@ -86,7 +84,8 @@ impl<S: Alter + Drop> SqliteStore<S> {
         requires idle { conn.in_transaction ≡ false }
         requires unlimited { conn.step_limit ≡ None }
         ensures founds { IfOk result (Founds S.Store register.now (state S.Store conn)) }
-        ensures refuses { IfErr result (λ e. RefusesFounding S.Store register.now (state S.Store conn) e.0 e.1) }
+        ensures refuses { IfErr result (λ e.
+            RefusesFounding S.Store register.now (state S.Store conn) e.0 e.1) }
     {
         if is_no_schema(conn.schema()) {
             founded_bare(alloc, conn, register)
@@ -103,9 +102,11 @@ impl<S: Alter + Drop> SqliteStore<S> {
     ) -> Result<SqliteStore<S>, (Returned<S>, FoundFault)>
         requires idle { conn.in_transaction ≡ false }
         requires ready { HasCleanDisk (state S.Store conn) → IsReady (state S.Store conn) }
-        requires rising { HasCleanDisk (state S.Store conn) → AreRising (state S.Store conn).now.trees conn.schema.tables }
+        requires rising { HasCleanDisk (state S.Store conn) →
+            AreRising (state S.Store conn).now.trees conn.schema.tables }
         ensures founds { IfOk result (Founds S.Store register.now (state S.Store conn)) }
-        ensures refuses { IfErr result (λ e. RefusesFounding S.Store register.now (state S.Store conn) e.0 e.1) }
+        ensures refuses { IfErr result (λ e.
+            RefusesFounding S.Store register.now (state S.Store conn) e.0 e.1) }
     {
         if is_no_schema(conn.schema()) {
             founded_bare(alloc, conn, register)
@@ -124,7 +125,8 @@ impl SqliteStore<MemStore> {
         ensures whole { IfOk result (λ store. store.fault ≡ None) }
         ensures rows { IfOk result (λ store. content over_memory store ≡ founded register.now) }
         ensures register { IfOk result (λ store. HoldsRegister (content over_memory store)) }
-        ensures crash { IfOk result (λ store. (t : Tables) → left over_memory store t → t ≡ founded register.now) }
+        ensures crash { IfOk result (λ store.
+            (t : Tables) → left over_memory store t → t ≡ founded register.now) }
         ensures fails { IfErr result (λ fault. (fault ≡ StoreFault.Memory) ⊎ (fault ≡ StoreFault.Disk)) }
     {
         founded_tables_hold_their_register();

@@ -6,12 +6,11 @@ ghost use Rattle.hub_founding.specs.Fits.{fits as does_fit, founded_beside};
 ghost use Rattle.hub_parties.specs.Rows.{IsRegister};
 ghost use Rattle.hub_schema.specs.Rows.{traffic_in};
 ghost use Rattle.hub_schema.specs.Schema.{old_schema, no_schema};
-ghost use Rattle.hub_schema.specs.State.{HasNumber, IsOldHub};
+ghost use Rattle.hub_schema.specs.State.{HasNumber, IsOldHub, Never};
 ghost use Rattle.hub_sql.specs.Founding.{Founds, IsOfFounding, MayBeBeside, RefusesFounding};
 ghost use Rattle.hub_sql.specs.Opening.{IsAsBefore, IsReady, SparesConnection};
-ghost use Rattle.hub_sql.specs.Stored.{content, left, honest};
+ghost use Rattle.hub_sql.specs.Stored.{honest, HoldsRows};
 ghost use Rattle.hub_sql.specs.Version.{AreRising, AreShaped};
-ghost use Rattle.hub_tables.specs.Tables.{Tables};
 
 use crate::fault::{FoundFault, laying_fault};
 use crate::reopening::{of_version, reopened};
@@ -33,20 +32,23 @@ fn fitting<S: Alter + Drop>(
     register: &Register,
 ) -> Result<Connection<S>, (Connection<S>, FoundFault)>
     requires idle { conn.in_transaction ≡ false }
-    requires shaped { HasCleanDisk (state S.Store conn) → AreShaped Version.First (state S.Store conn).now.trees }
+    requires shaped { HasCleanDisk (state S.Store conn) →
+        AreShaped Version.First (state S.Store conn).now.trees }
     requires number { HasCleanDisk (state S.Store conn) → HasNumber 1 (state S.Store conn).now.trees }
     requires ready { HasCleanDisk (state S.Store conn) → IsReady (state S.Store conn) }
     ensures idle { IfOk result (λ c. c.in_transaction ≡ false) }
     ensures hub { IfOk result (λ c. HasCleanDisk (state S.Store c) → IsOldHub (state S.Store c)) }
     ensures limit { IfOk result (λ c. c.step_limit ≡ conn.step_limit) }
-    ensures before { IfOk result (λ c. HasCleanDisk (state S.Store c) → IsAsBefore (state S.Store conn) (state S.Store c)) }
+    ensures before { IfOk result (λ c.
+        HasCleanDisk (state S.Store c) → IsAsBefore (state S.Store conn) (state S.Store c)) }
     ensures clean { IfOk result (λ c. HasCleanDisk (state S.Store c) → HasCleanDisk (state S.Store conn)) }
     ensures fits { IfOk result (λ c. HasCleanDisk (state S.Store c) →
         does_fit register.now (traffic_in (state S.Store conn).now.trees) ≡ true) }
     ensures rows { IfErr result (λ e. e.1 ≡ FoundFault.Rows → HasCleanDisk (state S.Store e.0) →
-        (e.0.schema ≡ old_schema) × (does_fit register.now (traffic_in (state S.Store conn).now.trees) ≡ false)) }
+        (e.0.schema ≡ old_schema)
+        × (does_fit register.now (traffic_in (state S.Store conn).now.trees) ≡ false)) }
     ensures fails { IfErr result (λ e. IsOfFounding e.1) }
-    ensures spared { IfErr result (λ e. SparesConnection S.Store (λ _. ⊥) (state S.Store conn) e.0) }
+    ensures spared { IfErr result (λ e. SparesConnection S.Store Never (state S.Store conn) e.0) }
 {
     // The contract of this call says whether a transaction is open.
     let _was_idle = conn.is_autocommit();
@@ -72,12 +74,10 @@ fn laid_beside<S: Alter + Drop>(
 ) -> Result<SqliteStore<S>, (Connection<S>, FoundFault)>
     requires idle { conn.in_transaction ≡ false }
     requires hub { HasCleanDisk (state S.Store conn) → IsOldHub (state S.Store conn) }
-    requires fits { HasCleanDisk (state S.Store conn) → does_fit register.now (traffic_in (state S.Store conn).now.trees) ≡ true }
-    ensures whole { IfOk result (λ store. store.fault ≡ None) }
-    ensures rows { IfOk result (λ store. honest S.Store store → content S.Store store
-        ≡ founded_beside (traffic_in (state S.Store conn).now.trees) register.now) }
-    ensures crash { IfOk result (λ store. honest S.Store store → (t : Tables) → left S.Store store t → t ≡ content S.Store store) }
-    ensures clean { IfOk result (λ store. honest S.Store store → HasCleanDisk (state S.Store conn)) }
+    requires fits { HasCleanDisk (state S.Store conn) →
+        does_fit register.now (traffic_in (state S.Store conn).now.trees) ≡ true }
+    ensures holds { IfOk result (HoldsRows S.Store (state S.Store conn)
+        (founded_beside (traffic_in (state S.Store conn).now.trees) register.now)) }
     ensures register { IsRegister register.now }
     ensures fails { IfErr result (λ e. IsOfFounding e.1 × (e.1 ≢ FoundFault.Rows)) }
     ensures spared { IfErr result (λ e. SparesConnection S.Store
@@ -103,18 +103,18 @@ fn beside<S: Alter + Drop>(
     register: &Register,
 ) -> Result<SqliteStore<S>, (Connection<S>, FoundFault)>
     requires idle { conn.in_transaction ≡ false }
-    requires shaped { HasCleanDisk (state S.Store conn) → AreShaped Version.First (state S.Store conn).now.trees }
+    requires shaped { HasCleanDisk (state S.Store conn) →
+        AreShaped Version.First (state S.Store conn).now.trees }
     requires number { HasCleanDisk (state S.Store conn) → HasNumber 1 (state S.Store conn).now.trees }
     requires ready { HasCleanDisk (state S.Store conn) → IsReady (state S.Store conn) }
-    ensures whole { IfOk result (λ store. store.fault ≡ None) }
-    ensures fits { IfOk result (λ store. honest S.Store store → does_fit register.now (traffic_in (state S.Store conn).now.trees) ≡ true) }
-    ensures rows { IfOk result (λ store. honest S.Store store → content S.Store store
-        ≡ founded_beside (traffic_in (state S.Store conn).now.trees) register.now) }
-    ensures crash { IfOk result (λ store. honest S.Store store → (t : Tables) → left S.Store store t → t ≡ content S.Store store) }
-    ensures clean { IfOk result (λ store. honest S.Store store → HasCleanDisk (state S.Store conn)) }
+    ensures holds { IfOk result (HoldsRows S.Store (state S.Store conn)
+        (founded_beside (traffic_in (state S.Store conn).now.trees) register.now)) }
+    ensures fits { IfOk result (λ store. honest S.Store store →
+        does_fit register.now (traffic_in (state S.Store conn).now.trees) ≡ true) }
     ensures register { IfOk result (λ _. IsRegister register.now) }
     ensures none { IfErr result (λ e. e.1 ≡ FoundFault.Rows → HasCleanDisk (state S.Store e.0) →
-        (e.0.schema ≡ old_schema) × (does_fit register.now (traffic_in (state S.Store conn).now.trees) ≡ false)) }
+        (e.0.schema ≡ old_schema)
+        × (does_fit register.now (traffic_in (state S.Store conn).now.trees) ≡ false)) }
     ensures fails { IfErr result (λ e. IsOfFounding e.1) }
     ensures spared { IfErr result (λ e. SparesConnection S.Store
         (MayBeBeside (traffic_in (state S.Store conn).now.trees) register.now) (state S.Store conn) e.0) }
@@ -161,7 +161,8 @@ pub(crate) fn migrated_opened<S: Alter + Drop>(
     requires idle { conn.in_transaction ≡ false }
     requires tables { conn.schema ≢ no_schema }
     requires ready { HasCleanDisk (state S.Store conn) → IsReady (state S.Store conn) }
-    requires rising { HasCleanDisk (state S.Store conn) → AreRising (state S.Store conn).now.trees conn.schema.tables }
+    requires rising { HasCleanDisk (state S.Store conn) →
+        AreRising (state S.Store conn).now.trees conn.schema.tables }
     ensures founds { IfOk result (Founds S.Store register.now (state S.Store conn)) }
     ensures refuses { IfErr result (λ e. RefusesFounding S.Store register.now (state S.Store conn) e.0 e.1) }
 {

@@ -2,13 +2,12 @@
 ghost use Rattle.std.specs.Prelude.{◌≡◌, ◌≢◌, ◌⊎◌, false, None, IfOk, IfErr, IsTrue};
 ghost use Rattle.sqlite.specs.Held.{state};
 ghost use Rattle.sqlite.specs.State.{HasCleanDisk};
-ghost use Rattle.hub_tables.specs.Tables.{Tables};
 ghost use Rattle.hub_schema.specs.Rows.{tables_in};
-ghost use Rattle.hub_schema.specs.State.{AreOrdered, HasNumber, HasTables, IsHub};
+ghost use Rattle.hub_schema.specs.State.{AreOrdered, HasNumber, HasTables, IsHub, Never};
 ghost use Rattle.hub_founding.specs.Founding.{HoldsNone};
 ghost use Rattle.hub_tables.specs.Register.{HoldsRegister};
 ghost use Rattle.hub_sql.specs.Opening.{Adopts, IsAsBefore, IsReady, MayBeRenumbered, Refuses, SparesConnection};
-ghost use Rattle.hub_sql.specs.Stored.{content, left, honest, HasRegister};
+ghost use Rattle.hub_sql.specs.Stored.{content, honest, HasRegister, HoldsRows};
 ghost use Rattle.hub_sql.specs.Version.{AreRising, number_of};
 
 use crate::fault::laying_fault;
@@ -26,7 +25,7 @@ use std::alloc::Global;
 
 // The fault of a look-up: it has none of opening.
 fn look_fault(fault: StoreFault) -> StoreFault
-    ensures opened { result ≢ StoreFault.Version }
+    ensures not_version { result ≢ StoreFault.Version }
     ensures unclean { result ≡ StoreFault.Unclean → fault ≡ StoreFault.Unclean }
 {
     match fault {
@@ -45,17 +44,21 @@ fn with_register<S: Alter + Drop>(
     requires ordered { HasCleanDisk (state S.Store conn) → AreOrdered (state S.Store conn).now.trees }
     requires ready { HasCleanDisk (state S.Store conn) → IsReady (state S.Store conn) }
     ensures idle { IfOk result (λ found. found.0.in_transaction ≡ false) }
-    ensures tables { IfOk result (λ found. HasCleanDisk (state S.Store found.0) → HasTables (state S.Store found.0)) }
-    ensures open { IfOk result (λ found. HasCleanDisk (state S.Store found.0) → IsTrue (state S.Store found.0).is_open) }
+    ensures tables { IfOk result (λ found.
+        HasCleanDisk (state S.Store found.0) → HasTables (state S.Store found.0)) }
+    ensures open { IfOk result (λ found.
+        HasCleanDisk (state S.Store found.0) → IsTrue (state S.Store found.0).is_open) }
     ensures limit { IfOk result (λ found. found.0.step_limit ≡ conn.step_limit) }
-    ensures before { IfOk result (λ found. HasCleanDisk (state S.Store found.0) → IsAsBefore (state S.Store conn) (state S.Store found.0)) }
-    ensures clean { IfOk result (λ found. HasCleanDisk (state S.Store found.0) → HasCleanDisk (state S.Store conn)) }
+    ensures before { IfOk result (λ found. HasCleanDisk (state S.Store found.0) →
+        IsAsBefore (state S.Store conn) (state S.Store found.0)) }
+    ensures clean { IfOk result (λ found.
+        HasCleanDisk (state S.Store found.0) → HasCleanDisk (state S.Store conn)) }
     ensures register { IfOk result (λ found. HasCleanDisk (state S.Store found.0) →
         HasRegister (tables_in (state S.Store conn).now.trees) found.1) }
-    ensures opened { IfErr result (λ e. e.1 ≢ StoreFault.Version) }
+    ensures not_version { IfErr result (λ e. e.1 ≢ StoreFault.Version) }
     ensures unclean { IfErr result (λ e. e.1 ≡ StoreFault.Unclean →
         HasCleanDisk (state S.Store e.0) → HoldsNone (tables_in (state S.Store conn).now.trees)) }
-    ensures spared { IfErr result (λ e. SparesConnection S.Store (λ _. ⊥) (state S.Store conn) e.0) }
+    ensures spared { IfErr result (λ e. SparesConnection S.Store Never (state S.Store conn) e.0) }
 {
     // The contract of this call says whether a transaction is open.
     let _was_idle = conn.is_autocommit();
@@ -82,11 +85,10 @@ fn renumbered<S: Alter + Drop>(
     requires idle { conn.in_transaction ≡ false }
     requires tables { HasCleanDisk (state S.Store conn) → HasTables (state S.Store conn) }
     requires number { HasCleanDisk (state S.Store conn) → HasNumber 2 (state S.Store conn).now.trees }
-    requires theirs { HasCleanDisk (state S.Store conn) → HasRegister (tables_in (state S.Store conn).now.trees) register }
-    ensures whole { IfOk result (λ store. store.fault ≡ None) }
-    ensures rows { IfOk result (λ store. honest S.Store store → content S.Store store ≡ tables_in (state S.Store conn).now.trees) }
-    ensures crash { IfOk result (λ store. honest S.Store store → (t : Tables) → left S.Store store t → t ≡ content S.Store store) }
-    ensures clean { IfOk result (λ store. honest S.Store store → HasCleanDisk (state S.Store conn)) }
+    requires theirs { HasCleanDisk (state S.Store conn) →
+        HasRegister (tables_in (state S.Store conn).now.trees) register }
+    ensures holds { IfOk result (HoldsRows S.Store (state S.Store conn)
+        (tables_in (state S.Store conn).now.trees)) }
     ensures fails { IfErr result (λ e. (e.1 ≡ StoreFault.Memory) ⊎ (e.1 ≡ StoreFault.Disk)) }
     ensures spared { IfErr result (λ e. SparesConnection S.Store
         (MayBeRenumbered Version.Second (tables_in (state S.Store conn).now.trees)) (state S.Store conn) e.0) }
@@ -110,12 +112,12 @@ fn raised<S: Alter + Drop>(
     requires later { version ≢ Version.First }
     requires tables { HasCleanDisk (state S.Store conn) → HasTables (state S.Store conn) }
     requires open { HasCleanDisk (state S.Store conn) → IsTrue (state S.Store conn).is_open }
-    requires number { HasCleanDisk (state S.Store conn) → HasNumber (number_of version) (state S.Store conn).now.trees }
-    requires theirs { HasCleanDisk (state S.Store conn) → HasRegister (tables_in (state S.Store conn).now.trees) register }
-    ensures whole { IfOk result (λ store. store.fault ≡ None) }
-    ensures rows { IfOk result (λ store. honest S.Store store → content S.Store store ≡ tables_in (state S.Store conn).now.trees) }
-    ensures crash { IfOk result (λ store. honest S.Store store → (t : Tables) → left S.Store store t → t ≡ content S.Store store) }
-    ensures clean { IfOk result (λ store. honest S.Store store → HasCleanDisk (state S.Store conn)) }
+    requires number { HasCleanDisk (state S.Store conn) →
+        HasNumber (number_of version) (state S.Store conn).now.trees }
+    requires theirs { HasCleanDisk (state S.Store conn) →
+        HasRegister (tables_in (state S.Store conn).now.trees) register }
+    ensures holds { IfOk result (HoldsRows S.Store (state S.Store conn)
+        (tables_in (state S.Store conn).now.trees)) }
     ensures fails { IfErr result (λ e. (e.1 ≡ StoreFault.Memory) ⊎ (e.1 ≡ StoreFault.Disk)) }
     ensures spared { IfErr result (λ e. SparesConnection S.Store
         (MayBeRenumbered version (tables_in (state S.Store conn).now.trees)) (state S.Store conn) e.0) }
@@ -137,17 +139,17 @@ fn taken<S: Alter + Drop>(
     requires idle { conn.in_transaction ≡ false }
     requires later { version ≢ Version.First }
     requires ordered { HasCleanDisk (state S.Store conn) → AreOrdered (state S.Store conn).now.trees }
-    requires number { HasCleanDisk (state S.Store conn) → HasNumber (number_of version) (state S.Store conn).now.trees }
+    requires number { HasCleanDisk (state S.Store conn) →
+        HasNumber (number_of version) (state S.Store conn).now.trees }
     requires ready { HasCleanDisk (state S.Store conn) → IsReady (state S.Store conn) }
-    ensures whole { IfOk result (λ store. store.fault ≡ None) }
-    ensures rows { IfOk result (λ store. honest S.Store store → content S.Store store ≡ tables_in (state S.Store conn).now.trees) }
-    ensures register { IfOk result (λ store. honest S.Store store → HoldsRegister (tables_in (state S.Store conn).now.trees)) }
-    ensures crash { IfOk result (λ store. honest S.Store store → (t : Tables) → left S.Store store t → t ≡ content S.Store store) }
-    ensures clean { IfOk result (λ store. honest S.Store store → HasCleanDisk (state S.Store conn)) }
-    ensures opened { IfErr result (λ e. e.1 ≢ StoreFault.Version) }
+    ensures holds { IfOk result (HoldsRows S.Store (state S.Store conn)
+        (tables_in (state S.Store conn).now.trees)) }
+    ensures register { IfOk result (λ store.
+        honest S.Store store → HoldsRegister (tables_in (state S.Store conn).now.trees)) }
+    ensures not_version { IfErr result (λ e. e.1 ≢ StoreFault.Version) }
     ensures unclean { IfErr result (λ e. e.1 ≡ StoreFault.Unclean →
         (HasCleanDisk (state S.Store e.0) → HoldsNone (tables_in (state S.Store conn).now.trees))
-        × SparesConnection S.Store (λ _. ⊥) (state S.Store conn) e.0) }
+        × SparesConnection S.Store Never (state S.Store conn) e.0) }
     ensures spared { IfErr result (λ e. SparesConnection S.Store
         (MayBeRenumbered version (tables_in (state S.Store conn).now.trees)) (state S.Store conn) e.0) }
 {
@@ -194,7 +196,8 @@ impl<S: Alter + Drop> SqliteStore<S> {
     ) -> Result<SqliteStore<S>, (Returned<S>, StoreFault)>
         requires idle { conn.in_transaction ≡ false }
         requires ready { HasCleanDisk (state S.Store conn) → IsReady (state S.Store conn) }
-        requires rising { HasCleanDisk (state S.Store conn) → AreRising (state S.Store conn).now.trees conn.schema.tables }
+        requires rising { HasCleanDisk (state S.Store conn) →
+            AreRising (state S.Store conn).now.trees conn.schema.tables }
         ensures adopts { IfOk result (Adopts S.Store (state S.Store conn)) }
         ensures refuses { IfErr result (λ e. Refuses S.Store (state S.Store conn) e.0 e.1) }
     {
@@ -213,7 +216,8 @@ impl<S: Alter + Drop> SqliteStore<S> {
     pub fn into_connection(self) -> Connection<S>
         ensures held { result ≡ self.held }
         ensures idle { result.in_transaction ≡ false }
-        ensures hub { HasCleanDisk (state S.Store result) → IsTrue (state S.Store result).is_open → IsHub (state S.Store result) }
+        ensures hub { HasCleanDisk (state S.Store result) → IsTrue (state S.Store result).is_open →
+            IsHub (state S.Store result) }
         ensures rows { HasCleanDisk (state S.Store result) → IsTrue (state S.Store result).is_open →
             tables_in (state S.Store result).now.trees ≡ content S.Store self }
     {

@@ -14,7 +14,8 @@ pub(crate) fn held_register<S: Alter>(
     conn: &mut Connection<S>,
     alloc: Global,
 ) -> Result<Register, StoreFault>
-    ensures { LooksFor (λ t register. IsHeldBy t (Some register)) HoldsNone (state S.Store conn.old) (state S.Store conn.new)
+    ensures { LooksFor (λ t register. IsHeldBy t (Some register)) HoldsNone
+        (state S.Store conn.old) (state S.Store conn.new)
         result }
 {
     match hub_reads::register(conn, alloc) {

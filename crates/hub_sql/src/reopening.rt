@@ -2,7 +2,7 @@
 ghost use Rattle.std.specs.Prelude.{◌≡◌, ◌≢◌, ◌⊎◌, false, IfOk, IfErr};
 ghost use Rattle.sqlite.specs.Held.{state, IsNew};
 ghost use Rattle.sqlite.specs.State.{HasCleanDisk};
-ghost use Rattle.hub_schema.specs.State.{HasNumber};
+ghost use Rattle.hub_schema.specs.State.{HasNumber, Never};
 ghost use Rattle.hub_sql.specs.Opening.{IsAsBefore, IsReady, SparesConnection, SparesStore};
 ghost use Rattle.hub_schema.specs.Schema.{hub_schema};
 ghost use Rattle.hub_sql.specs.Version.{schema_of, number_of, AreShaped, HoldsHub, HoldsTables};
@@ -22,19 +22,22 @@ pub(crate) fn of_version<S: Alter + Drop>(
     requires idle { conn.in_transaction ≡ false }
     ensures idle { IfOk result (λ c. c.in_transaction ≡ false) }
     ensures limit { IfOk result (λ c. c.step_limit ≡ conn.step_limit) }
-    ensures ready { IfOk result (λ c. HasCleanDisk (state S.Store c) → IsReady (state S.Store conn) → IsReady (state S.Store c)) }
+    ensures ready { IfOk result (λ c.
+        HasCleanDisk (state S.Store c) → IsReady (state S.Store conn) → IsReady (state S.Store c)) }
     ensures schema { IfOk result (λ _. conn.schema ≡ schema_of version) }
     ensures holds { IfOk result (λ c. HasCleanDisk (state S.Store c) →
         HoldsTables version (state S.Store conn).now × IsAsBefore (state S.Store conn) (state S.Store c)) }
-    ensures number { IfOk result (λ c. HasCleanDisk (state S.Store c) → HasNumber (number_of version) (state S.Store c).committed.trees) }
+    ensures number { IfOk result (λ c. HasCleanDisk (state S.Store c) →
+        HasNumber (number_of version) (state S.Store c).committed.trees) }
     ensures clean { IfOk result (λ c. HasCleanDisk (state S.Store c) → HasCleanDisk (state S.Store conn)) }
     ensures refuses { IfErr result (λ e. e.1 ≡ StoreFault.Version → HasCleanDisk (state S.Store e.0) →
-        ¬ HoldsTables version (state S.Store conn).now × IsAsBefore (state S.Store conn) (state S.Store e.0)) }
+        ¬ HoldsTables version (state S.Store conn).now
+        × IsAsBefore (state S.Store conn) (state S.Store e.0)) }
     ensures stays { IfErr result (λ e. e.1 ≡ StoreFault.Version → HasCleanDisk (state S.Store e.0) →
         IsReady (state S.Store conn) → IsReady (state S.Store e.0)) }
     ensures other { IfErr result (λ e. conn.schema ≢ schema_of version → e.1 ≡ StoreFault.Version) }
     ensures unclean { IfErr result (λ e. e.1 ≢ StoreFault.Unclean) }
-    ensures spared { IfErr result (λ e. SparesConnection S.Store (λ _. ⊥) (state S.Store conn) e.0) }
+    ensures spared { IfErr result (λ e. SparesConnection S.Store Never (state S.Store conn) e.0) }
 {
     // The contract of this call says whether a transaction is open.
     let _was_idle = conn.is_autocommit();
@@ -65,15 +68,17 @@ pub(crate) fn of_hub<S: Alter + Drop>(
     ensures known { IfOk result (λ found. conn.schema ≡ schema_of found.1) }
     ensures later { IfOk result (λ found. found.1 ≢ Version.First) }
     ensures holds { IfOk result (λ found. HasCleanDisk (state S.Store found.0) →
-        HoldsTables found.1 (state S.Store conn).now × IsAsBefore (state S.Store conn) (state S.Store found.0)) }
+        HoldsTables found.1 (state S.Store conn).now
+        × IsAsBefore (state S.Store conn) (state S.Store found.0)) }
     ensures number { IfOk result (λ found. HasCleanDisk (state S.Store found.0) →
         HasNumber (number_of found.1) (state S.Store found.0).committed.trees) }
-    ensures clean { IfOk result (λ found. HasCleanDisk (state S.Store found.0) → HasCleanDisk (state S.Store conn)) }
+    ensures clean { IfOk result (λ found.
+        HasCleanDisk (state S.Store found.0) → HasCleanDisk (state S.Store conn)) }
     ensures refuses { IfErr result (λ e. e.1 ≡ StoreFault.Version → HasCleanDisk (state S.Store e.0) →
         ¬ HoldsHub (state S.Store conn).now × IsAsBefore (state S.Store conn) (state S.Store e.0)) }
     ensures other { IfErr result (λ e. conn.schema ≢ hub_schema → e.1 ≡ StoreFault.Version) }
     ensures unclean { IfErr result (λ e. e.1 ≢ StoreFault.Unclean) }
-    ensures spared { IfErr result (λ e. SparesConnection S.Store (λ _. ⊥) (state S.Store conn) e.0) }
+    ensures spared { IfErr result (λ e. SparesConnection S.Store Never (state S.Store conn) e.0) }
 {
     // The contract of this call says whether a transaction is open.
     let _was_idle = conn.is_autocommit();
@@ -96,8 +101,10 @@ pub(crate) fn reopened<S: Alter + Drop>(
     conn: Connection<S>,
     version: Version,
 ) -> Result<Connection<S>, (StoreFault, S)>
-    ensures shaped { IfOk result (λ c. HasCleanDisk (state S.Store c) → AreShaped version (state S.Store c).now.trees) }
-    ensures rows { IfOk result (λ c. HasCleanDisk (state S.Store c) → (state S.Store c).now.trees ≡ (state S.Store conn).committed.trees) }
+    ensures shaped { IfOk result (λ c.
+        HasCleanDisk (state S.Store c) → AreShaped version (state S.Store c).now.trees) }
+    ensures rows { IfOk result (λ c. HasCleanDisk (state S.Store c) →
+        (state S.Store c).now.trees ≡ (state S.Store conn).committed.trees) }
     ensures ready { IfOk result (λ c. HasCleanDisk (state S.Store c) → IsReady (state S.Store c)) }
     ensures fresh { IfOk result IsNew }
     ensures clean { IfOk result (λ c. HasCleanDisk (state S.Store c) → HasCleanDisk (state S.Store conn)) }

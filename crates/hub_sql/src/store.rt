@@ -39,7 +39,8 @@ impl<S: Alter> Model for SqliteStore<S> {
 
     ghost view = { λ s. record { held = s.conn; fault = s.fault; past = s.past.items } };
 
-    ghost invariant = { λ s. IsSettled S.Store s.register (record { held = s.conn; fault = s.fault; past = s.past.items }) };
+    ghost invariant = { λ s. IsSettled S.Store s.register
+        (record { held = s.conn; fault = s.fault; past = s.past.items }) };
 }
 
 /// The fault for good, as each call answers it.
@@ -85,7 +86,8 @@ impl<S: Alter> SqliteStore<S> {
     ) -> SqliteStore<S>
         requires idle { conn.in_transaction ≡ false }
         requires hub { HasCleanDisk (state S.Store conn) → IsHub (state S.Store conn) }
-        requires theirs { HasCleanDisk (state S.Store conn) → IfSome register (HasRegister (tables_in (state S.Store conn).now.trees)) }
+        requires theirs { HasCleanDisk (state S.Store conn) →
+            IfSome register (HasRegister (tables_in (state S.Store conn).now.trees)) }
         ensures { result ≡ record { held = conn; fault = None; past = (conn, true) ∷ [] } }
     {
         let past = Log::new().and(&conn, &true);

@@ -42,7 +42,7 @@ pub record Fails {X : Type 0} (plain : Bool) (old new : Option LastingFault) (re
     : Type 0 where
   pub again : IfSome old (λ fault. result ≡ Err (fault_of fault))
   pub after : new ≡ broken_after old result
-  pub opened : IfErr result (λ fault. fault ≢ Version)
+  pub not_version : IfErr result (λ fault. fault ≢ Version)
   pub only_memory : IsTrue plain → IfErr result (λ fault. fault ≡ Memory)
 
 -- a look-up: what it answers, that the content stays, and that a crash may leave no more than before. A store that is
@@ -83,8 +83,8 @@ have_places (change ∷ changes) t = has_place change t && have_places changes (
 -- a commit: changes that fit are all made at Ok, and at a fault none is made, whether they fit or not. After Ok a
 -- crash leaves the content alone; after a fault it leaves what it did before or, where the changes fit, the content
 -- with all of them. A store that is not broken answers `Unclean` only where some row does not have the form of its
--- kind, before the changes or after them, or where they do not fit or set a row that has none in its place. So of the rows what is
--- judged is the outcome of all changes: a row that a later change sets right is no cause.
+-- kind, before the changes or after them, or where they do not fit or set a row that has none in its place. What counts
+-- is the outcome of all changes: a row that a later change sets right is no cause.
 pub record Commits {S X : Type 0} (content : S → Tables) (honest : S → Type 0) (left : S → Tables → Type 0)
     (broken : S → Option LastingFault) (old new : S) (changes : List Change)
     (result : Result X StoreFault) : Type 0 where

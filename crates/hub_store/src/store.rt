@@ -44,8 +44,8 @@ pub trait Store {
     fn fault(&self) -> Option<LastingFault>
         ensures { result ≡ broken self.now };
 
-    /// The register that the rows hold. Whether they hold one is judged where a store is founded or opened. A store may keep
-    /// it from then on; else they are judged here again, as what is below may have changed. Rows that hold none are never
+    /// The register that the rows hold. Whether they hold one is checked where a store is founded or opened. A store may keep
+    /// it from then on; else they are checked here again, as what is below may have changed. Rows that hold none are never
     /// answered with one; whether later calls answer that fault again is then open.
     fn register(&mut self) -> Result<Register, StoreFault>
         ensures looks { (honest self.old → HoldsRegister (content self.old)) →
@@ -92,12 +92,14 @@ pub trait Store {
 
     /// The number of the last entry of the supplier's mailbox, 0 where there is none.
     fn last_mail(&mut self, supplier: &Gln) -> Result<u64, StoreFault>
-        ensures looks { Looks content honest left broken self.old self.new (last_mail (view supplier.now (content self.old))) result }
+        ensures looks { Looks content honest left broken self.old self.new
+            (last_mail (view supplier.now (content self.old))) result }
         ensures fails { Fails plain (broken self.old) (broken self.new) result };
 
     /// The mailbox entry of a number.
     fn mail_item(&mut self, supplier: &Gln, number: u64) -> Result<Option<MailRow>, StoreFault>
-        ensures looks { Looks content honest left broken self.old self.new (entry_at (view supplier.now (content self.old)) number) result }
+        ensures looks { Looks content honest left broken self.old self.new
+            (entry_at (view supplier.now (content self.old)) number) result }
         ensures fails { Fails plain (broken self.old) (broken self.new) result };
 
     /// What a list shows of the mailbox entries above a number that are not taken, by number: of the first so many of
@@ -115,12 +117,14 @@ pub trait Store {
 
     /// The lines of all orders of the supplier, by order number and line number.
     fn all_lines(&mut self, supplier: &Gln) -> Result<Items<LineRow>, StoreFault>
-        ensures looks { Looks content honest left broken self.old self.new ((view supplier.now (content self.old)).lines) result }
+        ensures looks { Looks content honest left broken self.old self.new
+            ((view supplier.now (content self.old)).lines) result }
         ensures fails { Fails plain (broken self.old) (broken self.new) result };
 
     /// The pallets of the supplier, by SSCC.
     fn all_pallets(&mut self, supplier: &Gln) -> Result<Items<PalletRow>, StoreFault>
-        ensures looks { Looks content honest left broken self.old self.new ((view supplier.now (content self.old)).pallets) result }
+        ensures looks { Looks content honest left broken self.old self.new
+            ((view supplier.now (content self.old)).pallets) result }
         ensures fails { Fails plain (broken self.old) (broken self.new) result };
 
     /// The contents of a pallet, by place. None where the pallet is another supplier's.
@@ -137,7 +141,8 @@ pub trait Store {
 
     /// Whether any supplier has a pallet of this SSCC. A plain store takes no memory for it, and answers.
     fn used(&mut self, sscc: &Sscc) -> Result<bool, StoreFault>
-        ensures looks { Looks content honest left broken self.old self.new (has_pallet (content self.old) sscc.now) result }
+        ensures looks { Looks content honest left broken self.old self.new
+            (has_pallet (content self.old) sscc.now) result }
         ensures fails { Fails plain (broken self.old) (broken self.new) result }
         ensures plain { IsTrue plain → IsOk result };
 

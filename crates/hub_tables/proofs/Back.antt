@@ -1,48 +1,26 @@
 -- Where changes fit, tables rise before each of them, and after all.
-use Rattle.std.proofs.Common.{◌≡◌, Bool, true, false, cond, List, [], ◌∷◌, sym, ◌∙◌}
+use Rattle.std.proofs.Common.{◌≡◌, Bool, true, false, cond, List, [], ◌∷◌, refl, sym, ap, ◌∙◌}
 use Rattle.std.specs.List.{AllByRecursion}
 use Rattle.std.specs.Ordering.{is_gt}
 use Rattle.std.specs.declared.cmp.Ordering.{Ordering}
 use Rattle.std.specs.declared.cmp.Ordering.TheVariants.{Less}
 use Rattle.hub_parties.specs.KeyOrder.{put, replace, Rises}
 use Rattle.hub_tables.specs.Change.{apply, apply_all}
-use Rattle.hub_tables.specs.Rows.{hub_cmp, key_cmp, prefix_cmp}
-use Rattle.hub_tables.specs.Rows.{order_cmp, line_cmp, advice_cmp, pallet_cmp, content_cmp, receipt_cmp, remembered_cmp}
-use Rattle.hub_tables.specs.Rows.{mail_cmp, same_line, same_pallet, same_mail}
 use Rattle.hub_tables.specs.Sets.{Rising, RisesAt, Fit, clears}
 use Rattle.hub_tables.specs.Tables.{Tables}
 use Rattle.hub_tables.specs.declared.change.Change.{Change}
-use Rattle.hub_tables.specs.declared.change.Change.TheVariants.{AddHub, AddKey, AddPrefix}
-use Rattle.hub_tables.specs.declared.change.Change.TheVariants.{AddOrder, AddLine, SetLine, AddAdvice, AddPallet}
-use Rattle.hub_tables.specs.declared.change.Change.TheVariants.{SetPallet, AddContent, AddReceipt, ClearReceipts, Remember, AddMail}
-use Rattle.hub_tables.specs.declared.change.Change.TheVariants.{SetMail}
-use Rattle.hub_tables.proofs.KindOrders.{line_set, pallet_set, mail_set}
+use Rattle.hub_tables.specs.declared.change.Change.TheVariants.{ClearReceipts}
+use Rattle.hub_tables.proofs.KeyOrder.{all_put_back}
+use Rattle.hub_tables.proofs.KindOrders.{Steps, hubs_after, keys_after, prefixes_after, orders_after, lines_after, advices_after}
+use Rattle.hub_tables.proofs.KindOrders.{pallets_after, contents_after, receipts_after, remembered_after, mail_after}
 
-all_put_step : {X : Type 0} (P : X → Type 0) (x y : X) (ys more : List X) (b : Bool) →
-    (AllByRecursion P more → AllByRecursion P ys) →
-    AllByRecursion P (cond b (x ∷ y ∷ ys) (y ∷ more)) → AllByRecursion P (y ∷ ys)
-all_put_step P x y ys more true f h = h.1
-all_put_step P x y ys more false f h = (h.0, f h.1)
-
-all_put_back : {X : Type 0} (P : X → Type 0) (cmp : X → X → Ordering) (x : X) (ys : List X) → AllByRecursion P
-    (put cmp x ys) →
-    AllByRecursion P ys
-all_put_back P cmp x [] h = tt
-all_put_back P cmp x (y ∷ ys) h = all_put_step P x y ys (put cmp x ys) (is_gt (cmp y x)) (all_put_back P cmp x ys) h
-
-rises_step : {X : Type 0} (cmp : X → X → Ordering) (x y : X) (ys more : List X) (b : Bool) →
-    (AllByRecursion (λ z. cmp y z ≡ Less) more →
-    AllByRecursion (λ z. cmp y z ≡ Less) ys) → (Rises cmp more → Rises cmp ys) →
-    Rises cmp (cond b (x ∷ y ∷ ys) (y ∷ more)) → Rises cmp (y ∷ ys)
-rises_step cmp x y ys more true f g h = h.1
-rises_step cmp x y ys more false f g h = (f h.0, g h.1)
-
-pub rises_put_back : {X : Type 0} (cmp : X → X → Ordering) (x : X) (ys : List X) → Rises cmp (put cmp x ys)
-    → Rises cmp ys
+pub rises_put_back : {X : Type 0} (cmp : X → X → Ordering) (x : X) (ys : List X) → Rises cmp (put cmp x ys) → Rises cmp ys
 rises_put_back cmp x [] h = tt
 rises_put_back cmp x (y ∷ ys) h =
-    rises_step cmp x y ys (put cmp x ys) (is_gt (cmp y x)) (all_put_back (λ z. cmp y z ≡ Less) cmp x ys)
-    (rises_put_back cmp x ys) h
+    elim (is_gt (cmp y x)) as (λ v. Rises cmp (cond v (x ∷ y ∷ ys) (y ∷ put cmp x ys)) → Rises cmp (y ∷ ys)) [
+      | true ↦ λ g. g.1
+      | false ↦ λ g. ((all_put_back cmp (λ z. cmp y z ≡ Less) ys x g.0).1, rises_put_back cmp x ys g.1)
+    ] h
 
 module _ {X : Type 0} (cmp : X → X → Ordering) (at : X → Bool) (r : X) (alike : (x y : X) →
     cmp (cond (at x) r x) (cond (at y) r y) ≡ cmp x y) where
@@ -55,191 +33,35 @@ module _ {X : Type 0} (cmp : X → X → Ordering) (at : X → Bool) (r : X) (al
   rises_replace_back [] h = tt
   rises_replace_back (x ∷ xs) h = (below_back x xs h.0, rises_replace_back xs h.1)
 
+abbrev RisesBefore : (X : Type 0) → (X → X → Ordering) → List X → List X → Type 0
+RisesBefore X cmp rows after = Rises cmp after → Rises cmp rows
+
+rise_before : Steps RisesBefore
+rise_before = record {
+  stay = λ cmp rows h. h;
+  add = λ cmp total rows r. rises_put_back cmp r rows;
+  set = rises_replace_back;
+}
+
+-- before a change at which no rows go
+uncleared_back : (c : Change) (t : Tables) → clears c ≡ false → Rising (apply c t) → Rising t
+uncleared_back c t none h = record {
+  hubs = hubs_after rise_before c t h.hubs;
+  keys = keys_after rise_before c t h.keys;
+  prefixes = prefixes_after rise_before c t h.prefixes;
+  orders = orders_after rise_before c t h.orders;
+  lines = lines_after rise_before c t h.lines;
+  advices = advices_after rise_before c t h.advices;
+  pallets = pallets_after rise_before c t h.pallets;
+  contents = contents_after rise_before c t h.contents;
+  receipts = receipts_after rise_before c t (λ sscc e. let both : false ≡ true = sym none ∙ ap clears e in absurd (cc)) h.receipts;
+  remembered = remembered_after rise_before c t h.remembered;
+  mail = mail_after rise_before c t h.mail;
+}
+
 rising_back : (c : Change) (t : Tables) → RisesAt c t → Rising (apply c t) → Rising t
 rising_back (ClearReceipts sscc) t at h = at
-rising_back (AddHub r) t at h = record {
-  hubs = rises_put_back hub_cmp r t.hubs h.hubs;
-  keys = h.keys;
-  prefixes = h.prefixes;
-  orders = h.orders;
-  lines = h.lines;
-  advices = h.advices;
-  pallets = h.pallets;
-  contents = h.contents;
-  receipts = h.receipts;
-  remembered = h.remembered;
-  mail = h.mail;
-}
-rising_back (AddKey r) t at h = record {
-  hubs = h.hubs;
-  keys = rises_put_back key_cmp r t.keys h.keys;
-  prefixes = h.prefixes;
-  orders = h.orders;
-  lines = h.lines;
-  advices = h.advices;
-  pallets = h.pallets;
-  contents = h.contents;
-  receipts = h.receipts;
-  remembered = h.remembered;
-  mail = h.mail;
-}
-rising_back (AddPrefix r) t at h = record {
-  hubs = h.hubs;
-  keys = h.keys;
-  prefixes = rises_put_back prefix_cmp r t.prefixes h.prefixes;
-  orders = h.orders;
-  lines = h.lines;
-  advices = h.advices;
-  pallets = h.pallets;
-  contents = h.contents;
-  receipts = h.receipts;
-  remembered = h.remembered;
-  mail = h.mail;
-}
-rising_back (AddOrder r) t at h = record {
-  hubs = h.hubs;
-  keys = h.keys;
-  prefixes = h.prefixes;
-  orders = rises_put_back order_cmp r t.orders h.orders;
-  lines = h.lines;
-  advices = h.advices;
-  pallets = h.pallets;
-  contents = h.contents;
-  receipts = h.receipts;
-  remembered = h.remembered;
-  mail = h.mail;
-}
-rising_back (AddLine r) t at h = record {
-  hubs = h.hubs;
-  keys = h.keys;
-  prefixes = h.prefixes;
-  orders = h.orders;
-  lines = rises_put_back line_cmp r t.lines h.lines;
-  advices = h.advices;
-  pallets = h.pallets;
-  contents = h.contents;
-  receipts = h.receipts;
-  remembered = h.remembered;
-  mail = h.mail;
-}
-rising_back (AddAdvice r) t at h = record {
-  hubs = h.hubs;
-  keys = h.keys;
-  prefixes = h.prefixes;
-  orders = h.orders;
-  lines = h.lines;
-  advices = rises_put_back advice_cmp r t.advices h.advices;
-  pallets = h.pallets;
-  contents = h.contents;
-  receipts = h.receipts;
-  remembered = h.remembered;
-  mail = h.mail;
-}
-rising_back (AddPallet r) t at h = record {
-  hubs = h.hubs;
-  keys = h.keys;
-  prefixes = h.prefixes;
-  orders = h.orders;
-  lines = h.lines;
-  advices = h.advices;
-  pallets = rises_put_back pallet_cmp r t.pallets h.pallets;
-  contents = h.contents;
-  receipts = h.receipts;
-  remembered = h.remembered;
-  mail = h.mail;
-}
-rising_back (AddContent r) t at h = record {
-  hubs = h.hubs;
-  keys = h.keys;
-  prefixes = h.prefixes;
-  orders = h.orders;
-  lines = h.lines;
-  advices = h.advices;
-  pallets = h.pallets;
-  contents = rises_put_back content_cmp r t.contents h.contents;
-  receipts = h.receipts;
-  remembered = h.remembered;
-  mail = h.mail;
-}
-rising_back (AddReceipt r) t at h = record {
-  hubs = h.hubs;
-  keys = h.keys;
-  prefixes = h.prefixes;
-  orders = h.orders;
-  lines = h.lines;
-  advices = h.advices;
-  pallets = h.pallets;
-  contents = h.contents;
-  receipts = rises_put_back receipt_cmp r t.receipts h.receipts;
-  remembered = h.remembered;
-  mail = h.mail;
-}
-rising_back (Remember r) t at h = record {
-  hubs = h.hubs;
-  keys = h.keys;
-  prefixes = h.prefixes;
-  orders = h.orders;
-  lines = h.lines;
-  advices = h.advices;
-  pallets = h.pallets;
-  contents = h.contents;
-  receipts = h.receipts;
-  remembered = rises_put_back remembered_cmp r t.remembered h.remembered;
-  mail = h.mail;
-}
-rising_back (AddMail r) t at h = record {
-  hubs = h.hubs;
-  keys = h.keys;
-  prefixes = h.prefixes;
-  orders = h.orders;
-  lines = h.lines;
-  advices = h.advices;
-  pallets = h.pallets;
-  contents = h.contents;
-  receipts = h.receipts;
-  remembered = h.remembered;
-  mail = rises_put_back mail_cmp r t.mail h.mail;
-}
-rising_back (SetLine r) t at h = record {
-  hubs = h.hubs;
-  keys = h.keys;
-  prefixes = h.prefixes;
-  orders = h.orders;
-  lines = rises_replace_back line_cmp (same_line r) r
-      (line_set r) t.lines h.lines;
-  advices = h.advices;
-  pallets = h.pallets;
-  contents = h.contents;
-  receipts = h.receipts;
-  remembered = h.remembered;
-  mail = h.mail;
-}
-rising_back (SetPallet r) t at h = record {
-  hubs = h.hubs;
-  keys = h.keys;
-  prefixes = h.prefixes;
-  orders = h.orders;
-  lines = h.lines;
-  advices = h.advices;
-  pallets = rises_replace_back pallet_cmp (same_pallet r) r (pallet_set r) t.pallets h.pallets;
-  contents = h.contents;
-  receipts = h.receipts;
-  remembered = h.remembered;
-  mail = h.mail;
-}
-rising_back (SetMail r) t at h = record {
-  hubs = h.hubs;
-  keys = h.keys;
-  prefixes = h.prefixes;
-  orders = h.orders;
-  lines = h.lines;
-  advices = h.advices;
-  pallets = h.pallets;
-  contents = h.contents;
-  receipts = h.receipts;
-  remembered = h.remembered;
-  mail = rises_replace_back mail_cmp (same_mail r) r (mail_set r) t.mail h.mail;
-}
+rising_back c t at h = uncleared_back c t refl h
 
 -- before them
 pub fit_before : (cs : List Change) (t : Tables) → Fit cs t → Rising t

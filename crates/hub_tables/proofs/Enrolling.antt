@@ -1,6 +1,6 @@
 -- What the changes of a supplier's row do to tables.
 use Rattle.std.proofs.Common.{◌≡◌, ◌≢◌, ℕ, Bool, true, false, cond, ◌||◌, inl, inr, List, [], ◌∷◌, ◌++◌, filter, find, map}
-use Rattle.std.proofs.Common.{Some, None, refl, sym, ◌∙◌, ap, subst, arith}
+use Rattle.std.proofs.Common.{Some, None, refl, sym, ◌∙◌, ap, subst}
 use Rattle.std.specs.List.{AllByRecursion, list_any, list_all}
 use Rattle.std.specs.declared.cmp.Ordering.{Ordering}
 use Rattle.std.specs.declared.cmp.Ordering.TheVariants.{Less, Equal, Greater}
@@ -8,6 +8,7 @@ use Rattle.std.specs.Ordering.{is_gt, is_eq, is_lt}
 use Rattle.std.specs.Cmp.{IsTotalOrder}
 use Rattle.std.specs.Bool.{⊤}
 use Rattle.std.proofs.lemmas.Bool.{and_parts, or_right}
+use Rattle.std.proofs.lemmas.List.{append-nil, append_assoc}
 use Rattle.std.proofs.lemmas.Map.Text.{is_eq-slice_cmp}
 use Rattle.edi_base.proofs.Twice.{bytes_eq-sym}
 use Rattle.gs1_ids.specs.Prefix.{begins, overlap}
@@ -24,8 +25,10 @@ use Rattle.hub_tables.specs.Tables.{Tables, Ordered, view}
 use Rattle.hub_tables.specs.declared.change.Change.TheVariants.{AddKey}
 use Rattle.hub_tables.specs.declared.rows.KeyRow.{KeyRow}
 use Rattle.hub_tables.specs.declared.rows.PrefixRow.{PrefixRow}
+use Rattle.hub_tables.proofs.Filters.{filter_again}
 use Rattle.hub_tables.proofs.Freedom.{Apart}
-use Rattle.hub_tables.proofs.KeyOrder.{all_put, any_put, any_more, in_order_put, filter_put_in, filter_put_out, put_last}
+use Rattle.hub_tables.proofs.KeyOrder.{all_put, any_put, any_more, in_order_put, in_order_rising, filter_put_in, filter_put_out}
+use Rattle.hub_tables.proofs.KeyOrder.{put_last}
 use Rattle.hub_tables.proofs.KindOrders.{key_total, prefix_total}
 use Rattle.hub_tables.proofs.Lists.{decide, same_is, same_if, differ, all_weaker, filter_none, any_if_found}
 use Rattle.hub_tables.proofs.Members.{all_of, all_if, none_of, none_if, one_of, has_map, has_filter}
@@ -98,15 +101,11 @@ pub puts_rising : {X : Type 0} (cmp : X → X → Ordering) (xs done : List X)
     → AllByRecursion (λ x. AllByRecursion (λ y. is_gt (cmp y x) ≡ false) done) xs
     → Rises cmp xs
     → puts cmp xs done ≡ done ++ xs
-puts_rising cmp [] done above rises = nothing_more done
-  where
-    nothing_more : {X : Type 0} (xs : List X) → xs ≡ xs ++ []
-    nothing_more [] = refl
-    nothing_more (x ∷ xs) = ap (λ rest. x ∷ rest) (nothing_more xs)
+puts_rising cmp [] done above rises = sym (append-nil done)
 puts_rising {X} cmp (x ∷ xs) done above rises =
     ap (puts cmp xs) (put_last cmp done x above.0)
     ∙ puts_rising cmp xs (done ++ x ∷ []) (later xs above.1 rises.0) rises.1
-    ∙ one_after done xs
+    ∙ append_assoc done (x ∷ []) xs
   where
     push : (P : X → Type 0) (ys : List X) → AllByRecursion P ys → P x → AllByRecursion P (ys ++ x ∷ [])
     push P [] a b = (b, tt)
@@ -118,10 +117,6 @@ puts_rising {X} cmp (x ∷ xs) done above rises =
         → AllByRecursion (λ z. AllByRecursion (λ y. is_gt (cmp y z) ≡ false) (done ++ x ∷ [])) ys
     later [] a b = tt
     later (z ∷ zs) a b = (push (λ y. is_gt (cmp y z) ≡ false) done a.0 (ap is_gt b.0), later zs a.1 b.1)
-
-    one_after : (ys zs : List X) → (ys ++ x ∷ []) ++ zs ≡ ys ++ x ∷ zs
-    one_after [] zs = refl
-    one_after (y ∷ ys) zs = ap (λ rest. y ∷ rest) (one_after ys zs)
 
 -- The rows of a supplier.
 abbrev pub key_row : SupplierRow → KeyRow
@@ -170,13 +165,6 @@ row_unseen row t other ne =
     λ i. record (view other t) { keys = keys i; prefixes = prefixes i }
 
 -- what is found by a GLN in tables is found in what is seen of them
-filtered_twice : (gln : List ℕ) (rows : List PrefixRow)
-    → filter (λ r. same r.supplier gln) (filter (λ r. same r.supplier gln) rows) ≡ filter (λ r. same r.supplier gln) rows
-filtered_twice gln [] = refl
-filtered_twice gln (r ∷ rows) =
-    let ih = filtered_twice gln rows in
-    elim (decide (same r.supplier gln)) [ inl e ↦ grind (arith, e, ih) | inr e ↦ grind (arith, e, ih) ]
-
 pub own_row : (gln : List ℕ) (t : Tables) → row_at gln (view gln t) ≡ row_at gln t
 own_row gln t = by_keys t.keys
   where
@@ -187,7 +175,7 @@ own_row gln t = by_keys t.keys
     alike k e =
         let prefixes : filter (λ r. same r.supplier k.supplier) seen ≡ filter (λ r. same r.supplier k.supplier) t.prefixes =
         subst (λ n. filter (λ r. same r.supplier n) seen ≡ filter (λ r. same r.supplier n) t.prefixes)
-        (sym (same_is k.supplier gln e)) (filtered_twice gln t.prefixes) in
+        (sym (same_is k.supplier gln e)) (filter_again (λ r. same r.supplier gln) (λ r. same r.supplier gln) t.prefixes (λ r h. h)) in
         ap (λ found. record { gln = k.supplier; prefixes = map (λ r. r.prefix) found; key = k.key }) prefixes
 
     by_keys : (keys : List KeyRow)
@@ -241,18 +229,7 @@ is_less Equal h = cc
 is_less Greater h = cc
 
 overlaps_itself : (p : List ℕ) → overlap p p ≡ true
-overlaps_itself p = ap (λ v. v || begins p p) ((Decides-begins p p).1 ([], nothing_after p))
-  where
-    nothing_after : (xs : List ℕ) → xs ≡ xs ++ []
-    nothing_after [] = refl
-    nothing_after (x ∷ xs) = ap (λ rest. x ∷ rest) (nothing_after xs)
-
-pub in_order_rising : {X : Type 0} (cmp : X → X → Ordering) (xs : List X) → Rises cmp xs → InOrder cmp xs
-in_order_rising cmp [] h = tt
-in_order_rising cmp (x ∷ xs) h = (
-  all_weaker (λ y. cmp x y ≡ Less) (λ y. is_gt (cmp x y) ≡ false) (λ y less. ap is_gt less) xs h.0,
-  in_order_rising cmp xs h.1,
-)
+overlaps_itself p = ap (λ v. v || begins p p) ((Decides-begins p p).1 ([], sym (append-nil p)))
 
 module _ (row : SupplierRow) (t : Tables) (new : has_key t.keys row.gln ≡ false) where
   not_its_key : (k : KeyRow) → Has t.keys k → same row.gln k.supplier ≡ false

@@ -4,6 +4,7 @@ use Rattle.std.specs.List.{AllByRecursion, list_all}
 use Rattle.std.specs.Ordering.{is_eq, is_gt}
 use Rattle.std.specs.declared.cmp.Ordering.TheVariants.{Less}
 use Rattle.std.proofs.lemmas.Bool.{and_parts}
+use Rattle.std.proofs.lemmas.List.{append-nil, append_assoc}
 use Rattle.std.proofs.lemmas.Map.Text.{is_eq-slice_cmp}
 use Rattle.gs1_ids.specs.Prefix.{is_prefix}
 use Rattle.hub_parties.specs.KeyOrder.{Rises, put, bytes_cmp}
@@ -41,10 +42,6 @@ record Holds (t : Tables) (suppliers : List SupplierRow) (after : Tables) : Type
   pub enrolled : Enrolled after
   pub held : suppliers_of after ≡ suppliers
 
-one_after : (one : SupplierRow) (xs ys : List SupplierRow) → (xs ++ one ∷ []) ++ ys ≡ xs ++ one ∷ ys
-one_after one [] ys = refl
-one_after one (x ∷ xs) ys = ap (λ rest. x ∷ rest) (one_after one xs ys)
-
 module _ (one : SupplierRow) (others : List SupplierRow) where
   all_below : (done : List SupplierRow) → Rises supplier_cmp (done ++ one ∷ others) → AllByRecursion (λ s. supplier_cmp s one ≡ Less) done
   all_below [] rises = tt
@@ -69,11 +66,8 @@ enrolled_in_turn : (t start : Tables) (done rows : List SupplierRow)
     → Free (done ++ rows)
     → AllByRecursion (λ (s : SupplierRow). rising s.prefixes ≡ true) rows
     → Holds start (done ++ rows) (apply_all (suppliers_changes rows) t)
-enrolled_in_turn t start done [] holds rises free right = subst (λ suppliers. Holds start suppliers t) (nothing_more done) holds
-  where
-    nothing_more : (xs : List SupplierRow) → xs ≡ xs ++ []
-    nothing_more [] = refl
-    nothing_more (x ∷ xs) = ap (λ rest. x ∷ rest) (nothing_more xs)
+enrolled_in_turn t start done [] holds rises free right =
+    subst (λ suppliers. Holds start suppliers t) (sym (append-nil done)) holds
 enrolled_in_turn t start done (row ∷ rows) holds rises free right =
     let below = all_below row rows done rises in
     let new : has_key t.keys row.gln ≡ false = none_if (λ k. same k.supplier row.gln) t.keys (λ k there.
@@ -94,7 +88,7 @@ enrolled_in_turn t start done (row ∷ rows) holds rises free right =
       enrolled = enrolled_after row t holds.enrolled new right.0 apart;
       held = suppliers_after row t holds.enrolled new right.0 apart ∙ ap (put supplier_cmp row) holds.held ∙ last;
     } in
-    let joined = one_after row done rows in
+    let joined = append_assoc done (row ∷ []) rows in
     let all = enrolled_in_turn (with_row row t) start (done ++ row ∷ []) rows next (subst (Rises supplier_cmp) (sym joined) rises)
     (subst Free (sym joined) free) right.1 in
     subst (λ suppliers. Holds start suppliers (apply_all (suppliers_changes (row ∷ rows)) t)) joined

@@ -6,6 +6,7 @@ use Rattle.std.specs.declared.cmp.Ordering.{Ordering}
 use Rattle.std.specs.declared.cmp.Ordering.TheVariants.{Less, Equal, Greater}
 use Rattle.std.specs.Ordering.{is_gt, ordering_reverse}
 use Rattle.std.specs.Cmp.{IsTotalOrder}
+use Rattle.std.proofs.Math.Bool.{or_assoc}
 use Rattle.std.proofs.lemmas.Cmp.{upto}
 use Rattle.std.proofs.lemmas.List.Sums.{sum_by-cons}
 use Rattle.hub_parties.specs.KeyOrder.{InOrder, Rises, put}
@@ -19,12 +20,20 @@ module _ {X : Type 0} (cmp : X → X → Ordering) where
       elim (is_gt (cmp y x)) as (λ v. AllByRecursion P (cond v (x ∷ y ∷ ys) (y ∷ put cmp x ys)))
       [ true ↦ (b, a) | false ↦ (a.0, all_put P ys x a.1 b) ]
 
+  pub all_put_back : (P : X → Type 0) (xs : List X) (x : X) → AllByRecursion P (put cmp x xs) → P x × AllByRecursion P xs
+  all_put_back P [] x a = (a.0, tt)
+  all_put_back P (y ∷ ys) x a =
+      elim (is_gt (cmp y x)) as (λ v. AllByRecursion P (cond v (x ∷ y ∷ ys) (y ∷ put cmp x ys)) → P x × AllByRecursion P (y ∷ ys)) [
+        | true ↦ λ h. h
+        | false ↦ λ h. let later = all_put_back P ys x h.1 in (later.0, (h.0, later.1))
+      ] a
+
   pub any_put : (p : X → Bool) (xs : List X) (x : X) → list_any p (put cmp x xs) ≡ (list_any p xs || (p x || false))
   any_put p [] x = refl
   any_put p (y ∷ ys) x =
       elim (is_gt (cmp y x)) as (λ v. list_any p (cond v (x ∷ y ∷ ys) (y ∷ put cmp x ys)) ≡ ((p y || list_any p ys) || (p x || false))) [
         | true ↦ turned (p x) (p y || list_any p ys)
-        | false ↦ ap (λ v. p y || v) (any_put p ys x) ∙ regrouped (p y) (list_any p ys) (p x || false)
+        | false ↦ ap (λ v. p y || v) (any_put p ys x) ∙ sym (or_assoc (p y) (list_any p ys) (p x || false))
       ]
     where
       turned : (a b : Bool) → (a || b) ≡ (b || (a || false))
@@ -32,10 +41,6 @@ module _ {X : Type 0} (cmp : X → X → Ordering) where
       turned true false = refl
       turned false true = refl
       turned false false = refl
-
-      regrouped : (a b c : Bool) → (a || (b || c)) ≡ ((a || b) || c)
-      regrouped true b c = refl
-      regrouped false b c = refl
 
   pub filter_put_out : (p : X → Bool) (xs : List X) (x : X) → p x ≡ false → filter p (put cmp x xs) ≡ filter p xs
   filter_put_out p [] x e = ap (λ v. cond v (x ∷ []) []) e
@@ -146,3 +151,11 @@ rises_filter cmp p [] a = tt
 rises_filter cmp p (x ∷ xs) a =
     elim (p x) as (λ v. Rises cmp (cond v (x ∷ filter p xs) (filter p xs)))
     [ true ↦ (all_filter (λ y. cmp x y ≡ Less) p xs a.0, rises_filter cmp p xs a.1) | false ↦ rises_filter cmp p xs a.1 ]
+
+-- rows that rise are in order
+pub in_order_rising : {X : Type 0} (cmp : X → X → Ordering) (xs : List X) → Rises cmp xs → InOrder cmp xs
+in_order_rising cmp [] h = tt
+in_order_rising cmp (x ∷ xs) h = (
+  all_weaker (λ y. cmp x y ≡ Less) (λ y. is_gt (cmp x y) ≡ false) (λ y less. ap is_gt less) xs h.0,
+  in_order_rising cmp xs h.1,
+)

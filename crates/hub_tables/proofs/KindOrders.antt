@@ -1,17 +1,17 @@
--- The order of each kind, and that each change keeps it.
-use Rattle.std.proofs.Common.{◌≡◌, ℕ, Bool, true, false, cond, not, List, ◌&&◌, ◌==◌, refl, sym, ap₂, arith}
+-- The order of each kind, what changes do to the rows of each, and that they keep the order.
+use Rattle.std.proofs.Common.{◌≡◌, ℕ, Bool, true, false, cond, not, List, [], ◌∷◌, ◌&&◌, ◌==◌, refl, sym, ap₂, arith}
 use Rattle.std.specs.declared.cmp.Ordering.{Ordering}
 use Rattle.std.specs.Ordering.{nat_cmp, ordering_then}
 use Rattle.std.specs.Cmp.{IsTotalOrder}
 use Rattle.std.proofs.lemmas.Bool.{and_parts}
 use Rattle.std.proofs.lemmas.Bool.Decides.{nat_tests}
 use Rattle.std.proofs.lemmas.Cmp.{on_total, then_total, nat_cmp_total, nat_list_cmp_total}
-use Rattle.hub_parties.specs.KeyOrder.{bytes_cmp}
+use Rattle.hub_parties.specs.KeyOrder.{bytes_cmp, InOrder, put, replace}
 use Rattle.hub_tables.specs.Rows.{hub_cmp, key_cmp, prefix_cmp}
 use Rattle.hub_tables.specs.Rows.{same, order_cmp, line_cmp, advice_cmp, pallet_cmp, content_cmp, receipt_cmp}
 use Rattle.hub_tables.specs.Rows.{remembered_cmp, mail_cmp, same_line, same_pallet, same_mail}
 use Rattle.hub_tables.specs.Tables.{Tables, Ordered}
-use Rattle.hub_tables.specs.Change.{apply}
+use Rattle.hub_tables.specs.Change.{apply, apply_all}
 use Rattle.hub_tables.specs.declared.change.Change.{Change}
 use Rattle.hub_tables.specs.declared.change.Change.TheVariants.{AddHub, AddKey, AddPrefix}
 use Rattle.hub_tables.specs.declared.change.Change.TheVariants.{AddOrder, AddLine, SetLine, AddAdvice, AddPallet, SetPallet}
@@ -67,246 +67,122 @@ replaced_alike key cmp at r f x y = ap₂ cmp (one x) (one y)
     one : (z : _) → key (cond (at z) r z) ≡ key z
     one z = elim (at z) as (λ v. at z ≡ v → key (cond v r z) ≡ key z) [ true ↦ λ e. sym (f z e) | false ↦ λ e. refl ] refl
 
+-- a row that is set has the key of the one in whose place it comes
+pub line_key : (r y : LineRow) → same_line r y ≡ true → (y.supplier ≡ r.supplier) × (y.number ≡ r.number) × (y.line ≡ r.line)
+line_key r y e =
+    let parts = and_parts (same y.supplier r.supplier) (same y.number r.number && (y.line == r.line)) e in
+    let rest = and_parts (same y.number r.number) (y.line == r.line) parts.1 in
+    (same_is y.supplier r.supplier parts.0, same_is y.number r.number rest.0, grind (arith, nat_tests, rest.1))
+
+pub mail_key : (r y : MailRow) → same_mail r y ≡ true → (y.supplier ≡ r.supplier) × (y.number ≡ r.number)
+mail_key r y e =
+    let parts = and_parts (same y.supplier r.supplier) (y.number == r.number) e in
+    (same_is y.supplier r.supplier parts.0, grind (arith, nat_tests, parts.1))
+
 pub line_set : (r x y : LineRow) → line_cmp (cond (same_line r x) r x) (cond (same_line r y) r y) ≡ line_cmp x y
-line_set r x y =
-    replaced_alike (λ l. (l.supplier, l.number, l.line))
-    (λ a b. ordering_then (bytes_cmp a.0 b.0) (ordering_then (bytes_cmp a.1 b.1) (nat_cmp a.2 b.2))) (same_line r) r keys x y
-  where
-    keys : (y : LineRow)
-        → same_line r y ≡ true
-        → ◌≡◌ {A = List ℕ × List ℕ × ℕ} (y.supplier, y.number, y.line) (r.supplier, r.number, r.line)
-    keys y e =
-        let rest : (same y.number r.number && (y.line == r.line)) ≡ true =
-        (and_parts (same y.supplier r.supplier) (same y.number r.number && (y.line == r.line)) e).1 in
-        let whose = same_is y.supplier r.supplier
-        ((and_parts (same y.supplier r.supplier) (same y.number r.number && (y.line == r.line)) e).0) in
-        let numbers = same_is y.number r.number ((and_parts (same y.number r.number) (y.line == r.line) rest).0) in
-        let lines : y.line ≡ r.line = grind (arith, nat_tests, (and_parts (same y.number r.number) (y.line == r.line) rest).1) in
-        λ i. (whose i, numbers i, lines i)
+line_set r =
+    replaced_alike {K = List ℕ × List ℕ × ℕ} (λ l. (l.supplier, l.number, l.line))
+    (λ a b. ordering_then (bytes_cmp a.0 b.0) (ordering_then (bytes_cmp a.1 b.1) (nat_cmp a.2 b.2))) (same_line r) r
+    (λ y e. let key = line_key r y e in λ i. (key.0 i, key.1 i, key.2 i))
 
 pub pallet_set : (r x y : PalletRow) → pallet_cmp (cond (same_pallet r x) r x) (cond (same_pallet r y) r y) ≡ pallet_cmp x y
-pallet_set r x y = replaced_alike (λ (p : PalletRow). p.sscc) bytes_cmp (same_pallet r) r (λ y e. same_is y.sscc r.sscc e) x y
+pallet_set r = replaced_alike (λ (p : PalletRow). p.sscc) bytes_cmp (same_pallet r) r (λ y e. same_is y.sscc r.sscc e)
 
 pub mail_set : (r x y : MailRow) → mail_cmp (cond (same_mail r x) r x) (cond (same_mail r y) r y) ≡ mail_cmp x y
-mail_set r x y =
-    replaced_alike (λ m. (m.supplier, m.number)) (λ a b. ordering_then (bytes_cmp a.0 b.0) (nat_cmp a.1 b.1)) (same_mail r) r
-    keys x y
-  where
-    keys : (y : MailRow) → same_mail r y ≡ true → ◌≡◌ {A = List ℕ × ℕ} (y.supplier, y.number) (r.supplier, r.number)
-    keys y e =
-        let whose = same_is y.supplier r.supplier ((and_parts (same y.supplier r.supplier) (y.number == r.number) e).0) in
-        let numbers : y.number ≡ r.number = grind (arith, nat_tests, (and_parts (same y.supplier r.supplier) (y.number == r.number) e).1) in
-        λ i. (whose i, numbers i)
+mail_set r =
+    replaced_alike {K = List ℕ × ℕ} (λ m. (m.supplier, m.number))
+    (λ a b. ordering_then (bytes_cmp a.0 b.0) (nat_cmp a.1 b.1)) (same_mail r) r
+    (λ y e. let key = mail_key r y e in λ i. (key.0 i, key.1 i))
+
+-- A relation of the rows of one kind before a change to those after it, which holds where they stay, where one more is put
+-- among them, and where one is set in the place of the one with its key.
+pub record Steps (R : (X : Type 0) → (X → X → Ordering) → List X → List X → Type 0) : Type 1 where
+  pub stay : {X : Type 0} (cmp : X → X → Ordering) (rows : List X) → R X cmp rows rows
+  pub add : {X : Type 0} (cmp : X → X → Ordering) → IsTotalOrder cmp → (rows : List X) (r : X) → R X cmp rows (put cmp r rows)
+  pub set : {X : Type 0} (cmp : X → X → Ordering) (at : X → Bool) (r : X)
+      → ((x y : X) → cmp (cond (at x) r x) (cond (at y) r y) ≡ cmp x y)
+      → (rows : List X)
+      → R X cmp rows (replace at r rows)
+
+-- So it holds of each kind before and after any change; where rows go that has to be shown.
+module _ {R : (X : Type 0) → (X → X → Ordering) → List X → List X → Type 0} (steps : Steps R) where
+  pub hubs_after : (c : Change) (t : Tables) → R _ hub_cmp t.hubs (apply c t).hubs
+  hubs_after (AddHub r) t = steps.add hub_cmp hub_total t.hubs r
+  hubs_after _ t = steps.stay hub_cmp t.hubs
+
+  pub keys_after : (c : Change) (t : Tables) → R _ key_cmp t.keys (apply c t).keys
+  keys_after (AddKey r) t = steps.add key_cmp key_total t.keys r
+  keys_after _ t = steps.stay key_cmp t.keys
+
+  pub prefixes_after : (c : Change) (t : Tables) → R _ prefix_cmp t.prefixes (apply c t).prefixes
+  prefixes_after (AddPrefix r) t = steps.add prefix_cmp prefix_total t.prefixes r
+  prefixes_after _ t = steps.stay prefix_cmp t.prefixes
+
+  pub orders_after : (c : Change) (t : Tables) → R _ order_cmp t.orders (apply c t).orders
+  orders_after (AddOrder r) t = steps.add order_cmp order_total t.orders r
+  orders_after _ t = steps.stay order_cmp t.orders
+
+  pub lines_after : (c : Change) (t : Tables) → R _ line_cmp t.lines (apply c t).lines
+  lines_after (AddLine r) t = steps.add line_cmp line_total t.lines r
+  lines_after (SetLine r) t = steps.set line_cmp (same_line r) r (line_set r) t.lines
+  lines_after _ t = steps.stay line_cmp t.lines
+
+  pub advices_after : (c : Change) (t : Tables) → R _ advice_cmp t.advices (apply c t).advices
+  advices_after (AddAdvice r) t = steps.add advice_cmp advice_total t.advices r
+  advices_after _ t = steps.stay advice_cmp t.advices
+
+  pub pallets_after : (c : Change) (t : Tables) → R _ pallet_cmp t.pallets (apply c t).pallets
+  pallets_after (AddPallet r) t = steps.add pallet_cmp pallet_total t.pallets r
+  pallets_after (SetPallet r) t = steps.set pallet_cmp (same_pallet r) r (pallet_set r) t.pallets
+  pallets_after _ t = steps.stay pallet_cmp t.pallets
+
+  pub contents_after : (c : Change) (t : Tables) → R _ content_cmp t.contents (apply c t).contents
+  contents_after (AddContent r) t = steps.add content_cmp content_total t.contents r
+  contents_after _ t = steps.stay content_cmp t.contents
+
+  pub receipts_after : (c : Change) (t : Tables)
+      → ((sscc : List ℕ) → c ≡ ClearReceipts sscc → R _ receipt_cmp t.receipts (apply (ClearReceipts sscc) t).receipts)
+      → R _ receipt_cmp t.receipts (apply c t).receipts
+  receipts_after (AddReceipt r) t less = steps.add receipt_cmp receipt_total t.receipts r
+  receipts_after (ClearReceipts sscc) t less = less sscc refl
+  receipts_after _ t less = steps.stay receipt_cmp t.receipts
+
+  pub remembered_after : (c : Change) (t : Tables) → R _ remembered_cmp t.remembered (apply c t).remembered
+  remembered_after (Remember r) t = steps.add remembered_cmp remembered_total t.remembered r
+  remembered_after _ t = steps.stay remembered_cmp t.remembered
+
+  pub mail_after : (c : Change) (t : Tables) → R _ mail_cmp t.mail (apply c t).mail
+  mail_after (AddMail r) t = steps.add mail_cmp mail_total t.mail r
+  mail_after (SetMail r) t = steps.set mail_cmp (same_mail r) r (mail_set r) t.mail
+  mail_after _ t = steps.stay mail_cmp t.mail
 
 -- each change keeps the order
+abbrev StaysInOrder : (X : Type 0) → (X → X → Ordering) → List X → List X → Type 0
+StaysInOrder X cmp rows after = InOrder cmp rows → InOrder cmp after
+
+keep_order : Steps StaysInOrder
+keep_order = record {
+  stay = λ cmp rows h. h;
+  add = λ cmp total. in_order_put total;
+  set = λ cmp at r. in_order_map cmp (λ old. cond (at old) r old);
+}
+
 pub ordered_after : (c : Change) (t : Tables) → Ordered t → Ordered (apply c t)
-ordered_after (AddHub r) t o =
-    record {
-      hubs = in_order_put hub_total t.hubs r o.hubs;
-      keys = o.keys;
-      prefixes = o.prefixes;
-      orders = o.orders;
-      lines = o.lines;
-      advices = o.advices;
-      pallets = o.pallets;
-      contents = o.contents;
-      receipts = o.receipts;
-      remembered = o.remembered;
-      mail = o.mail;
-    }
-ordered_after (AddKey r) t o =
-    record {
-      hubs = o.hubs;
-      keys = in_order_put key_total t.keys r o.keys;
-      prefixes = o.prefixes;
-      orders = o.orders;
-      lines = o.lines;
-      advices = o.advices;
-      pallets = o.pallets;
-      contents = o.contents;
-      receipts = o.receipts;
-      remembered = o.remembered;
-      mail = o.mail;
-    }
-ordered_after (AddPrefix r) t o =
-    record {
-      hubs = o.hubs;
-      keys = o.keys;
-      prefixes = in_order_put prefix_total t.prefixes r o.prefixes;
-      orders = o.orders;
-      lines = o.lines;
-      advices = o.advices;
-      pallets = o.pallets;
-      contents = o.contents;
-      receipts = o.receipts;
-      remembered = o.remembered;
-      mail = o.mail;
-    }
-ordered_after (AddOrder r) t o =
-    record {
-      hubs = o.hubs;
-      keys = o.keys;
-      prefixes = o.prefixes;
-      orders = in_order_put order_total t.orders r o.orders;
-      lines = o.lines;
-      advices = o.advices;
-      pallets = o.pallets;
-      contents = o.contents;
-      receipts = o.receipts;
-      remembered = o.remembered;
-      mail = o.mail;
-    }
-ordered_after (AddLine r) t o =
-    record {
-      hubs = o.hubs;
-      keys = o.keys;
-      prefixes = o.prefixes;
-      orders = o.orders;
-      lines = in_order_put line_total t.lines r o.lines;
-      advices = o.advices;
-      pallets = o.pallets;
-      contents = o.contents;
-      receipts = o.receipts;
-      remembered = o.remembered;
-      mail = o.mail;
-    }
-ordered_after (SetLine r) t o =
-    record {
-      hubs = o.hubs;
-      keys = o.keys;
-      prefixes = o.prefixes;
-      orders = o.orders;
-      lines = in_order_map line_cmp (λ l. cond (same_line r l) r l) (line_set r) t.lines o.lines;
-      advices = o.advices;
-      pallets = o.pallets;
-      contents = o.contents;
-      receipts = o.receipts;
-      remembered = o.remembered;
-      mail = o.mail;
-    }
-ordered_after (AddAdvice r) t o =
-    record {
-      hubs = o.hubs;
-      keys = o.keys;
-      prefixes = o.prefixes;
-      orders = o.orders;
-      lines = o.lines;
-      advices = in_order_put advice_total t.advices r o.advices;
-      pallets = o.pallets;
-      contents = o.contents;
-      receipts = o.receipts;
-      remembered = o.remembered;
-      mail = o.mail;
-    }
-ordered_after (AddPallet r) t o =
-    record {
-      hubs = o.hubs;
-      keys = o.keys;
-      prefixes = o.prefixes;
-      orders = o.orders;
-      lines = o.lines;
-      advices = o.advices;
-      pallets = in_order_put pallet_total t.pallets r o.pallets;
-      contents = o.contents;
-      receipts = o.receipts;
-      remembered = o.remembered;
-      mail = o.mail;
-    }
-ordered_after (SetPallet r) t o =
-    record {
-      hubs = o.hubs;
-      keys = o.keys;
-      prefixes = o.prefixes;
-      orders = o.orders;
-      lines = o.lines;
-      advices = o.advices;
-      pallets = in_order_map pallet_cmp (λ p. cond (same_pallet r p) r p) (pallet_set r) t.pallets o.pallets;
-      contents = o.contents;
-      receipts = o.receipts;
-      remembered = o.remembered;
-      mail = o.mail;
-    }
-ordered_after (AddContent r) t o =
-    record {
-      hubs = o.hubs;
-      keys = o.keys;
-      prefixes = o.prefixes;
-      orders = o.orders;
-      lines = o.lines;
-      advices = o.advices;
-      pallets = o.pallets;
-      contents = in_order_put content_total t.contents r o.contents;
-      receipts = o.receipts;
-      remembered = o.remembered;
-      mail = o.mail;
-    }
-ordered_after (AddReceipt r) t o =
-    record {
-      hubs = o.hubs;
-      keys = o.keys;
-      prefixes = o.prefixes;
-      orders = o.orders;
-      lines = o.lines;
-      advices = o.advices;
-      pallets = o.pallets;
-      contents = o.contents;
-      receipts = in_order_put receipt_total t.receipts r o.receipts;
-      remembered = o.remembered;
-      mail = o.mail;
-    }
-ordered_after (ClearReceipts sscc) t o =
-    record {
-      hubs = o.hubs;
-      keys = o.keys;
-      prefixes = o.prefixes;
-      orders = o.orders;
-      lines = o.lines;
-      advices = o.advices;
-      pallets = o.pallets;
-      contents = o.contents;
-      receipts = in_order_filter receipt_cmp (λ row. not (same row.sscc sscc)) t.receipts o.receipts;
-      remembered = o.remembered;
-      mail = o.mail;
-    }
-ordered_after (Remember r) t o =
-    record {
-      hubs = o.hubs;
-      keys = o.keys;
-      prefixes = o.prefixes;
-      orders = o.orders;
-      lines = o.lines;
-      advices = o.advices;
-      pallets = o.pallets;
-      contents = o.contents;
-      receipts = o.receipts;
-      remembered = in_order_put remembered_total t.remembered r o.remembered;
-      mail = o.mail;
-    }
-ordered_after (AddMail r) t o =
-    record {
-      hubs = o.hubs;
-      keys = o.keys;
-      prefixes = o.prefixes;
-      orders = o.orders;
-      lines = o.lines;
-      advices = o.advices;
-      pallets = o.pallets;
-      contents = o.contents;
-      receipts = o.receipts;
-      remembered = o.remembered;
-      mail = in_order_put mail_total t.mail r o.mail;
-    }
-ordered_after (SetMail r) t o =
-    record {
-      hubs = o.hubs;
-      keys = o.keys;
-      prefixes = o.prefixes;
-      orders = o.orders;
-      lines = o.lines;
-      advices = o.advices;
-      pallets = o.pallets;
-      contents = o.contents;
-      receipts = o.receipts;
-      remembered = o.remembered;
-      mail = in_order_map mail_cmp (λ m. cond (same_mail r m) r m) (mail_set r) t.mail o.mail;
-    }
+ordered_after c t o = record {
+  hubs = hubs_after keep_order c t o.hubs;
+  keys = keys_after keep_order c t o.keys;
+  prefixes = prefixes_after keep_order c t o.prefixes;
+  orders = orders_after keep_order c t o.orders;
+  lines = lines_after keep_order c t o.lines;
+  advices = advices_after keep_order c t o.advices;
+  pallets = pallets_after keep_order c t o.pallets;
+  contents = contents_after keep_order c t o.contents;
+  receipts = receipts_after keep_order c t
+      (λ sscc _ _. in_order_filter receipt_cmp (λ row. not (same row.sscc sscc)) t.receipts o.receipts) o.receipts;
+  remembered = remembered_after keep_order c t o.remembered;
+  mail = mail_after keep_order c t o.mail;
+}
+
+pub ordered_after_all : (cs : List Change) (t : Tables) → Ordered t → Ordered (apply_all cs t)
+ordered_after_all [] t o = o
+ordered_after_all (c ∷ cs) t o = ordered_after_all cs (apply c t) (ordered_after c t o)

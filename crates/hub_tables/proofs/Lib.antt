@@ -1,5 +1,6 @@
 pub mod Back
 pub mod Enrolling
+pub mod Filters
 pub mod Founding
 pub mod Freedom
 pub mod KeyOrder

@@ -50,6 +50,18 @@ filter_replace_out p at r (y ∷ ys) pr all =
       | inr e ↦ elim (decide (p y)) [ inl py ↦ grind (arith, e, py, ih) | inr py ↦ grind (arith, e, py, ih) ]
     ]
 
+-- a row with the same key is found alike
+pub any_replaced : {X : Type 0} (p at : X → Bool) (r : X) (xs : List X)
+    → ((y : X) → at y ≡ true → p y ≡ p r)
+    → list_any p (replace at r xs) ≡ list_any p xs
+any_replaced p at r [] f = refl
+any_replaced p at r (y ∷ ys) f =
+    let ih = any_replaced p at r ys f in
+    elim (decide (at y)) [
+      | inl e ↦ let alike : p y ≡ p r = f y e in grind (arith, e, alike, ih)
+      | inr e ↦ grind (arith, e, ih)
+    ]
+
 -- What holds of each element.
 module _ {X : Type 0} (P : X → Type 0) where
   pub all_filter : (p : X → Bool) (xs : List X) → AllByRecursion P xs → AllByRecursion P (filter p xs)

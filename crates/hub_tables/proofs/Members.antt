@@ -1,7 +1,10 @@
 -- The members of a list.
 use Rattle.std.proofs.Common.{◌≡◌, Bool, true, false, cond, ◌||◌, inl, inr, List, [], ◌∷◌, filter, map, refl, sym, ◌∙◌, ap, ap₂, subst}
 use Rattle.std.specs.List.{AllByRecursion, list_any}
+use Rattle.std.specs.Ordering.{is_gt}
+use Rattle.std.specs.declared.cmp.Ordering.{Ordering}
 use Rattle.std.proofs.lemmas.Bool.{or_parts, or_right}
+use Rattle.hub_parties.specs.KeyOrder.{put}
 use Rattle.hub_tables.specs.Sets.{Has}
 
 pub all_of : {X : Type 0} (P : X → Type 0) (xs : List X) → AllByRecursion P xs → (x : X) → Has xs x → P x
@@ -42,6 +45,17 @@ any_if p (y ∷ ys) x there h =
 pub has_map : {X Y : Type 0} (f : X → Y) (xs : List X) (x : X) → Has xs x → Has (map f xs) (f x)
 has_map f [] x there = there
 has_map f (y ∷ ys) x there = elim there [ inl e ↦ inl (ap f e) | inr later ↦ inr (has_map f ys x later) ]
+
+pub has_put : {X : Type 0} (cmp : X → X → Ordering) (xs : List X) (x y : X) → Has (x ∷ xs) y → Has (put cmp x xs) y
+has_put cmp [] x y there = there
+has_put cmp (z ∷ zs) x y there =
+    elim (is_gt (cmp z x)) as (λ v. Has (cond v (x ∷ z ∷ zs) (z ∷ put cmp x zs)) y) [
+      | true ↦ there
+      | false ↦ elim there [
+        | inl e ↦ inr (has_put cmp zs x y (inl e))
+        | inr later ↦ elim later [ inl e ↦ inl e | inr further ↦ inr (has_put cmp zs x y (inr further)) ]
+      ]
+    ]
 
 pub has_filter : {X : Type 0} (p : X → Bool) (xs : List X) (x : X) → Has xs x → p x ≡ true → Has (filter p xs) x
 has_filter p [] x there h = there

@@ -5,9 +5,10 @@ use Rattle.std.specs.declared.cmp.Ordering.TheVariants.{Less, Equal, Greater}
 use Rattle.std.specs.Ordering.{ordering_reverse}
 use Rattle.std.specs.Cmp.{IsTotalOrder}
 use Rattle.std.proofs.lemmas.Cmp.{tied_itself}
-use Rattle.hub_tables.specs.Tables.{Tables}
+use Rattle.hub_tables.specs.Tables.{Tables, Ordered}
 use Rattle.hub_parties.specs.KeyOrder.{Rises}
 use Rattle.hub_tables.specs.Sets.{Has, SameSet, Rising, SameRows}
+use Rattle.hub_tables.proofs.KeyOrder.{in_order_rising}
 use Rattle.hub_tables.proofs.Members.{all_of}
 use Rattle.hub_tables.proofs.KindOrders.{hub_total, key_total, prefix_total}
 use Rattle.hub_tables.proofs.KindOrders.{order_total, line_total, advice_total, pallet_total, content_total, receipt_total}
@@ -80,3 +81,19 @@ rows_are_one t u a b s =
       remembered = remembered i;
       mail = mail i;
     }
+
+-- what rises is in order
+pub rising_ordered : (t : Tables) → Rising t → Ordered t
+rising_ordered t rising = record {
+  hubs = in_order_rising _ t.hubs rising.hubs;
+  keys = in_order_rising _ t.keys rising.keys;
+  prefixes = in_order_rising _ t.prefixes rising.prefixes;
+  orders = in_order_rising _ t.orders rising.orders;
+  lines = in_order_rising _ t.lines rising.lines;
+  advices = in_order_rising _ t.advices rising.advices;
+  pallets = in_order_rising _ t.pallets rising.pallets;
+  contents = in_order_rising _ t.contents rising.contents;
+  receipts = in_order_rising _ t.receipts rising.receipts;
+  remembered = in_order_rising _ t.remembered rising.remembered;
+  mail = in_order_rising _ t.mail rising.mail;
+}

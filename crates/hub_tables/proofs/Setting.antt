@@ -5,14 +5,10 @@ use Rattle.std.specs.Prelude.{slice_set}
 use Rattle.std.specs.declared.cmp.Ordering.{Ordering}
 use Rattle.std.specs.declared.cmp.Ordering.TheVariants.{Less, Equal, Greater}
 use Rattle.std.specs.Ordering.{is_lt, is_eq, is_gt, ordering_reverse}
-use Rattle.std.specs.Cmp.{IsTotalOrder}
+use Rattle.std.specs.Cmp.{IsTotalOrder, Equal-is}
 use Rattle.hub_parties.specs.KeyOrder.{put, replace, Rises}
+use Rattle.hub_tables.proofs.KeyOrder.{all_put, all_put_back}
 use Rattle.hub_tables.proofs.Lists.{all_weaker}
-
-pub equal_is : (o : Ordering) → is_eq o ≡ true → o ≡ Equal
-equal_is Less e = cc
-equal_is Equal e = refl
-equal_is Greater e = cc
 
 module _ {X : Type 0} {cmp : X → X → Ordering} (total : IsTotalOrder cmp) (r : X) where
   abbrev pub below : List X → ℕ
@@ -43,25 +39,12 @@ module _ {X : Type 0} {cmp : X → X → Ordering} (total : IsTotalOrder cmp) (r
 
   -- A row that is put.
 
-  all_put : (P : X → Type 0) (xs : List X) → AllByRecursion P xs → P r → AllByRecursion P (put cmp r xs)
-  all_put P [] a b = (b, tt)
-  all_put P (y ∷ ys) a b = elim (is_gt (cmp y r)) as (λ v. AllByRecursion P (cond v (r ∷ y ∷ ys) (y ∷ put cmp r ys))) [
-    | true ↦
-        (b, a)
-    | false ↦ (a.0, all_put P ys a.1 b)
-  ]
-
-  put_has : (P : X → Type 0) (xs : List X) → AllByRecursion P (put cmp r xs) → P r
-  put_has P [] a = a.0
-  put_has P (y ∷ ys) a = elim (is_gt (cmp y r)) as (λ v. AllByRecursion P (cond v (r ∷ y ∷ ys) (y ∷ put cmp r ys)) →
-      P r) [ true ↦ λ h. h.0 | false ↦ λ h. put_has P ys h.1 ] a
-
   -- where its key is new
   pub rises_put : (xs : List X) → Rises cmp xs → has xs ≡ false → Rises cmp (put cmp r xs)
   rises_put [] rises new = (tt, tt)
   rises_put (x ∷ xs) rises new =
       elim (cmp x r) as (λ o. cmp x r ≡ o → (is_eq o || has xs) ≡ false → Rises cmp (cond (is_gt o) (r ∷ x ∷ xs) (x ∷ put cmp r xs))) [
-        | Less ↦ λ e new. (all_put (λ y. cmp x y ≡ Less) xs rises.0 e, rises_put xs rises.1 new)
+        | Less ↦ λ e new. (all_put cmp (λ y. cmp x y ≡ Less) xs r rises.0 e, rises_put xs rises.1 new)
         | Equal ↦ λ e new. absurd (cc (new))
         | Greater ↦ λ e new.
             let back : cmp r x ≡ Less = total.antisymm r x ∙ ap ordering_reverse e in
@@ -85,7 +68,7 @@ module _ {X : Type 0} {cmp : X → X → Ordering} (total : IsTotalOrder cmp) (r
   not_put (x ∷ xs) rises there h =
       elim (cmp x r) as (λ o. cmp x r ≡ o → (is_eq o || has xs) ≡ true → Rises cmp (cond (is_gt o) (r ∷ x ∷ xs) (x ∷ put cmp r xs)) → ⊥) [
         | Less ↦ λ e there h. not_put xs rises.1 there h.1
-        | Equal ↦ λ e there h. let less = put_has (λ y. cmp x y ≡ Less) xs h.0 in let no : Less ≡ Equal = sym less ∙ e in cc
+        | Equal ↦ λ e there h. let less = (all_put_back cmp (λ y. cmp x y ≡ Less) xs r h.0).0 in let no : Less ≡ Equal = sym less ∙ e in cc
         | Greater ↦ λ e there h. let none = none_above xs (all_above x xs e rises.0) in cc
       ] refl there h
 
@@ -128,7 +111,7 @@ module _ {X : Type 0} {cmp : X → X → Ordering} (total : IsTotalOrder cmp) (r
         ] refl there
 
     tied : (z : X) → is_eq (cmp z r) ≡ true → cmp z r ≡ Equal
-    tied z e = equal_is (cmp z r) e
+    tied z e = (Equal-is (cmp z r)).0 e
 
     -- what is set is compared as what was there
     set_alike : (x y : X) → cmp (cond (alike x) r x) (cond (alike y) r y) ≡ cmp x y

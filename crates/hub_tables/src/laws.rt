@@ -14,5 +14,6 @@ pub fn rows_are_a_set()
 pub fn founded_tables_hold_their_register()
     ensures rising { (register : RegisterRows) → IsRegister register → Rising (founded register) }
     ensures holds { (register : RegisterRows) → IsRegister register → HoldsRegister (founded register) }
-    ensures same { (register : RegisterRows) → IsRegister register → register_of (founded register) ≡ register }
+    ensures same { (register : RegisterRows) → IsRegister register →
+        register_of (founded register) ≡ register }
 {}

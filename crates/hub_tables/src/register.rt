@@ -15,7 +15,8 @@ fn put_prefixes(
     prefixes: &[Prefix],
     changes: &mut Vec<Change>,
 ) -> Result<(), MemoryFault>
-    ensures { OnOk result (changes.new.items ≡ changes.old.items ++ spec.prefix_changes supplier prefixes.now) }
+    ensures { OnOk result (changes.new.items ≡ changes.old.items
+        ++ spec.prefix_changes supplier prefixes.now) }
 {
     for prefix in prefixes {
         changes.push(Change::AddPrefix(PrefixRow {

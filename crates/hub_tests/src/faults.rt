@@ -65,7 +65,8 @@ fn ask_trial_twice(store: &mut TrialStore<VecStore>, supplier: &Gln, number: &[u
 
 // Asks for an order, where all rows may be of the kinds.
 fn ask_clean<S: Store>(store: &mut S, supplier: &Gln, number: &[u8]) -> Result<bool, StoreFault>
-    ensures { S.honest store.new → S.broken store.old ≡ None → are_clean (S.content store.old) ≡ true → result ≢ Err Unclean }
+    ensures { S.honest store.new → S.broken store.old ≡ None →
+        are_clean (S.content store.old) ≡ true → result ≢ Err Unclean }
 {
     store.order_known(supplier, number)
 }
@@ -86,7 +87,8 @@ fn commit_clean<S: Store>(store: &mut S, changes: &[Change]) -> Result<(), Store
     requires { changes.now ≢ [] }
     ensures clean { S.honest store.new → S.broken store.old ≡ None → Fit changes.now (S.content store.old) →
         have_places changes.now (S.content store.old) ≡ true →
-        are_clean (S.content store.old) ≡ true → are_clean (apply_all changes.now (S.content store.old)) ≡ true →
+        are_clean (S.content store.old) ≡ true →
+        are_clean (apply_all changes.now (S.content store.old)) ≡ true →
         result ≢ Err Unclean }
     ensures durable { S.honest store.new → Fit changes.now (S.content store.old) →
         OnOk result ((t : Tables) → S.left store.new t → t ≡ apply_all changes.now (S.content store.old)) }
@@ -98,7 +100,8 @@ fn commit_clean<S: Store>(store: &mut S, changes: &[Change]) -> Result<(), Store
 fn commit_listed(store: &mut VecStore, changes: &[Change]) -> Result<(), StoreFault>
     requires { changes.now ≢ [] }
     ensures clean { Fit changes.now store.old → have_places changes.now store.old ≡ true →
-        are_clean store.old ≡ true → are_clean (apply_all changes.now store.old) ≡ true → result ≢ Err Unclean }
+        are_clean store.old ≡ true → are_clean (apply_all changes.now store.old) ≡ true →
+        result ≢ Err Unclean }
     ensures durable { Fit changes.now store.old → OnOk result (store.new ≡ apply_all changes.now store.old) }
 {
     commit_clean(store, changes)

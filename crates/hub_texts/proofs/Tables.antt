@@ -12,6 +12,7 @@ use Rattle.std.proofs.lemmas.Cmp.{nat_list_cmp_total}
 use Rattle.std.proofs.lemmas.List.{drop_more}
 use Rattle.std.proofs.lemmas.List.Sums.{sum_by-cons}
 use Rattle.std.proofs.lemmas.Map.Text.{is_eq-slice_cmp}
+use Rattle.std.proofs.lemmas.Bool.{or_parts}
 use Rattle.hub_parties.specs.KeyOrder.{bytes_cmp, put, Rises}
 use Rattle.hub_tables.specs.Rows.{same}
 use Rattle.hub_tables.specs.declared.rows.ContentRow.{ContentRow}
@@ -24,10 +25,6 @@ use Rattle.hub_texts.specs.Articles.{article_in}
 use Rattle.hub_texts.specs.Totals.{Table, nothing, totals_at, with_content, with_receipt, count_content, count_receipt}
 use Rattle.hub_texts.specs.Totals.{totals_of, articles_of, table_of}
 use Rattle.hub_texts.specs.declared.totals.Totals.{Totals}
-
-or_false : (a b : Bool) → (a || b) ≡ false → (a ≡ false) × (b ≡ false)
-or_false true b h = cc
-or_false false b h = (refl, h)
 
 below_differs : (x y : List ℕ) → bytes_cmp x y ≡ Less → same x y ≡ false
 below_differs x y h = sym (is_eq-slice_cmp x y) ∙ ap is_eq h
@@ -108,10 +105,10 @@ not_ordered x (y ∷ ys) none =
             | inr e ↦ ap₂ (λ a b. a || b) e (not_ordered x ys rest)
           ]
       | inr new ↦
-          let parts = or_false (list_any (same x) order) (same x y || false) (sym (any_put bytes_cmp (same x) order y)
+          let parts = or_parts (list_any (same x) order) (same x y || false) (sym (any_put bytes_cmp (same x) order y)
           ∙ sym (ap (λ v. list_any (same x) (cond v order (put bytes_cmp y order))) new)
           ∙ none) in
-          ap₂ (λ a b. a || b) (or_false (same x y) false parts.1).0 (not_ordered x ys parts.0)
+          ap₂ (λ a b. a || b) (or_parts (same x y) false parts.1).0 (not_ordered x ys parts.0)
     ]
 
 -- Tables of these articles, each with what a function gives.
@@ -184,7 +181,7 @@ none_of : {X : Type 0} (article : X → List ℕ) (x : List ℕ) (rows : List X)
     → filter (λ row. same (article row) x) rows ≡ []
 none_of article x [] none = refl
 none_of article x (row ∷ rows) none =
-    let parts = or_false (same x (article row)) (list_any (same x) (map article rows)) none in
+    let parts = or_parts (same x (article row)) (list_any (same x) (map article rows)) none in
     ap (λ v. cond v (row ∷ filter (λ row. same (article row) x) rows) (filter (λ row. same (article row) x) rows))
     (same_back x (article row) parts.0)
     ∙ none_of article x rows parts.1
@@ -196,7 +193,7 @@ no_totals : (lines : List LineRow) (contents : List ContentRow) (receipts : List
 no_totals lines contents receipts x none =
     let articles = map (article_in lines) contents in
     let gtins = map (λ (receipt : ReceiptRow). receipt.gtin) receipts in
-    let parts = or_false (list_any (same x) articles) (list_any (same x) gtins)
+    let parts = or_parts (list_any (same x) articles) (list_any (same x) gtins)
     (sym (any_append (same x) articles gtins) ∙ not_ordered x (articles ++ gtins) none) in
     let despatched = none_of (article_in lines) x contents parts.0 in
     let received = none_of (λ (receipt : ReceiptRow). receipt.gtin) x receipts parts.1 in

@@ -54,7 +54,8 @@ fn line_len(text: &[u8]) -> usize
 
 // The first line of a text without its end, and what stands after it.
 fn first_line(text: &[u8]) -> Option<(&[u8], &[u8])>
-    ensures some { IfSome result (λ parts. slice_split is_end text.now ≡ parts.0.now ∷ slice_split is_end parts.1.now) }
+    ensures some { IfSome result (λ parts.
+        slice_split is_end text.now ≡ parts.0.now ∷ slice_split is_end parts.1.now) }
     ensures none { IfNone result (slice_split is_end text.now ≡ text.now ∷ []) }
 {
     let (line, rest) = text.split_at(line_len(text));
@@ -76,7 +77,8 @@ struct Fields<'a> {
 
 // The five lines of a body, where there are so many and nothing after them.
 fn fields_of(body: &[u8]) -> Option<Fields<'_>>
-    ensures some { IfSome result (λ fields. slice_split is_end body.now ≡ fields.supplier.now ∷ fields.reference.now
+    ensures some { IfSome result (λ fields.
+        slice_split is_end body.now ≡ fields.supplier.now ∷ fields.reference.now
         ∷ fields.order.now ∷ fields.line.now ∷ fields.quantity.now ∷ [] ∷ []) }
     ensures none { IfNone result (cancel_of body.now ≡ None) }
 {
@@ -128,7 +130,8 @@ fn cancel_with(alloc: Global, fields: &Fields<'_>) -> Result<Option<Cancel>, Mem
     ensures value { IfOk result (λ found.
         found ≡ spec.cancel_with fields.now.supplier.now fields.now.reference.now fields.now.order.now
         (spec.positive 6 fields.now.line.now) (spec.positive 9 fields.now.quantity.now)) }
-    ensures memory { OnErr result (spec.cancel_with fields.now.supplier.now fields.now.reference.now fields.now.order.now
+    ensures memory { OnErr result
+        (spec.cancel_with fields.now.supplier.now fields.now.reference.now fields.now.order.now
         (spec.positive 6 fields.now.line.now) (spec.positive 9 fields.now.quantity.now) ≢ None) }
 {
     let Some(line) = positive(6, fields.line) else {

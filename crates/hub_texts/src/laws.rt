@@ -22,8 +22,10 @@ pub fn cancel_is_five_lines()
 /// The text of a cancellation that some body says is read as that cancellation. So two bodies have the same content
 /// exactly where they say the same.
 pub fn cancel_is_written_back()
-    ensures back { (body : List ℕ) (c : Cancel) → cancel_of body ≡ Some c → cancel_of (cancel_text c) ≡ Some c }
-    ensures content { (first second : List ℕ) (c d : Cancel) → cancel_of first ≡ Some c → cancel_of second ≡ Some d →
+    ensures back { (body : List ℕ) (c : Cancel) → cancel_of body ≡ Some c →
+        cancel_of (cancel_text c) ≡ Some c }
+    ensures content { (first second : List ℕ) (c d : Cancel) → cancel_of first ≡ Some c →
+        cancel_of second ≡ Some d →
         (cancel_text c ≡ cancel_text d) ↔ (c ≡ d) }
 {}
 

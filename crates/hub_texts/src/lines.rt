@@ -34,7 +34,8 @@ fn put_place(out: &mut Vec<u8>, row: &LineRow) -> Result<(), MemoryFault>
 
 // Appends the quantities of a line's text.
 fn put_quantities(out: &mut Vec<u8>, row: &LineRow) -> Result<(), MemoryFault>
-    ensures { OnOk result (out.new.items ≡ out.old.items ++ spec.quantities_text row.now (spec.rest_of row.now)) }
+    ensures { OnOk result (out.new.items ≡ out.old.items
+        ++ spec.quantities_text row.now (spec.rest_of row.now)) }
 {
     put_number(out, 9, row.ordered as u64)?;
     put_number(out, 9, row.open_qty as u64)?;
@@ -56,7 +57,8 @@ fn put_row(out: &mut Vec<u8>, row: &LineRow) -> Result<(), MemoryFault>
 
 // Appends the texts of lines.
 fn put_rows(out: &mut Vec<u8>, rows: &[LineRow]) -> Result<(), MemoryFault>
-    ensures { OnOk result (out.new.items ≡ out.old.items ++ flat_map (λ row. spec.text_with row (spec.rest_of row)) rows.now) }
+    ensures { OnOk result (out.new.items ≡ out.old.items
+        ++ flat_map (λ row. spec.text_with row (spec.rest_of row)) rows.now) }
 {
     for row in rows {
         put_row(out, row)?;

@@ -89,7 +89,8 @@ pub fn list_text(alloc: Global, heads: &[MailHead]) -> Result<Items<u8>, MemoryF
 
 // Appends the beginning of UNB, up to the owner.
 fn put_partners(out: &mut Vec<u8>, hub: &Gln, owner: &Gln) -> Result<(), MemoryFault>
-    ensures { OnOk result (out.new.items ≡ out.old.items ++ (codes "UNB+UNOC:3+" ++ hub.now ++ codes ":14+" ++ owner.now ++ codes ":14+")) }
+    ensures { OnOk result (out.new.items ≡ out.old.items
+        ++ (codes "UNB+UNOC:3+" ++ hub.now ++ codes ":14+" ++ owner.now ++ codes ":14+")) }
 {
     out.extend_from_slice(b"UNB+UNOC:3+")?;
     out.extend_from_slice(hub.digits())?;

@@ -59,7 +59,8 @@ fn put_difference(
     received: u128,
     despatched: u128,
 ) -> Result<(), MemoryFault>
-    ensures { OnOk result (out.new.items ≡ out.old.items ++ 0x20 ∷ right 15 (law.difference pallet.now received despatched)) }
+    ensures { OnOk result (out.new.items ≡ out.old.items
+        ++ 0x20 ∷ right 15 (law.difference pallet.now received despatched)) }
 {
     if is_announced(pallet) {
         put_signed(out, b'+', 0)
@@ -121,7 +122,8 @@ fn put_articles(
     pallet: &PalletRow,
     articles: &ArticleTotals,
 ) -> Result<(), MemoryFault>
-    ensures { OnOk result (out.new.items ≡ out.old.items ++ flat_map (article_line pallet.now) articles.now.entries) }
+    ensures { OnOk result (out.new.items ≡ out.old.items
+        ++ flat_map (article_line pallet.now) articles.now.entries) }
 {
     for (gtin, totals) in articles {
         put_article(out, pallet, gtin, totals)?;

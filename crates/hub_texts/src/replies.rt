@@ -57,7 +57,8 @@ pub fn message_line(
     message: &RawMessage,
     told: Decision,
 ) -> Result<Vec<u8>, MemoryFault>
-    ensures { IfOk result (λ text. text.items ≡ line (message.now.reference ∷ message.now.kind ∷ told_words (told_of told))) }
+    ensures { IfOk result (λ text.
+        text.items ≡ line (message.now.reference ∷ message.now.kind ∷ told_words (told_of told))) }
 {
     let mut out = Vec::from_slice(alloc, message.reference.as_slice())?;
     put_next(&mut out, message.kind.as_slice())?;

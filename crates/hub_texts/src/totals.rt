@@ -94,7 +94,8 @@ fn count_content(
     content: &ContentRow,
 ) -> Result<(), TextFault>
     requires { Rises place_cmp lines.now }
-    ensures ok { OnOk result (table.new.entries ≡ spec.count_content lines.now content.now table.old.entries) }
+    ensures ok { OnOk result (table.new.entries
+        ≡ spec.count_content lines.now content.now table.old.entries) }
     ensures unclean { result ≡ Err Unclean → spec.Uncounted lines.now content.now table.old.entries }
 {
     let Some(gtin) = article_of(lines, content) else {
@@ -118,7 +119,8 @@ fn count_receipt(table: &mut ArticleTotals, receipt: &ReceiptRow) -> Result<(), 
 // Counts receipts of a pallet, from the last one on.
 fn count_receipts(table: &mut ArticleTotals, receipts: &[ReceiptRow]) -> Result<(), TextFault>
     requires { table.old.entries ≡ [] }
-    ensures ok { (lines : List LineRow) → OnOk result (table.new.entries ≡ spec.table_of lines [] receipts.now) }
+    ensures ok { (lines : List LineRow) →
+        OnOk result (table.new.entries ≡ spec.table_of lines [] receipts.now) }
     ensures unclean { result ≡ Err Unclean → 2 ^ 64 ≤ sum_by spec.pieces_of receipts.now }
 {
     let mut left = receipts.len();

@@ -2,7 +2,7 @@
 use Rattle.std.proofs.Common.{◌≡◌, ℕ, ◌+◌, ◌-◌, ◌≤◌, nat_lt, nat_le, Bool, true, false, cond, not, ◌&&◌, ◌||◌, ◌⊎◌, inl}
 use Rattle.std.proofs.Common.{inr, List, [], ◌∷◌, ◌++◌, map, length, Option, Some, None, refl, arith}
 use Rattle.std.specs.List.{AllByRecursion}
-use Rattle.std.proofs.lemmas.Bool.{and_parts, or_parts}
+use Rattle.std.proofs.lemmas.Bool.{and_parts, or_parts, and_from}
 use Rattle.std.proofs.lemmas.Bool.Decides.{nat_tests}
 use Rattle.edi_base.specs.Limits.{greatest}
 use Rattle.edi_envelope.specs.Limits.{is_reference}
@@ -68,7 +68,7 @@ use Rattle.hub_rules.proofs.Verdicts.{not_refused, was_given}
 use Rattle.hub_judges.proofs.Once.{all_gtins}
 use Rattle.hub_transactions.specs.Clean.{WithinIncoming, WithinOrderLine, WithinOrder, WithinUnit, WithinDespatch}
 use Rattle.hub_transactions.specs.Clean.{WithinReceiptLine, WithinReceiptUnit, WithinReceipt}
-use Rattle.hub_transactions.proofs.CleanRows.{CleanRows, CleanChange, both_true}
+use Rattle.hub_transactions.proofs.CleanRows.{CleanRows, CleanChange}
 use Rattle.hub_transactions.proofs.CleanVerdicts.{Clean, Cleans, accepted, cleans_rest, cleans_in_order}
 
 le_true : (a b : ℕ) → a ≤ b → nat_le a b ≡ true
@@ -112,17 +112,17 @@ module _ (s : SupplierRow) (gln : is_gln s.gln ≡ true) where
   retailers : (incoming : IncomingMessage) → WithinIncoming incoming →
       clean_remembered (remembered (referred_by s sides.Retailer incoming) incoming.content) ≡ true
   retailers incoming within =
-      both_true gln (both_true refl (both_true within.control (both_true within.message within.content)))
+      and_from _ _ gln (and_from _ _ refl (and_from _ _ within.control (and_from _ _ within.message within.content)))
 
   suppliers : (incoming : IncomingMessage) → WithinIncoming incoming →
       clean_remembered (remembered (referred_by s sides.Supplier incoming) incoming.content) ≡ true
   suppliers incoming within =
-      both_true gln (both_true refl (both_true within.control (both_true within.message within.content)))
+      and_from _ _ gln (and_from _ _ refl (and_from _ _ within.control (and_from _ _ within.message within.content)))
 
   -- A mailbox entry.
 
   number_within : (n : ℕ) → nat_lt last_number (n + 1) ≡ false → is_within 1 last_number (n + 1) ≡ true
-  number_within n h = both_true (le_true 1 (n + 1) (omega arith))
+  number_within n h = and_from _ _ (le_true 1 (n + 1) (omega arith))
       (le_true (n + 1) last_number (grind (arith, nat_tests)))
 
   clean_new_mail : (state : Tables) (incoming : IncomingMessage) (kind : MailKind) (document body : List ℕ)
@@ -130,9 +130,9 @@ module _ (s : SupplierRow) (gln : is_gln s.gln ≡ true) where
       is_full (length state.mail) ≡ false → is_number document ≡ true → are_bytes body ≡ true →
       CleanChange (new_mail s.gln state incoming kind document body)
   clean_new_mail state incoming kind document body within room number bytes =
-      both_true gln (both_true (number_within (length state.mail) room)
-      (both_true (le_true incoming.moment last_moment within.moment)
-      (both_true within.decimal (both_true (known kind) (both_true number (both_true bytes refl))))))
+      and_from _ _ gln (and_from _ _ (number_within (length state.mail) room)
+      (and_from _ _ (le_true incoming.moment last_moment within.moment)
+      (and_from _ _ within.decimal (and_from _ _ (known kind) (and_from _ _ number (and_from _ _ bytes refl))))))
     where
       known : (kind : MailKind) → is_kind (Rattle.hub_tables.specs.Cases.kind_letter kind) ≡ true
       known kinds.Orders = refl
@@ -143,8 +143,8 @@ module _ (s : SupplierRow) (gln : is_gln s.gln ≡ true) where
   clean_new_line : (number : List ℕ) (line : OrderLine) → is_number number ≡ true → WithinOrderLine line →
       CleanChange (new_line s.gln number line)
   clean_new_line number line named within =
-      both_true gln (both_true named
-      (both_true within.number (both_true within.item (both_true within.quantity (both_true (le_true
+      and_from _ _ gln (and_from _ _ named
+      (and_from _ _ within.number (and_from _ _ within.item (and_from _ _ within.quantity (and_from _ _ (le_true
       (line.quantity + 0 + 0) line.quantity (omega arith)) refl)))))
 
   clean_new_lines : (number : List ℕ) (lines : List OrderLine) → is_number number ≡ true
@@ -165,7 +165,7 @@ module _ (s : SupplierRow) (gln : is_gln s.gln ≡ true) where
         number = order.number;
       }) ∷ map (new_line s.gln order.number) order.lines) changes b.1 (
         clean_new_mail state incoming kinds.Orders order.number body within b.0 fine.number bytes,
-        (both_true gln fine.number, clean_new_lines order.number order.lines fine.number fine.lines),
+        (and_from _ _ gln fine.number, clean_new_lines order.number order.lines fine.number fine.lines),
       )
 
   pub cleans_order : (retailer : List ℕ) (incoming : IncomingMessage) (body : List ℕ) (order : Order)
@@ -202,8 +202,8 @@ module _ (line : LineRow) (clean : clean_line line ≡ true) where
       let e = and_parts (is_quantity line.ordered) _ d.1 in
       let f = and_parts (nat_le (line.open_qty + line.refused + line.cancelled) line.ordered)
       (is_answer line.answer) e.1 in
-      both_true a.0 (both_true b.0
-      (both_true c.0 (both_true d.0 (both_true e.0 (both_true (covered f.0) (known f.1))))))
+      and_from _ _ a.0 (and_from _ _ b.0
+      (and_from _ _ c.0 (and_from _ _ d.0 (and_from _ _ e.0 (and_from _ _ (covered f.0) (known f.1))))))
 
   less_open : (quantity : ℕ) → clean_line (record line { open_qty = line.open_qty - quantity }) ≡ true
   less_open quantity = changed_line (line.open_qty - quantity) line.refused line.cancelled line.answer
@@ -313,8 +313,8 @@ cleans_cancel s gln content cancel named bytes state changes rows h =
     let a = not_refused (not (same cancel.supplier s.gln)) codes.Supplier _ changes h in
     let reference : Reference =
     record { supplier = s.gln; side = sides.Cancellation; control = cancel.reference; message = [] } in
-    let clean : clean_remembered (remembered reference content) ≡ true = both_true gln (both_true refl (both_true named
-    (both_true refl bytes))) in
+    let clean : clean_remembered (remembered reference content) ≡ true = and_from _ _ gln (and_from _ _ refl (and_from _ _ named
+    (and_from _ _ refl bytes))) in
     cleans_once reference content (judge_new_cancel cancel) clean (cleans_new_cancel cancel) state changes rows a.1
 
 -- Despatches.
@@ -326,7 +326,7 @@ placed_within : (n : ℕ) (lines : List DespatchLine) → n + length lines ≤ 9
     AllByRecursion (λ line. is_quantity line.quantity ≡ true) lines → AllByRecursion WithinPlaced (placed n lines)
 placed_within n [] most all = tt
 placed_within n (line ∷ lines) most all = (
-  (both_true (le_true 1 (n + 1) (omega arith)) (le_true (n + 1) 999_999 (omega (arith, most))), all.0),
+  (and_from _ _ (le_true 1 (n + 1) (omega arith)) (le_true (n + 1) 999_999 (omega (arith, most))), all.0),
   placed_within (n + 1) lines
       (omega (arith, most)) all.1,
 )
@@ -354,7 +354,7 @@ module _ (sscc : List ℕ) (key : is_key 18 sscc ≡ true) where
       })
       ∷ []) changes c.1 (
         less_open line clean said.quantity,
-        (both_true key (both_true within.0 (both_true number.0 (both_true n.0 within.1))), tt),
+        (and_from _ _ key (and_from _ _ within.0 (and_from _ _ number.0 (and_from _ _ n.0 within.1))), tt),
       )
 
   every_line : (lines : List (ℕ × DespatchLine)) → AllByRecursion WithinPlaced lines →
@@ -376,7 +376,7 @@ module _ (s : SupplierRow) (gln : is_gln s.gln ≡ true) (used : List ℕ → Bo
             Announced;
       } in
       cleans_rest (AddPallet row ∷ []) (in_order (judge_despatched unit.sscc) (placed 0 unit.lines)) state changes rows
-      (both_true within.sscc (both_true gln (both_true named refl)), tt)
+      (and_from _ _ within.sscc (and_from _ _ gln (and_from _ _ named refl)), tt)
       (cleans_in_order (judge_despatched unit.sscc) (placed 0 unit.lines)
       (every_line unit.sscc within.sscc (placed 0 unit.lines)
       (placed_within 0 unit.lines (omega (arith, within.places)) within.quantities))) b.1
@@ -393,7 +393,7 @@ module _ (s : SupplierRow) (gln : is_gln s.gln ≡ true) where
       let a = not_refused (knows_advice state despatch.number) codes.AdviceKnown _ changes h in
       cleans_rest (AddAdvice (record { supplier = s.gln; number = despatch.number }) ∷ []) (in_order
       (judge_unit s used despatch.number) despatch.units) state changes rows
-      (both_true gln fine.number, tt) (cleans_in_order (judge_unit s used despatch.number) despatch.units
+      (and_from _ _ gln fine.number, tt) (cleans_in_order (judge_unit s used despatch.number) despatch.units
       (every_unit s gln used despatch.number fine.number despatch.units fine.units)) a.1
 
   pub cleans_despatch : (retailer : List ℕ) (used : List ℕ → Bool) (incoming : IncomingMessage) (despatch : Despatch) →
@@ -416,9 +416,9 @@ module _ (unit : ReceiptUnit) (within : WithinReceiptUnit unit) where
   clean_item : (line : ReceiptLine) → WithinReceiptLine unit.lines line → CleanChange
       (new_receipt unit.sscc unit.lines line.gtin)
   clean_item line fine =
-      both_true within.sscc (both_true fine.item (both_true (le_true (total
+      and_from _ _ within.sscc (and_from _ _ fine.item (and_from _ _ (le_true (total
       (λ line. line.accepted) line.gtin unit.lines) greatest fine.accepted)
-      (both_true (le_true (total (λ line. line.returned) line.gtin unit.lines) greatest fine.returned) (le_true (total
+      (and_from _ _ (le_true (total (λ line. line.returned) line.gtin unit.lines) greatest fine.returned) (le_true (total
       (λ line. line.destroyed) line.gtin unit.lines) greatest fine.destroyed))))
 
   clean_arrived : (pallet : PalletRow) → clean_pallet pallet ≡ true →
@@ -427,7 +427,7 @@ module _ (unit : ReceiptUnit) (within : WithinReceiptUnit unit) where
       let a = and_parts (is_key 18 pallet.sscc) _ clean in
       let b = and_parts (is_gln pallet.supplier) _ a.1 in
       let c = and_parts (is_number pallet.advice) (is_arrival pallet.received) b.1 in
-      both_true a.0 (both_true b.0 (both_true c.0 (arrived replaces)))
+      and_from _ _ a.0 (and_from _ _ b.0 (and_from _ _ c.0 (arrived replaces)))
     where
       arrived : (replaces : Bool) → is_arrival (arrival_number (arrival_by replaces)) ≡ true
       arrived true = refl

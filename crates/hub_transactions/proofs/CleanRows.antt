@@ -1,8 +1,8 @@
 -- Changes of rows of the kinds leave tables of such rows.
-use Rattle.std.proofs.Common.{◌≡◌, ℕ, Bool, true, not, ◌&&◌, List, [], ◌∷◌, refl, ap, ◌∙◌}
+use Rattle.std.proofs.Common.{◌≡◌, ℕ, Bool, true, not, List, [], ◌∷◌, refl}
 use Rattle.std.specs.Bool.{⊤}
 use Rattle.std.specs.List.{AllByRecursion, list_all}
-use Rattle.std.proofs.lemmas.Bool.{and_parts}
+use Rattle.std.proofs.lemmas.Bool.{and_parts, and_from}
 use Rattle.hub_tables.specs.Change.{apply, apply_all}
 use Rattle.hub_tables.specs.Rows.{hub_cmp, key_cmp, prefix_cmp}
 use Rattle.hub_tables.specs.Rows.{same, order_cmp, line_cmp, advice_cmp, pallet_cmp, content_cmp, receipt_cmp}
@@ -19,12 +19,9 @@ use Rattle.hub_store.specs.Clean.{clean_hub, clean_key, clean_prefix}
 use Rattle.hub_store.specs.Clean.{clean_order, clean_line, clean_advice, clean_pallet, clean_content, clean_receipt}
 use Rattle.hub_store.specs.Clean.{clean_remembered, clean_mail, are_clean}
 
-pub both_true : {a b : Bool} → a ≡ true → b ≡ true → (a && b) ≡ true
-both_true {a} {b} p q = ap (λ v. v && b) p ∙ q
-
 all_true : {X : Type 0} (p : X → Bool) (xs : List X) → AllByRecursion (λ x. p x ≡ true) xs → list_all p xs ≡ true
 all_true p [] all = refl
-all_true p (x ∷ xs) all = both_true all.0 (all_true p xs all.1)
+all_true p (x ∷ xs) all = and_from _ _ all.0 (all_true p xs all.1)
 
 true_all : {X : Type 0} (p : X → Bool) (xs : List X) → list_all p xs ≡ true → AllByRecursion (λ x. p x ≡ true) xs
 true_all p [] h = tt
@@ -71,12 +68,12 @@ clean_rows t h =
 
 pub rows_clean : (t : Tables) → CleanRows t → are_clean t ≡ true
 rows_clean t h =
-    both_true (all_true clean_hub t.hubs h.hubs) (both_true (all_true clean_key t.keys h.keys)
-    (both_true (all_true clean_prefix t.prefixes h.prefixes)
-    (both_true (all_true clean_order t.orders h.orders) (both_true (all_true clean_line t.lines h.lines)
-    (both_true (all_true clean_advice t.advices h.advices) (both_true (all_true clean_pallet t.pallets h.pallets)
-    (both_true (all_true clean_content t.contents h.contents) (both_true (all_true clean_receipt t.receipts h.receipts)
-    (both_true (all_true clean_remembered t.remembered h.remembered) (all_true clean_mail t.mail h.mail))))))))))
+    and_from _ _ (all_true clean_hub t.hubs h.hubs) (and_from _ _ (all_true clean_key t.keys h.keys)
+    (and_from _ _ (all_true clean_prefix t.prefixes h.prefixes)
+    (and_from _ _ (all_true clean_order t.orders h.orders) (and_from _ _ (all_true clean_line t.lines h.lines)
+    (and_from _ _ (all_true clean_advice t.advices h.advices) (and_from _ _ (all_true clean_pallet t.pallets h.pallets)
+    (and_from _ _ (all_true clean_content t.contents h.contents) (and_from _ _ (all_true clean_receipt t.receipts h.receipts)
+    (and_from _ _ (all_true clean_remembered t.remembered h.remembered) (all_true clean_mail t.mail h.mail))))))))))
 
 -- what a supplier sees
 pub clean_view : (supplier : List ℕ) (t : Tables) → CleanRows t → CleanRows (view supplier t)

@@ -1,7 +1,7 @@
 -- Judges that accept changes of rows of the kinds alone.
 use Rattle.std.proofs.Common.{◌≡◌, ℕ, ◌==◌, nat_le, true, false, List, [], ◌∷◌, ◌++◌, ◌&&◌, length, Some, sym, subst, cond, refl}
 use Rattle.std.specs.List.{AllByRecursion, list_all}
-use Rattle.std.proofs.lemmas.Bool.{and_parts}
+use Rattle.std.proofs.lemmas.Bool.{and_parts, and_from}
 use Rattle.edi_segments.specs.Service.{is_decimal}
 use Rattle.edi_envelope.specs.Mail.{last_number}
 use Rattle.edi_moment.specs.Moment.{last_moment}
@@ -29,7 +29,7 @@ use Rattle.hub_rules.proofs.Verdicts.{joined_rest}
 use Rattle.hub_law.specs.Requests.{taking}
 use Rattle.hub_law.specs.Told.{changed}
 use Rattle.hub_transactions.proofs.Joins.{changes_are}
-use Rattle.hub_transactions.proofs.CleanRows.{CleanRows, CleanChange, both_true, clean_all, clean_rows, clean_view, rows_clean}
+use Rattle.hub_transactions.proofs.CleanRows.{CleanRows, CleanChange, clean_all, clean_rows, clean_view, rows_clean}
 
 -- what it accepts
 abbrev pub Clean : List Change → Type 0
@@ -87,8 +87,11 @@ clean_taking entry clean = elim (is_taken entry) as (λ v. Clean (cond v [] (Set
       let d = and_parts (is_decimal entry.decimal) _ c.1 in
       let e = and_parts (is_kind entry.kind) _ d.1 in
       let f = and_parts (is_number entry.document) _ e.1 in
-      let g = and_parts (are_bytes entry.body) (is_truth entry.taken) f.1 in
-      (both_true a.0 (both_true b.0 (both_true c.0 (both_true d.0 (both_true e.0 (both_true f.0 (both_true g.0 refl)))))), tt)
+      let g = and_parts (are_bytes entry.body) (is_truth entry.taken) f.1 in (
+        and_from _ _ a.0 (and_from _ _ b.0 (and_from _ _ c.0 (and_from _ _ d.0
+            (and_from _ _ e.0 (and_from _ _ f.0 (and_from _ _ g.0 refl)))))),
+        tt,
+      )
 ]
 
 pub cleaned_taken : (gln : List ℕ) (number : ℕ) (t : Tables) (entry : MailRow) → are_clean t ≡ true →
@@ -108,7 +111,7 @@ clean_prefixes : (gln : List ℕ) (prefixes : List (List ℕ))
 clean_prefixes gln [] right all = tt
 clean_prefixes gln (prefix ∷ prefixes) right all =
     let parts = and_parts (is_prefix prefix) (list_all is_prefix prefixes) all in
-    (both_true parts.0 right, clean_prefixes gln prefixes right parts.1)
+    (and_from _ _ parts.0 right, clean_prefixes gln prefixes right parts.1)
 
 clean_join : (row : SupplierRow) → is_join row ≡ true → Clean (row_changes row)
 clean_join row may =
@@ -116,7 +119,7 @@ clean_join row may =
     let both = and_parts (are_company_prefixes row.prefixes) (is_party_key row.key) gln.1 in
     let some = and_parts (nat_le 1 (length row.prefixes)) _ both.0 in
     let few = and_parts (nat_le (length row.prefixes) most_prefixes) _ some.1 in (
-      both_true gln.0 both.1,
+      and_from _ _ gln.0 both.1,
       clean_prefixes row.gln row.prefixes gln.0
           (and_parts (list_all is_prefix row.prefixes) (rising row.prefixes) few.1).0,
     )

@@ -10,7 +10,7 @@ use Rattle.hub_rules.specs.Laws.{SoundUnder, Registered}
 use Rattle.hub_rules.specs.declared.code.Code.{Code}
 use Rattle.hub_rules.specs.declared.verdict.Verdict.{Verdict}
 use Rattle.hub_rules.specs.declared.verdict.Verdict.TheVariants.{Accept, Refuse}
-use Rattle.hub_law.proofs.Steps.{gln_of}
+use Rattle.hub_rules.proofs.Prefixes.{gln_found}
 use Rattle.hub_transactions.specs.Judged.{VerdictFits}
 
 pub refused_fits : (test : Bool) (first second : Code) (t : Tables) → VerdictFits (refuse_if test first (Refuse second)) t
@@ -35,7 +35,7 @@ named_fits suppliers gln t judge here nobodys ones = by_whom (supplier_row suppl
     by_whom : (o : Option SupplierRow) → supplier_row suppliers gln ≡ o → VerdictFits (judge o (view gln t)) t
     by_whom None h = nobodys
     by_whom (Some s) h =
-        let whose = gln_of suppliers gln s h in
+        let whose = gln_found suppliers gln s h in
         subst (λ n. VerdictFits (judge (Some s) (view n t)) t) whose
         (verdict_fits (judge (Some s) (view s.gln t)) t
         (ones s (record { free = here.free; known = ap (supplier_row suppliers) whose ∙ h; sound = here.sound })))

@@ -7,6 +7,7 @@ use Rattle.std.specs.List.Sorted.{IsStrictlySortedBy}
 use Rattle.std.specs.declared.cmp.Ordering.TheVariants.{Less, Equal}
 use Rattle.std.proofs.lemmas.Cmp.{tied_itself, nat_list_cmp_total}
 use Rattle.std.proofs.lemmas.List.{append-nil}
+use Rattle.std.proofs.Math.Bool.{and-false, and-true}
 use Rattle.edi_base.specs.Seen.{is_among}
 use Rattle.edi_base.proofs.Twice.{bytes_eq-sym}
 use Rattle.hub_parties.specs.KeyOrder.{bytes_cmp, Rises}
@@ -17,14 +18,6 @@ use Rattle.hub_tables.specs.declared.rows.LineRow.{LineRow}
 use Rattle.hub_tables.proofs.Lists.{decide, same_is, same_if, filter_none, all_weaker, all_passes}
 use Rattle.hub_transactions.specs.Named.{by_number}
 use Rattle.hub_transactions.proofs.LookUps.{filter_twice}
-
-and_true : (b : Bool) → (b && true) ≡ b
-and_true true = refl
-and_true false = refl
-
-and_false : (b : Bool) → (b && false) ≡ false
-and_false true = refl
-and_false false = refl
 
 -- one more, where the test holds of it
 pub kept_more : (test : List ℕ → Bool) (so_far : List (List ℕ)) (number : List ℕ) (holds : Bool) (later : List (List ℕ))
@@ -46,7 +39,7 @@ found_more find so_far found number later e =
 -- among those that pass
 pub among_kept : (test : List ℕ → Bool) (order : List ℕ) (numbers : List (List ℕ))
     → is_among order (filter test numbers) ≡ (test order && is_among order numbers)
-among_kept test order [] = sym (and_false (test order))
+among_kept test order [] = sym (and-false (test order))
 among_kept test order (number ∷ numbers) =
     let rest = among_kept test order numbers in
     elim (decide (same order number)) [
@@ -72,7 +65,7 @@ among_kept test order (number ∷ numbers) =
 pub known_among : (test : List ℕ → Bool) (order : List ℕ) (numbers : List (List ℕ))
     → is_among order numbers ≡ true
     → test order ≡ is_among order (filter test numbers)
-known_among test order numbers there = sym (among_kept test order numbers ∙ ap (λ v. test order && v) there ∙ and_true (test order))
+known_among test order numbers there = sym (among_kept test order numbers ∙ ap (λ v. test order && v) there ∙ and-true (test order))
 
 filter_append : {X : Type 0} (p : X → Bool) (xs ys : List X) → filter p (xs ++ ys) ≡ filter p xs ++ filter p ys
 filter_append p [] ys = refl

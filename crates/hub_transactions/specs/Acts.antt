@@ -54,6 +54,14 @@ pub record FailsWith {X : Type 0} (plain : Bool) (cause : Type 0) (may_answer : 
   pub after : MatchResult result (λ _. new ≡ old) (BreaksBy cause old new)
   pub only_memory : IsTrue plain → (new ≡ old) × IfErr result (λ fault. (fault ≡ Memory) ⊎ ((fault ≡ Unclean) × cause))
 
+-- nothing that is read is a cause for `Unclean`
+abbrev pub NoCause : Type 0
+NoCause = ⊥
+
+-- something that is read may be one
+abbrev pub AnyCause : Type 0
+AnyCause = ⊤
+
 -- no answer may be given, and any may
 abbrev pub no_answer : {X : Type 0} → X → Type 0
 no_answer x = ⊥

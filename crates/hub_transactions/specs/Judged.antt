@@ -1,11 +1,19 @@
 -- What comes of a message.
-use Rattle.std.specs.Prelude.{◌≡◌, ⊤, Result, Err}
+use Rattle.std.specs.Prelude.{◌≡◌, ⊤, Option, Result, Err, IfOk}
 use Rattle.edi_messages.specs.Fault as message_faults
 use Rattle.edi_messages.specs.declared.fault.MessageFault.{MessageFault}
+use Rattle.edi_envelope.specs.declared.interchange.RawMessage.{RawMessage}
+use Rattle.hub_parties.specs.Rows.{Parties, RegisterRows, parties_of, supplier_row}
+use Rattle.hub_parties.specs.declared.row.SupplierRow.{SupplierRow}
+use Rattle.hub_store.specs.declared.fault.StoreFault.{StoreFault}
 use Rattle.hub_tables.specs.Sets.{Fit}
-use Rattle.hub_tables.specs.Tables.{Tables}
+use Rattle.hub_tables.specs.Tables.{Tables, view}
+use Rattle.hub_rules.specs.Laws.{SoundUnder, Registered, PartiesRise}
+use Rattle.hub_rules.specs.Sound.{Kept}
+use Rattle.hub_rules.specs.declared.incoming.IncomingMessage.{IncomingMessage}
 use Rattle.hub_rules.specs.declared.verdict.Verdict.{Verdict}
 use Rattle.hub_rules.specs.declared.verdict.Verdict.TheVariants.{Accept, Refuse}
+use Rattle.hub_law.specs.Messages.{named}
 use Rattle.hub_law.specs.Told.{Refused, Act, act}
 use Rattle.hub_transactions.specs.declared.judged.Judged.{Judged}
 use Rattle.hub_transactions.specs.declared.judged.Judged.TheVariants.{Read, Unread}
@@ -34,3 +42,24 @@ pub record CannotBeRead {X : Type 0} (read : Result X MessageFault) (judged : Ju
 pub record UnreadOf (deliver : Act) (judged : Judged) : Type 0 where
   pub same : (t : Tables) → deliver t ≡ act_of judged t
   pub stays : (t : Tables) → (act_of judged t).1 ≡ t
+
+-- What comes of a message of the retailer: what the act does, where the rows that the supplier sees are kept; and changes
+-- that fit the tables, where these are sound.
+pub record JudgedOfRetailer {S : Type 0} (content : S → Tables) (honest : S → Type 0) (register : RegisterRows)
+    (deliver : (Tables → Tables) → Parties → Option SupplierRow → RawMessage × IncomingMessage → Act)
+    (sent : RawMessage × IncomingMessage) (old new : S) (result : Result Judged StoreFault) : Type 0 where
+  pub told : honest new → Kept (view (named sent.0) (content old)) → IfOk result (λ judged.
+      deliver (view (named sent.0)) (parties_of register) (supplier_row register.suppliers (named sent.0)) sent (content old)
+      ≡ act_of judged (content old))
+  pub fit : honest new → SoundUnder register.suppliers (content old) → PartiesRise (content old) →
+      IfOk result (λ judged. JudgedFits judged (content old))
+
+-- likewise of a message of a supplier
+pub record JudgedOfSupplier {S : Type 0} (content : S → Tables) (honest : S → Type 0) (register : RegisterRows)
+    (supplier : SupplierRow)
+    (deliver : (Tables → Tables) → Parties → SupplierRow → RawMessage × IncomingMessage → Act)
+    (sent : RawMessage × IncomingMessage) (old new : S) (result : Result Judged StoreFault) : Type 0 where
+  pub told : honest new → Kept (view supplier.gln (content old)) → IfOk result (λ judged.
+      deliver (view supplier.gln) (parties_of register) supplier sent (content old) ≡ act_of judged (content old))
+  pub fit : honest new → Registered register.suppliers supplier (content old) → PartiesRise (content old) →
+      IfOk result (λ judged. JudgedFits judged (content old))

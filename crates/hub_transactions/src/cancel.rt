@@ -8,7 +8,7 @@ ghost use Rattle.hub_law.specs.Mark.{Whole};
 ghost use Rattle.hub_law.specs.Replies.{act_reply};
 ghost use Rattle.hub_law.specs.Requests.{cancel_named, answered, replied_by};
 ghost use Rattle.hub_law.specs.Told.{act, told};
-ghost use Rattle.hub_transactions.specs.Acts.{Carried, FailsWith, Unharmed, any_answer, as_told, no_answer};
+ghost use Rattle.hub_transactions.specs.Acts.{Carried, FailsWith, NoCause, Unharmed, any_answer, as_told, no_answer};
 ghost use Rattle.hub_transactions.specs.Judged.{VerdictFits};
 
 use crate::carrying::{carry_out, reply_to_act, told_of_verdict};
@@ -31,7 +31,7 @@ fn commit_and_reply<S: Store>(
     ensures carried { VerdictFits verdict.now (S.content store.old) →
         Carried S.content S.honest S.left store.old store.new (λ t.
         replied_by act_reply (act verdict.now t)) as_told result }
-    ensures fails { FailsWith S.plain ⊥ any_answer (S.broken store.old) (S.broken store.new) result }
+    ensures fails { FailsWith S.plain NoCause any_answer (S.broken store.old) (S.broken store.new) result }
     ensures unharmed { Unharmed S.content S.honest store.old store.new result }
 {
     carry_out(store, verdict)?;
@@ -46,7 +46,8 @@ pub fn take_cancel<S: Store>(
     store: &mut S,
     cancel: &Cancel,
 ) -> Result<Reply, StoreFault>
-    ensures carried { SoundUnder register.now.suppliers (S.content store.old) → PartiesRise (S.content store.old) →
+    ensures carried { SoundUnder register.now.suppliers (S.content store.old) →
+        PartiesRise (S.content store.old) →
         Carried S.content S.honest S.left store.old store.new (λ t.
         answered Whole (cancel_named register.now cancel.now t) t) as_told result }
     ensures fails { FailsWith S.plain (S.honest store.new →

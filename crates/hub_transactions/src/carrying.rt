@@ -6,7 +6,7 @@ ghost use Rattle.hub_tables.specs.Tables.{Tables};
 ghost use Rattle.hub_rules.specs.declared.verdict.Verdict.TheVariants.{Accept};
 ghost use Rattle.hub_law.specs.Replies.{act_reply};
 ghost use Rattle.hub_law.specs.Told.{act, told};
-ghost use Rattle.hub_transactions.specs.Acts.{Carried, FailsWith, Unharmed, any_answer};
+ghost use Rattle.hub_transactions.specs.Acts.{Carried, FailsWith, NoCause, Unharmed, any_answer};
 ghost use Rattle.hub_transactions.specs.Judged.{act_of, VerdictFits, JudgedFits};
 ghost use Rattle.hub_texts.specs.Decision.{told_of};
 
@@ -69,7 +69,7 @@ fn make<S: Store>(store: &mut S, changes: &[Change]) -> Result<(), StoreFault>
         (t ≡ S.content store.new) ⊎ ((S.content store.new ≡ S.content store.old) × S.left store.old t)) }
     ensures crash { S.honest store.new → OnErr result ((t : Tables) → S.left store.new t →
         S.left store.old t ⊎ (t ≡ apply_all changes.now (S.content store.old))) }
-    ensures fails { FailsWith S.plain ⊥ any_answer (S.broken store.old) (S.broken store.new) result }
+    ensures fails { FailsWith S.plain NoCause any_answer (S.broken store.old) (S.broken store.new) result }
     ensures unharmed { Unharmed S.content S.honest store.old store.new result }
 {
     if changes.is_empty() {
@@ -83,7 +83,7 @@ pub(crate) fn carry_out<S: Store>(store: &mut S, verdict: &Verdict) -> Result<De
     ensures carried { VerdictFits verdict.now (S.content store.old) →
         Carried S.content S.honest S.left store.old store.new (act verdict.now) told_of result }
     ensures told { IfOk result (λ seen. told verdict.now ≡ told_of seen) }
-    ensures fails { FailsWith S.plain ⊥ any_answer (S.broken store.old) (S.broken store.new) result }
+    ensures fails { FailsWith S.plain NoCause any_answer (S.broken store.old) (S.broken store.new) result }
     ensures unharmed { Unharmed S.content S.honest store.old store.new result }
 {
     match verdict {
@@ -103,7 +103,7 @@ pub(crate) fn carry_out_judged<S: Store>(
     ensures carried { JudgedFits judged.now (S.content store.old) →
         Carried S.content S.honest S.left store.old store.new (act_of judged.now) told_of result }
     ensures told { IfOk result (λ seen. (t : Tables) → (act_of judged.now t).0 ≡ told_of seen) }
-    ensures fails { FailsWith S.plain ⊥ any_answer (S.broken store.old) (S.broken store.new) result }
+    ensures fails { FailsWith S.plain NoCause any_answer (S.broken store.old) (S.broken store.new) result }
     ensures unharmed { Unharmed S.content S.honest store.old store.new result }
 {
     match judged {

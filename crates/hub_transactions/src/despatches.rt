@@ -7,7 +7,7 @@ ghost use Rattle.hub_store.specs.Clean.{are_clean};
 ghost use Rattle.hub_store.specs.declared.fault.StoreFault.TheVariants.{Unclean};
 ghost use Rattle.hub_rules.specs.Sound.{Kept};
 ghost use Rattle.hub_judges.specs.Known.{TellsForDespatch};
-ghost use Rattle.hub_transactions.specs.Acts.{FailsWith, Stays, any_answer, no_answer};
+ghost use Rattle.hub_transactions.specs.Acts.{FailsWith, NoCause, Stays, any_answer, no_answer};
 ghost use Rattle.hub_transactions.specs.Named.{NamedUnclean};
 
 use crate::knowing::lines_of_rows;
@@ -61,9 +61,11 @@ fn put_known<S: Store>(
         (map (λ number. number.now) named.now.keys)) }
     ensures rows { S.honest store.new →
         OnOk result (lines.new ≡ lines.old
-        ++ flat_map (lines_of (view supplier.now (S.content store.old))) (map (λ number. number.now) named.now.keys)) }
-    ensures unclean { S.honest store.new → S.broken store.old ≡ None → are_clean (S.content store.old) ≡ true → result ≢ Err Unclean }
-    ensures fails { FailsWith S.plain ⊥ any_answer (S.broken store.old) (S.broken store.new) result }
+        ++ flat_map (lines_of (view supplier.now (S.content store.old)))
+        (map (λ number. number.now) named.now.keys)) }
+    ensures unclean { S.honest store.new → S.broken store.old ≡ None →
+        are_clean (S.content store.old) ≡ true → result ≢ Err Unclean }
+    ensures fails { FailsWith S.plain NoCause any_answer (S.broken store.old) (S.broken store.new) result }
     ensures stays { Stays S.content S.honest S.left store.old store.new }
 {
     for number in named {
@@ -90,11 +92,13 @@ fn used_of<S: Store>(
     store: &mut S,
     units: &[Unit],
 ) -> Result<Items<bool>, StoreFault>
-    ensures used { S.honest store.new → IfOk result (λ used. map (λ unit. has_pallet (S.content store.old) unit.sscc) units.now ≡ used) }
+    ensures used { S.honest store.new →
+        IfOk result (λ used. map (λ unit. has_pallet (S.content store.old) unit.sscc) units.now ≡ used) }
     ensures each { IfOk result (λ used. length used ≡ length units.now) }
-    ensures unclean { S.honest store.new → S.broken store.old ≡ None → are_clean (S.content store.old) ≡ true → result ≢ Err Unclean }
+    ensures unclean { S.honest store.new → S.broken store.old ≡ None →
+        are_clean (S.content store.old) ≡ true → result ≢ Err Unclean }
     ensures goes_on { OnOk result (S.broken store.new ≡ S.broken store.old) }
-    ensures fails { FailsWith S.plain ⊥ any_answer (S.broken store.old) (S.broken store.new) result }
+    ensures fails { FailsWith S.plain NoCause any_answer (S.broken store.old) (S.broken store.new) result }
     ensures stays { Stays S.content S.honest S.left store.old store.new }
 {
     let mut used = Items::new(alloc);
@@ -116,10 +120,12 @@ pub(crate) fn known_for_despatch<S: Store>(
     despatch: &Despatch,
 ) -> Result<Known, StoreFault>
     ensures told { S.honest store.new → Kept (view supplier.now (S.content store.old)) →
-        IfOk result (λ known. TellsForDespatch known (has_pallet (S.content store.old)) incoming.now despatch.now
+        IfOk result (λ known.
+        TellsForDespatch known (has_pallet (S.content store.old)) incoming.now despatch.now
         (view supplier.now (S.content store.old))) }
     ensures each { IfOk result (λ known. length known.used ≡ length despatch.now.units) }
-    ensures unclean { S.honest store.new → S.broken store.old ≡ None → are_clean (S.content store.old) ≡ true →
+    ensures unclean { S.honest store.new → S.broken store.old ≡ None →
+        are_clean (S.content store.old) ≡ true →
         result ≡ Err Unclean → NamedUnclean despatch.now.units (view supplier.now (S.content store.old)) }
     ensures fails { FailsWith S.plain (S.honest store.new →
         NamedUnclean despatch.now.units (view supplier.now (S.content store.old)))

@@ -12,7 +12,7 @@ ghost use Rattle.hub_rules.specs.declared.verdict.Verdict.TheVariants.{Accept};
 ghost use Rattle.hub_law.specs.Mark.{Whole};
 ghost use Rattle.hub_law.specs.Requests.{joined};
 ghost use Rattle.hub_law.specs.Told.{Accepted, act};
-ghost use Rattle.hub_transactions.specs.Acts.{Carried, FailsWith, OfAny, Unharmed, as_told, no_answer};
+ghost use Rattle.hub_transactions.specs.Acts.{Carried, FailsWith, NoCause, OfAny, Unharmed, as_told, no_answer};
 ghost use Rattle.hub_transactions.specs.Joins.{MovesBy, after_join};
 
 use crate::carrying::{reply_to_act, told_of_verdict};
@@ -39,10 +39,11 @@ fn let_in<S: Store>(
     requires takes { IsRegister (joined_by row.now register.old) }
     requires goes { left_by row.now.gln (joined_by row.now register.old) ≡ register.old }
     ensures carried { Fit changes.now (S.content store.old) →
-        Carried S.content S.honest S.left store.old store.new (act (Accept changes.now)) (λ _. Accepted) result }
+        Carried S.content S.honest S.left store.old store.new (act (Accept changes.now))
+        (λ _. Accepted) result }
     ensures taken { OnOk result (register.new ≡ joined_by row.now register.old) }
     ensures register_stays { OnErr result (register.new ≡ register.old) }
-    ensures fails { FailsWith S.plain ⊥ no_answer (S.broken store.old) (S.broken store.new) result }
+    ensures fails { FailsWith S.plain NoCause no_answer (S.broken store.old) (S.broken store.new) result }
     ensures unharmed { Unharmed S.content S.honest store.old store.new result }
 {
     let copy = row.copy(alloc)?;
@@ -73,7 +74,8 @@ pub fn take_join<S: Store>(
 ) -> Result<Reply, StoreFault>
     ensures carried { SoundHub (S.content store.old) → register.old ≡ register_of (S.content store.old) →
         Carried S.content S.honest S.left store.old store.new (joined register.old Whole join.now) as_told result }
-    ensures same { S.honest store.new → SoundHub (S.content store.old) → register.old ≡ register_of (S.content store.old) →
+    ensures same { S.honest store.new → SoundHub (S.content store.old) →
+        register.old ≡ register_of (S.content store.old) →
         register.new ≡ register_of (S.content store.new) }
     ensures told { IfOk result (λ reply. (t : Tables) → (joined register.old Whole join.now t).0 ≡ reply) }
     ensures moves { IfOk result (MovesBy join.now register.old register.new) }
@@ -81,7 +83,7 @@ pub fn take_join<S: Store>(
     ensures register_stays { OnErr result (register.new ≡ register.old) }
     ensures broken { IfSome (S.broken store.old) (λ _. register.new ≡ register.old) }
     ensures refused { joins register.old join.now ≡ false → store.new ≡ store.old }
-    ensures fails { FailsWith S.plain ⊥ (OfAny (joined register.old Whole join.now) as_told)
+    ensures fails { FailsWith S.plain NoCause (OfAny (joined register.old Whole join.now) as_told)
         (S.broken store.old) (S.broken store.new) result }
     ensures unharmed { Unharmed S.content S.honest store.old store.new result }
 {

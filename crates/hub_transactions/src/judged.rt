@@ -1,19 +1,15 @@
 //! What comes of a message: it is read, what is known of it is looked up, and it is judged.
-ghost use Rattle.std.specs.Prelude.{◌≡◌, IfOk, Some};
 ghost use Rattle.edi_orders.specs.Order.{order_of};
 ghost use Rattle.edi_orders.specs.Response.{response_of};
 ghost use Rattle.edi_goods.specs.Despatch.{despatch_of};
 ghost use Rattle.edi_goods.specs.Receipt.{receipt_of};
-ghost use Rattle.hub_parties.specs.Rows.{parties_of, supplier_row};
-ghost use Rattle.hub_tables.specs.Tables.{view, has_pallet};
-ghost use Rattle.hub_rules.specs.Laws.{SoundUnder, Registered, PartiesRise};
-ghost use Rattle.hub_rules.specs.Sound.{Kept};
-ghost use Rattle.hub_rules.specs.Rules as rules;
-ghost use Rattle.hub_law.specs.Messages.{named, body_of, deliver_suppliers};
+ghost use Rattle.hub_parties.specs.Rows.{parties_of};
+ghost use Rattle.hub_tables.specs.Tables.{view};
+ghost use Rattle.hub_law.specs.Messages.{order_act, receipt_act, response_act, despatch_act};
+ghost use Rattle.hub_law.specs.Messages.{deliver_retailers, deliver_suppliers};
 ghost use Rattle.hub_law.specs.Requests.{deliver_named};
-ghost use Rattle.hub_law.specs.Told.{read_act};
-ghost use Rattle.hub_transactions.specs.Acts.{FailsWith, Stays};
-ghost use Rattle.hub_transactions.specs.Judged.{act_of, JudgedFits, CannotBeRead, UnreadOf};
+ghost use Rattle.hub_transactions.specs.Acts.{FailsWith, NoCause, Stays};
+ghost use Rattle.hub_transactions.specs.Judged.{CannotBeRead, JudgedOfRetailer, JudgedOfSupplier, UnreadOf};
 ghost use Rattle.hub_transactions.specs.Named.{MessageUnclean};
 
 use crate::despatches::known_for_despatch;
@@ -48,15 +44,10 @@ fn judged_order<S: Store>(
     message: &RawMessage,
     incoming: IncomingMessage,
 ) -> Result<Judged, StoreFault>
-    ensures judged { S.honest store.new → Kept (view (named message.now) (S.content store.old)) →
-        IfOk result (λ judged.
-        read_act (order_of message.now) (λ order.
-        rules.judge_order register.now.retailer (supplier_row register.now.suppliers (named message.now)) incoming
-        (body_of message.now) order (view (named message.now) (S.content store.old))) (S.content store.old)
-        ≡ act_of judged (S.content store.old)) }
-    ensures fit { S.honest store.new → SoundUnder register.now.suppliers (S.content store.old) → PartiesRise (S.content store.old) →
-        IfOk result (λ judged. JudgedFits judged (S.content store.old)) }
-    ensures fails { FailsWith S.plain ⊥ (CannotBeRead (order_of message.now)) (S.broken store.old) (S.broken store.new) result }
+    ensures judged { JudgedOfRetailer S.content S.honest register.now order_act (message.now, incoming)
+        store.old store.new result }
+    ensures fails { FailsWith S.plain NoCause (CannotBeRead (order_of message.now))
+        (S.broken store.old) (S.broken store.new) result }
     ensures stays { Stays S.content S.honest S.left store.old store.new }
 {
     accepted_changes_fit();
@@ -81,15 +72,10 @@ fn judged_receipt<S: Store>(
     message: &RawMessage,
     incoming: IncomingMessage,
 ) -> Result<Judged, StoreFault>
-    ensures judged { S.honest store.new → Kept (view (named message.now) (S.content store.old)) →
-        IfOk result (λ judged.
-        read_act (receipt_of message.now) (λ receipt.
-        rules.judge_receipt register.now.retailer (supplier_row register.now.suppliers (named message.now)) incoming
-        (body_of message.now) receipt (view (named message.now) (S.content store.old))) (S.content store.old)
-        ≡ act_of judged (S.content store.old)) }
-    ensures fit { S.honest store.new → SoundUnder register.now.suppliers (S.content store.old) → PartiesRise (S.content store.old) →
-        IfOk result (λ judged. JudgedFits judged (S.content store.old)) }
-    ensures fails { FailsWith S.plain ⊥ (CannotBeRead (receipt_of message.now)) (S.broken store.old) (S.broken store.new) result }
+    ensures judged { JudgedOfRetailer S.content S.honest register.now receipt_act (message.now, incoming)
+        store.old store.new result }
+    ensures fails { FailsWith S.plain NoCause (CannotBeRead (receipt_of message.now))
+        (S.broken store.old) (S.broken store.new) result }
     ensures stays { Stays S.content S.honest S.left store.old store.new }
 {
     accepted_changes_fit();
@@ -115,14 +101,10 @@ fn judged_response<S: Store>(
     message: &RawMessage,
     incoming: IncomingMessage,
 ) -> Result<Judged, StoreFault>
-    ensures judged { S.honest store.new → Kept (view supplier.now.gln (S.content store.old)) →
-        IfOk result (λ judged.
-        read_act (response_of message.now) (λ response.
-        rules.judge_response register.now.retailer (Some supplier.now) incoming response
-        (view supplier.now.gln (S.content store.old))) (S.content store.old) ≡ act_of judged (S.content store.old)) }
-    ensures fit { S.honest store.new → Registered register.now.suppliers supplier.now (S.content store.old) →
-        PartiesRise (S.content store.old) → IfOk result (λ judged. JudgedFits judged (S.content store.old)) }
-    ensures fails { FailsWith S.plain (S.honest store.new → MessageUnclean message.now (view supplier.now.gln (S.content store.old)))
+    ensures judged { JudgedOfSupplier S.content S.honest register.now supplier.now response_act
+        (message.now, incoming) store.old store.new result }
+    ensures fails { FailsWith S.plain (S.honest store.new →
+        MessageUnclean message.now (view supplier.now.gln (S.content store.old)))
         (CannotBeRead (response_of message.now)) (S.broken store.old) (S.broken store.new) result }
     ensures stays { Stays S.content S.honest S.left store.old store.new }
 {
@@ -147,15 +129,10 @@ fn judged_despatch<S: Store>(
     message: &RawMessage,
     incoming: IncomingMessage,
 ) -> Result<Judged, StoreFault>
-    ensures judged { S.honest store.new → Kept (view supplier.now.gln (S.content store.old)) →
-        IfOk result (λ judged.
-        read_act (despatch_of message.now) (λ despatch.
-        rules.judge_despatch register.now.retailer (Some supplier.now)
-        (has_pallet (S.content store.old)) incoming despatch (view supplier.now.gln (S.content store.old)))
-        (S.content store.old) ≡ act_of judged (S.content store.old)) }
-    ensures fit { S.honest store.new → Registered register.now.suppliers supplier.now (S.content store.old) →
-        PartiesRise (S.content store.old) → IfOk result (λ judged. JudgedFits judged (S.content store.old)) }
-    ensures fails { FailsWith S.plain (S.honest store.new → MessageUnclean message.now (view supplier.now.gln (S.content store.old)))
+    ensures judged { JudgedOfSupplier S.content S.honest register.now supplier.now despatch_act
+        (message.now, incoming) store.old store.new result }
+    ensures fails { FailsWith S.plain (S.honest store.new →
+        MessageUnclean message.now (view supplier.now.gln (S.content store.old)))
         (CannotBeRead (despatch_of message.now)) (S.broken store.old) (S.broken store.new) result }
     ensures stays { Stays S.content S.honest S.left store.old store.new }
 {
@@ -172,19 +149,16 @@ fn judged_despatch<S: Store>(
 }
 
 /// What comes of a message of the retailer: an ORDERS or a RECADV, for the supplier that it names.
-pub(crate) fn judged_for_retailer<S: Store>(
+pub(crate) fn judged_of_retailer<S: Store>(
     alloc: Global,
     register: &Register,
     store: &mut S,
     message: &RawMessage,
     incoming: IncomingMessage,
 ) -> Result<Judged, StoreFault>
-    ensures judged { S.honest store.new → Kept (view (named message.now) (S.content store.old)) →
-        IfOk result (λ judged. deliver_named register.now (message.now, incoming) (S.content store.old)
-        ≡ act_of judged (S.content store.old)) }
-    ensures fit { S.honest store.new → SoundUnder register.now.suppliers (S.content store.old) → PartiesRise (S.content store.old) →
-        IfOk result (λ judged. JudgedFits judged (S.content store.old)) }
-    ensures fails { FailsWith S.plain ⊥
+    ensures judged { JudgedOfRetailer S.content S.honest register.now deliver_retailers
+        (message.now, incoming) store.old store.new result }
+    ensures fails { FailsWith S.plain NoCause
         (UnreadOf (deliver_named register.now (message.now, incoming))) (S.broken store.old) (S.broken store.new) result }
     ensures stays { Stays S.content S.honest S.left store.old store.new }
 {
@@ -199,7 +173,7 @@ pub(crate) fn judged_for_retailer<S: Store>(
 }
 
 /// What comes of a message of a supplier: an ORDRSP or a DESADV.
-pub(crate) fn judged_for_supplier<S: Store>(
+pub(crate) fn judged_of_supplier<S: Store>(
     alloc: Global,
     register: &Register,
     supplier: &SupplierRow,
@@ -207,12 +181,10 @@ pub(crate) fn judged_for_supplier<S: Store>(
     message: &RawMessage,
     incoming: IncomingMessage,
 ) -> Result<Judged, StoreFault>
-    ensures judged { S.honest store.new → Kept (view supplier.now.gln (S.content store.old)) →
-        IfOk result (λ judged. deliver_suppliers (view supplier.now.gln) (parties_of register.now) supplier.now
-        (message.now, incoming) (S.content store.old) ≡ act_of judged (S.content store.old)) }
-    ensures fit { S.honest store.new → Registered register.now.suppliers supplier.now (S.content store.old) →
-        PartiesRise (S.content store.old) → IfOk result (λ judged. JudgedFits judged (S.content store.old)) }
-    ensures fails { FailsWith S.plain (S.honest store.new → MessageUnclean message.now (view supplier.now.gln (S.content store.old)))
+    ensures judged { JudgedOfSupplier S.content S.honest register.now supplier.now deliver_suppliers
+        (message.now, incoming) store.old store.new result }
+    ensures fails { FailsWith S.plain (S.honest store.new →
+        MessageUnclean message.now (view supplier.now.gln (S.content store.old)))
         (UnreadOf (deliver_suppliers (view supplier.now.gln) (parties_of register.now) supplier.now
         (message.now, incoming))) (S.broken store.old) (S.broken store.new) result }
     ensures stays { Stays S.content S.honest S.left store.old store.new }

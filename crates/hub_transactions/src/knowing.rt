@@ -11,7 +11,7 @@ ghost use Rattle.hub_order_lines.specs.KnownLines.{AddsUp, AreUnclean};
 ghost use Rattle.hub_rules.specs.Sound.{Kept};
 ghost use Rattle.hub_judges.specs.Known.{TellsDespatched, TellsForCancel, TellsForOrder, TellsForReceipt, TellsForResponse, TellsLines};
 ghost use Rattle.hub_judges.specs.Known.{TellsOrder};
-ghost use Rattle.hub_transactions.specs.Acts.{FailsWith, Stays, any_answer, no_answer};
+ghost use Rattle.hub_transactions.specs.Acts.{FailsWith, NoCause, Stays, any_answer, no_answer};
 
 use edi_base::{Items, MemoryFault, copied};
 use edi_goods::{Receipt, ReceiptUnit};
@@ -33,9 +33,11 @@ pub(crate) fn known_for_order<S: Store>(
     order: &Order,
 ) -> Result<Known, StoreFault>
     ensures told { S.honest store.new → Kept (view supplier.now (S.content store.old)) →
-        IfOk result (λ known. TellsForOrder known incoming.now order.now (view supplier.now (S.content store.old))) }
-    ensures unclean { S.honest store.new → S.broken store.old ≡ None → are_clean (S.content store.old) ≡ true → result ≢ Err Unclean }
-    ensures fails { FailsWith S.plain ⊥ no_answer (S.broken store.old) (S.broken store.new) result }
+        IfOk result (λ known.
+        TellsForOrder known incoming.now order.now (view supplier.now (S.content store.old))) }
+    ensures unclean { S.honest store.new → S.broken store.old ≡ None →
+        are_clean (S.content store.old) ≡ true → result ≢ Err Unclean }
+    ensures fails { FailsWith S.plain NoCause no_answer (S.broken store.old) (S.broken store.new) result }
     ensures stays { Stays S.content S.honest S.left store.old store.new }
 {
     let control = incoming.control.as_slice();
@@ -98,9 +100,11 @@ fn known_of_order<S: Store>(
         × (Kept (view supplier.now (S.content store.old)) →
         TellsDespatched (view supplier.now (S.content store.old)) known.lines)) }
     ensures remembered { IfOk result (λ known. known.remembered ≡ remembered) }
-    ensures unclean { S.honest store.new → S.broken store.old ≡ None → are_clean (S.content store.old) ≡ true →
+    ensures unclean { S.honest store.new → S.broken store.old ≡ None →
+        are_clean (S.content store.old) ≡ true →
         result ≡ Err Unclean → AreUnclean (lines_of (view supplier.now (S.content store.old)) order.now) }
-    ensures fails { FailsWith S.plain (S.honest store.new → AreUnclean (lines_of (view supplier.now (S.content store.old)) order.now))
+    ensures fails { FailsWith S.plain (S.honest store.new →
+        AreUnclean (lines_of (view supplier.now (S.content store.old)) order.now))
         no_answer (S.broken store.old) (S.broken store.new) result }
     ensures stays { Stays S.content S.honest S.left store.old store.new }
 {
@@ -131,8 +135,10 @@ pub(crate) fn known_for_response<S: Store>(
     ensures told { S.honest store.new → Kept (view supplier.now (S.content store.old)) →
         IfOk result (λ known. TellsForResponse known incoming.now response.now
         (view supplier.now (S.content store.old))) }
-    ensures unclean { S.honest store.new → S.broken store.old ≡ None → are_clean (S.content store.old) ≡ true →
-        result ≡ Err Unclean → AreUnclean (lines_of (view supplier.now (S.content store.old)) response.now.order) }
+    ensures unclean { S.honest store.new → S.broken store.old ≡ None →
+        are_clean (S.content store.old) ≡ true →
+        result ≡ Err Unclean →
+        AreUnclean (lines_of (view supplier.now (S.content store.old)) response.now.order) }
     ensures fails { FailsWith S.plain (S.honest store.new →
         AreUnclean (lines_of (view supplier.now (S.content store.old)) response.now.order))
         no_answer (S.broken store.old) (S.broken store.new) result }
@@ -153,8 +159,10 @@ pub(crate) fn known_for_cancel<S: Store>(
     cancel: &Cancel,
 ) -> Result<Known, StoreFault>
     ensures told { S.honest store.new →
-        IfOk result (λ known. TellsForCancel known cancel.now (view cancel.now.supplier (S.content store.old))) }
-    ensures unclean { S.honest store.new → S.broken store.old ≡ None → are_clean (S.content store.old) ≡ true →
+        IfOk result (λ known.
+        TellsForCancel known cancel.now (view cancel.now.supplier (S.content store.old))) }
+    ensures unclean { S.honest store.new → S.broken store.old ≡ None →
+        are_clean (S.content store.old) ≡ true →
         result ≡ Err Unclean →
         AreUnclean (lines_of (view cancel.now.supplier (S.content store.old)) cancel.now.order) }
     ensures fails { FailsWith S.plain (S.honest store.new →
@@ -189,11 +197,13 @@ fn pallets_of<S: Store>(
     units: &[ReceiptUnit],
 ) -> Result<Items<Option<PalletRow>>, StoreFault>
     ensures found { S.honest store.new →
-        IfOk result (λ pallets. map (λ unit. pallet_of (view supplier.now (S.content store.old)) unit.sscc) units.now
+        IfOk result (λ pallets.
+        map (λ unit. pallet_of (view supplier.now (S.content store.old)) unit.sscc) units.now
         ≡ pallets) }
     ensures each { IfOk result (λ pallets. length pallets ≡ length units.now) }
-    ensures unclean { S.honest store.new → S.broken store.old ≡ None → are_clean (S.content store.old) ≡ true → result ≢ Err Unclean }
-    ensures fails { FailsWith S.plain ⊥ any_answer (S.broken store.old) (S.broken store.new) result }
+    ensures unclean { S.honest store.new → S.broken store.old ≡ None →
+        are_clean (S.content store.old) ≡ true → result ≢ Err Unclean }
+    ensures fails { FailsWith S.plain NoCause any_answer (S.broken store.old) (S.broken store.new) result }
     ensures stays { Stays S.content S.honest S.left store.old store.new }
 {
     let mut pallets = Items::new(alloc);
@@ -217,8 +227,9 @@ pub(crate) fn known_for_receipt<S: Store>(
         IfOk result (λ known. TellsForReceipt known incoming.now receipt.now
         (view supplier.now (S.content store.old))) }
     ensures each { IfOk result (λ known. length known.pallets ≡ length receipt.now.units) }
-    ensures unclean { S.honest store.new → S.broken store.old ≡ None → are_clean (S.content store.old) ≡ true → result ≢ Err Unclean }
-    ensures fails { FailsWith S.plain ⊥ no_answer (S.broken store.old) (S.broken store.new) result }
+    ensures unclean { S.honest store.new → S.broken store.old ≡ None →
+        are_clean (S.content store.old) ≡ true → result ≢ Err Unclean }
+    ensures fails { FailsWith S.plain NoCause no_answer (S.broken store.old) (S.broken store.new) result }
     ensures stays { Stays S.content S.honest S.left store.old store.new }
 {
     let control = incoming.control.as_slice();

@@ -9,7 +9,7 @@ ghost use Rattle.hub_law.specs.MailText.{list_text};
 ghost use Rattle.hub_law.specs.Mark.{Whole};
 ghost use Rattle.hub_law.specs.Replies.{unknown, done, entry_reply};
 ghost use Rattle.hub_law.specs.Requests.{taken};
-ghost use Rattle.hub_transactions.specs.Acts.{Carried, FailsWith, Unharmed, Stays, as_told, no_answer};
+ghost use Rattle.hub_transactions.specs.Acts.{Carried, FailsWith, NoCause, Unharmed, Stays, as_told, no_answer};
 
 use edi_base::{Items, MemoryFault, copied};
 use gs1_ids::Gln;
@@ -55,7 +55,7 @@ pub fn mailbox_list<S: Store>(
     ensures reply { S.honest store.new →
         IfOk result (λ reply.
         reply ≡ done (list_text (untaken_after (view supplier.now (S.content store.old)) number))) }
-    ensures fails { FailsWith S.plain ⊥ no_answer (S.broken store.old) (S.broken store.new) result }
+    ensures fails { FailsWith S.plain NoCause no_answer (S.broken store.old) (S.broken store.new) result }
     ensures stays { Stays S.content S.honest S.left store.old store.new }
 {
     let heads = store.mail_after(supplier, number, LISTED_AND_ONE)?;
@@ -74,7 +74,7 @@ pub fn mailbox_entry<S: Store>(
     ensures reply { S.honest store.new →
         IfOk result (λ reply. reply ≡ entry_reply hub.now
         (entry_at (view supplier.now (S.content store.old)) number)) }
-    ensures fails { FailsWith S.plain ⊥ no_answer (S.broken store.old) (S.broken store.new) result }
+    ensures fails { FailsWith S.plain NoCause no_answer (S.broken store.old) (S.broken store.new) result }
     ensures stays { Stays S.content S.honest S.left store.old store.new }
 {
     let Some(entry) = store.mail_item(supplier, number)? else {
@@ -105,7 +105,7 @@ pub fn take_entry<S: Store>(
         Registered register.suppliers s (S.content store.old) → PartiesRise (S.content store.old) →
         Carried S.content S.honest S.left store.old store.new (λ t.
         taken Whole (entry_at (view supplier.now t) number) t) as_told result }
-    ensures fails { FailsWith S.plain ⊥ no_answer (S.broken store.old) (S.broken store.new) result }
+    ensures fails { FailsWith S.plain NoCause no_answer (S.broken store.old) (S.broken store.new) result }
     ensures unharmed { Unharmed S.content S.honest store.old store.new result }
 {
     acts_stay_sound();

@@ -1,21 +1,19 @@
 //! One message of an interchange.
-ghost use Rattle.std.specs.Prelude.{◌≡◌, ◌∷◌, ◌++◌, IfOk, OnErr};
+ghost use Rattle.std.specs.Prelude.{◌≡◌};
 ghost use Rattle.hub_parties.specs.Rows.{parties_of};
 ghost use Rattle.hub_tables.specs.Tables.{Tables, view};
 ghost use Rattle.hub_rules.specs.Laws.{SoundUnder, Registered, PartiesRise};
 ghost use Rattle.hub_law.specs.Messages.{incoming, deliver_suppliers};
-ghost use Rattle.hub_law.specs.Replies.{told_words};
 ghost use Rattle.hub_law.specs.Requests.{deliver_named};
-ghost use Rattle.hub_law.specs.Widths.{line};
-ghost use Rattle.hub_transactions.specs.Acts.{Carried, FailsWith, OfAny, Unharmed};
+ghost use Rattle.hub_transactions.specs.Acts.{Carried, FailsWith, NoCause, OfAny, Unharmed};
 ghost use Rattle.hub_transactions.specs.Judged.{act_of, JudgedFits};
-ghost use Rattle.hub_transactions.specs.Messages.{MayStop};
+ghost use Rattle.hub_transactions.specs.Messages.{AddsLine};
 ghost use Rattle.hub_transactions.specs.Named.{MessageUnclean};
 ghost use Rattle.hub_texts.specs.Decision.{told_of};
 
 use crate::carrying::{carry_out_judged, told_of_judged};
 use crate::incoming::incoming_of;
-use crate::judged::{Judged, judged_for_retailer, judged_for_supplier};
+use crate::judged::{Judged, judged_of_retailer, judged_of_supplier};
 use edi_envelope::{Interchange, Moment, RawMessage};
 use hub_parties::SupplierRow;
 use hub_register::Register;
@@ -34,13 +32,11 @@ fn commit_and_tell<S: Store>(
 ) -> Result<Decision, StoreFault>
     ensures carried { JudgedFits judged.now (S.content store.old) →
         Carried S.content S.honest S.left store.old store.new (act_of judged.now) told_of result }
-    ensures fails { FailsWith S.plain ⊥
-        (λ told. (t : Tables) → (act_of judged.now t).0 ≡ told_of told) (S.broken store.old) (S.broken store.new) result }
+    ensures fails { FailsWith S.plain NoCause
+        (λ told. (t : Tables) → (act_of judged.now t).0 ≡ told_of told)
+        (S.broken store.old) (S.broken store.new) result }
     ensures unharmed { Unharmed S.content S.honest store.old store.new result }
-    ensures line { IfOk result (λ told. reply.new.items ≡ reply.old.items
-        ++ line (message.now.reference ∷ message.now.kind ∷ told_words (told_of told))) }
-    ensures reply_stays { OnErr result (reply.new.items ≡ reply.old.items) }
-    ensures room { MayStop reply.old → MayStop reply.new }
+    ensures reply { AddsLine message.now reply.old reply.new result }
 {
     let line = message_line(alloc, message, told_of_judged(judged))?;
     reply.try_reserve(line.len() + STOPPED.len())?;
@@ -61,20 +57,18 @@ pub fn take_retailers_message<S: Store>(
     message: &RawMessage,
     reply: &mut Vec<u8>,
 ) -> Result<Decision, StoreFault>
-    ensures carried { SoundUnder register.now.suppliers (S.content store.old) → PartiesRise (S.content store.old) →
+    ensures carried { SoundUnder register.now.suppliers (S.content store.old) →
+        PartiesRise (S.content store.old) →
         Carried S.content S.honest S.left store.old store.new
         (deliver_named register.now (message.now, incoming moment interchange.now message.now)) told_of result }
-    ensures fails { FailsWith S.plain ⊥
+    ensures fails { FailsWith S.plain NoCause
         (OfAny (deliver_named register.now (message.now, incoming moment interchange.now message.now)) told_of)
         (S.broken store.old) (S.broken store.new) result }
     ensures unharmed { Unharmed S.content S.honest store.old store.new result }
-    ensures line { IfOk result (λ told. reply.new.items ≡ reply.old.items
-        ++ line (message.now.reference ∷ message.now.kind ∷ told_words (told_of told))) }
-    ensures reply_stays { OnErr result (reply.new.items ≡ reply.old.items) }
-    ensures room { MayStop reply.old → MayStop reply.new }
+    ensures reply { AddsLine message.now reply.old reply.new result }
 {
     let came = incoming_of(alloc, moment, interchange, message)?;
-    let judged = judged_for_retailer(alloc, register, store, message, came)?;
+    let judged = judged_of_retailer(alloc, register, store, message, came)?;
     commit_and_tell(alloc, store, message, &judged, reply)
 }
 
@@ -94,16 +88,14 @@ pub fn take_suppliers_message<S: Store>(
         Carried S.content S.honest S.left store.old store.new
         (deliver_suppliers (view supplier.now.gln) (parties_of register.now) supplier.now
         (message.now, incoming moment interchange.now message.now)) told_of result }
-    ensures fails { FailsWith S.plain (S.honest store.new → MessageUnclean message.now (view supplier.now.gln (S.content store.old)))
+    ensures fails { FailsWith S.plain (S.honest store.new →
+        MessageUnclean message.now (view supplier.now.gln (S.content store.old)))
         (OfAny (deliver_suppliers (view supplier.now.gln) (parties_of register.now) supplier.now
         (message.now, incoming moment interchange.now message.now)) told_of) (S.broken store.old) (S.broken store.new) result }
     ensures unharmed { Unharmed S.content S.honest store.old store.new result }
-    ensures line { IfOk result (λ told. reply.new.items ≡ reply.old.items
-        ++ line (message.now.reference ∷ message.now.kind ∷ told_words (told_of told))) }
-    ensures reply_stays { OnErr result (reply.new.items ≡ reply.old.items) }
-    ensures room { MayStop reply.old → MayStop reply.new }
+    ensures reply { AddsLine message.now reply.old reply.new result }
 {
     let came = incoming_of(alloc, moment, interchange, message)?;
-    let judged = judged_for_supplier(alloc, register, supplier, store, message, came)?;
+    let judged = judged_of_supplier(alloc, register, supplier, store, message, came)?;
     commit_and_tell(alloc, store, message, &judged, reply)
 }

@@ -61,7 +61,8 @@ fn with_pallets<S: Store>(
     ensures text { S.honest store.new → (view supplier.now (S.content store.old)).lines ≡ lines.now →
         IfOk result (λ whole. whole.items ≡ text.items
         ++ flat_map (pallet_text (view supplier.now (S.content store.old))) pallets.now) }
-    ensures unclean { S.honest store.new → S.broken store.old ≡ None → are_clean (S.content store.old) ≡ true →
+    ensures unclean { S.honest store.new → S.broken store.old ≡ None →
+        are_clean (S.content store.old) ≡ true →
         result ≡ Err Unclean → PalletUnclean (view supplier.now (S.content store.old)) lines.now pallets.now }
     ensures fails { FailsWith S.plain (S.honest store.new →
         PalletUnclean (view supplier.now (S.content store.old)) lines.now pallets.now)
@@ -88,9 +89,11 @@ pub fn status_report<S: Store>(
 ) -> Result<Reply, StoreFault>
     ensures reply { S.honest store.new → Kept (view supplier.now (S.content store.old)) →
         IfOk result (λ reply. reply ≡ done (status_text (view supplier.now (S.content store.old)))) }
-    ensures unclean { S.honest store.new → S.broken store.old ≡ None → are_clean (S.content store.old) ≡ true →
+    ensures unclean { S.honest store.new → S.broken store.old ≡ None →
+        are_clean (S.content store.old) ≡ true →
         result ≡ Err Unclean → StatusUnclean (view supplier.now (S.content store.old)) }
-    ensures fails { FailsWith S.plain (S.honest store.new → StatusUnclean (view supplier.now (S.content store.old)))
+    ensures fails { FailsWith S.plain (S.honest store.new →
+        StatusUnclean (view supplier.now (S.content store.old)))
         no_answer (S.broken store.old) (S.broken store.new) result }
     ensures stays { Stays S.content S.honest S.left store.old store.new }
 {

@@ -1,43 +1,43 @@
 -- Despatch advices in SQL.
-use Rattle.std.proofs.Common.{◌≡◌, ◌&&◌, ℕ, true, None, List, [], ◌∷◌, map, codes, Ok, Err, Result, OnOk, IsTrue, refl}
-use Rattle.std.proofs.Common.{sym, ap, subst, ◌∙◌, arith}
-use Rattle.std.specs.Ordering.{is_eq}
-use Rattle.std.proofs.lemmas.Bool.{and_parts}
-use Rattle.std.proofs.lemmas.Cmp.{tied_itself}
+use Rattle.std.proofs.Common.{ℕ, List, [], ◌∷◌, codes, refl}
 use Rattle.sqlite_value.specs.declared.value.Value.TheVariants.{Null, Int, Blob}
-use Rattle.sqlite_value.specs.declared.keys.Collation.TheVariants.{Binary}
-use Rattle.sqlite_value.specs.Keys.{plain, first_key}
 use Rattle.sqlite_value.specs.Order.{Row, column}
 use Rattle.sqlite_sql.specs.Term.{Term, lit, col}
-use Rattle.sqlite_trees.specs.Tree.{Trees, put_row, with_tree}
-use Rattle.sqlite_schema.specs.declared.schema.Constraint.TheVariants.{Unique}
 use Rattle.sqlite_schema.specs.declared.command.Source.TheVariants.{Values}
 use Rattle.sqlite_schema.specs.declared.command.Command.TheVariants.{Insert}
-use Rattle.sqlite_schema.specs.Rules.{agree, equal, Keeps, Obeys}
-use Rattle.sqlite_rules.specs.declared.error.Rowids.TheVariants.{Chosen}
-use Rattle.sqlite_rules.specs.Edit.{edit_of, edited, next_rowid}
 use Rattle.sqlite_tied.specs.Compute.{everything}
-use Rattle.sqlite.specs.declared.error.Error.{Error}
 use Rattle.sqlite.specs.Listing.{understood}
-use Rattle.sqlite.specs.State.{State, Writes, ExecutesInside}
-use Rattle.sqlite.proofs.Callers.{IsPlain, command_of, runs_as}
-use Rattle.sql_rows.specs.Cells.{AreOf}
 use Rattle.sql_rows.proofs.Inserts.{cast_null}
-use Rattle.sql_rows.proofs.Refusals.{not_unique, refused}
-use Rattle.sql_rows.proofs.Rowids.{put_next}
-use Rattle.sql_rows.proofs.Unique.{keeps_unique}
-use Rattle.hub_tables.specs.Change.{apply_all}
 use Rattle.hub_tables.specs.Rows.{advice_cmp}
-use Rattle.hub_tables.specs.Sets.{Rising}
 use Rattle.hub_tables.specs.declared.change.Change.TheVariants.{AddAdvice}
 use Rattle.hub_tables.specs.declared.rows.AdviceRow.{AdviceRow}
 use Rattle.hub_tables.proofs.KindOrders.{advice_total}
-use Rattle.hub_schema.specs.Rows.{advice_in, in_key_order, tables_in}
-use Rattle.hub_schema.specs.Schema.{hub_schema, advice_table}
-use Rattle.hub_schema.specs.State.{IsHub, Makes}
-use Rattle.hub_schema.proofs.Single.{order_kinds, advice_cells}
-use Rattle.hub_writes.proofs.Alters.{Alters, adds, still_hub}
-use Rattle.hub_writes.proofs.Keys.{listed_last, is_new, bytes_are}
+use Rattle.hub_schema.specs.Rows.{advice_in}
+use Rattle.hub_schema.specs.Schema.{advice_table}
+use Rattle.hub_schema.proofs.Single.{advice_cells}
+use Rattle.hub_writes.proofs.Adds.{Adds, IsTied, adds}
+use Rattle.hub_writes.proofs.Alters.{ReadsAs}
+use Rattle.hub_writes.proofs.Keys.{agreeing, bytes_are}
+use Rattle.hub_writes.proofs.RowKinds.{Kind}
+
+abbrev pub advice_kind : Kind AdviceRow
+advice_kind = record {
+  cmp = advice_cmp;
+  total = advice_total;
+  read = advice_in;
+  place = 3;
+  table = advice_table;
+  found = refl;
+  stored = λ _. refl;
+  later = refl;
+  typed = advice_cells;
+  rows = λ t. t.advices;
+  with_rows = λ t rows. record t { advices = rows };
+  set = λ _ _. refl;
+  held = λ _. refl;
+  shows = λ _ _. refl;
+  rises = λ _ rising. rising.advices;
+}
 
 abbrev pub add_advice : List ℕ
 add_advice = codes "INSERT INTO advice (supplier, number) VALUES (?1, ?2)"
@@ -45,125 +45,25 @@ add_advice = codes "INSERT INTO advice (supplier, number) VALUES (?1, ?2)"
 abbrev terms : List Term
 terms = lit Null ∷ col 0 0 ∷ col 0 1 ∷ []
 
-pub add_advice_is : command_of (understood hub_schema add_advice) ≡ Insert 3 (Values terms 3)
+add_advice_is : ReadsAs add_advice (Insert 3 (Values terms 3))
 unfolding understood everything
-add_advice_is = refl
-
-pub add_advice_plain : IsPlain (understood hub_schema add_advice)
-unfolding understood everything
-add_advice_plain = (refl, refl)
+add_advice_is = (refl, (refl, refl))
 
 module _ (row : AdviceRow) where
   abbrev pub cells : Row
   cells = Blob row.supplier ∷ Blob row.number ∷ []
 
-  -- the row that is stored
-  abbrev stored : List Row → Row
-  stored rows = Int (next_rowid rows) ∷ cells
+  tied : IsTied advice_kind row cells
+  tied n r typed = (
+    λ e.
+        let parts = agreeing (1 ∷ 2 ∷ []) r (Int n ∷ cells) e in
+        let supplier = bytes_are (column r 1) row.supplier typed.0 parts.0 in
+        let number = bytes_are (column r 2) row.number typed.1.0 parts.1.0 in
+        λ i. advice_cmp (record (advice_in r) { supplier = supplier i; number = number i }) row,
+    tt,
+  )
 
-  edit_is : (db : Trees)
-      → edited db (edit_of db advice_table [] Chosen 0 ((Null ∷ cells) ∷ [])) ≡ put_row (stored (db 5)) (db 5)
-  edit_is db = rw cast_null
-
-  tables_are : (rows : List Row) (old new : State) → Alters 5 rows old new
-      → tables_in new.now.trees ≡ record (tables_in old.now.trees) {
-        advices = in_key_order advice_cmp (map advice_in
-            rows);
-      }
-  tables_are rows old new it =
-      let kept = it.others in
-      rw (
-        it.rows,
-        kept.1.0 (λ e. absurd (omega (arith, e))),
-        kept.1.1.0 (λ e. absurd (omega (arith, e))),
-        kept.1.1.1.1.0 (λ e. absurd (omega (arith, e))),
-        kept.1.1.1.1.1.0 (λ e. absurd (omega (arith, e))),
-        kept.1.1.1.1.1.1.0 (λ e. absurd (omega (arith, e))),
-        kept.1.1.1.1.1.1.1.0 (λ e. absurd (omega (arith, e))),
-        kept.1.1.1.1.1.1.1.1.0 (λ e. absurd (omega (arith, e))),
-        kept.1.1.1.1.1.1.1.1.1.0 (λ e. absurd (omega (arith, e))),
-        kept.1.1.1.1.1.1.1.1.1.1.0 (λ e. absurd (omega (arith, e))),
-        kept.1.1.1.1.1.1.1.1.1.1.1.0 (λ e. absurd (omega (arith, e))),
-      )
-
-  adds_advice : (old new : State) (text : List ℕ) (count : ℕ) → IsHub old → old.in_transaction ≡ true
-      → Writes old new None (Insert 3 (Values terms 3)) text cells count
-      → Makes (apply_all (AddAdvice row ∷ [])) old new
-  adds_advice old new text count hub begun w =
-      let db = old.now.trees in
-      let it = adds 3 5 _ _ _ _ _ refl (λ _ _. refl) old new hub begun hub.ordered.1.1.1.0 cells cells _ _ _ count w
-      (edit_is db) in
-      let rows = listed_last advice_total advice_in (db 5) (stored (db 5)) in
-      record {
-        hub = still_hub 5 _ old new (λ e. absurd (omega (arith, e))) hub it;
-        tables = tables_are _ old new it ∙ ap (λ rows. record (tables_in db) { advices = rows }) rows;
-        committed = it.committed;
-        mode = it.mode;
-      }
-
-  pub makes : (old new : State) (r : Result ℕ Error) → IsHub old → old.in_transaction ≡ true
-      → ExecutesInside 0 add_advice cells old new r → OnOk r (Makes (apply_all (AddAdvice row ∷ [])) old new)
-  makes old new (Err e) hub begun h = tt
-  makes old new (Ok count) hub begun h =
-      adds_advice old new _ count hub begun (runs_as add_advice cells old new hub_schema hub.schema _ add_advice_is
-      add_advice_plain count h.0)
-
-  tied : (r : Row) (rows : List Row) → AreOf order_kinds 0 r
-      → agree plain (1 ∷ 2 ∷ []) r (1 ∷ 2 ∷ []) (stored rows) ≡ true → is_eq (advice_cmp (advice_in r) row) ≡ true
-  unfolding first_key
-  tied r rows typed e =
-      let p1 = and_parts (equal Binary (column r 1) (Blob row.supplier)) (equal Binary (column r 2) (Blob row.number)
-      && true) e in
-      let p2 = and_parts (equal Binary (column r 2) (Blob row.number)) (true) p1.1 in
-      let e1 = bytes_are (column r 1) row.supplier typed.0 p1.0 in
-      let e2 = bytes_are (column r 2) row.number typed.1.0 p2.0 in
-      (λ i. is_eq (advice_cmp (record (advice_in r) { supplier = e1 i; number = e2 i }) row))
-      ∙ ap is_eq (tied_itself advice_total row)
-
-  keeps : (s : State) → IsHub s → Rising (apply_all (AddAdvice row ∷ []) (tables_in s.now.trees))
-      → Keeps Unique hub_schema (with_tree s.now.trees 5 (edited s.now.trees (edit_of s.now.trees advice_table []
-      Chosen 0 ((Null ∷ cells) ∷ []))))
-  keeps s hub rising =
-      let db = s.now.trees in
-      let new = stored (db 5) in
-      let typed = advice_cells s.now hub.schema hub.sound hub.ordered in
-      let fresh = is_new advice_total advice_in row plain (1 ∷ 2
-      ∷ []) new (AreOf order_kinds 0) (λ r. tied r (db 5)) (db 5) typed rising.advices in
-      let rules = subst (λ schema. Obeys schema db) hub.schema hub.sound.obeys in
-      subst (λ rows. Keeps Unique hub_schema (with_tree db 5 rows)) (sym (edit_is db
-      ∙ put_next (db 5) cells hub.ordered.1.1.1.0))
-      (keeps_unique db 5 new (next_rowid (db 5)) refl hub_schema (
-        λ e. absurd cc,
-        (
-          λ e. absurd cc,
-          (
-            λ _. fresh,
-            (
-              λ e. absurd cc,
-              (
-                λ e. absurd cc,
-                (
-                  λ e. absurd cc,
-                  (
-                    λ e. absurd cc,
-                    (
-                      λ e. absurd cc,
-                      (
-                        λ e. absurd cc,
-                        (λ e. absurd cc, (λ e. absurd cc, (λ e. absurd cc, tt))),
-                      ),
-                    ),
-                  ),
-                ),
-              ),
-            ),
-          ),
-        ),
-      ) (rules.rules Unique))
-
-  pub fits_not : (old new : State) → ExecutesInside 0 add_advice cells old new (Err not_unique) → IsTrue old.is_open
-      × (IsHub old → Rising (apply_all (AddAdvice row ∷ []) (tables_in old.now.trees)) → ⊥)
-  fits_not old new h =
-      let it = refused hub_schema 3 5 _ _ _ _ _ refl (λ _ _. refl) add_advice terms 3 add_advice_is add_advice_plain
-      old new cells h in
-      (it.0, λ hub rising. it.1 hub.schema (keeps old hub rising))
+  pub adds_advice : Adds (AddAdvice row) add_advice cells
+  adds_advice =
+      adds advice_kind (AddAdvice row) row cells add_advice terms 3 add_advice_is (λ t. refl)
+      (λ t. refl) (λ db. rw cast_null) (λ n. refl) tied

@@ -1,30 +1,25 @@
 -- One table of a hub is altered, inside a transaction.
-use Rattle.std.proofs.Common.{◌≡◌, ◌≢◌, ◌⊎◌, inl, inr, ℕ, ◌/◌, ◌==◌, Bool, true, false, length, List, [], ◌∷◌, ◌++◌}
-use Rattle.std.proofs.Common.{slice_get, map, pos, if◌then◌else◌, Some, None, IsTrue, refl, sym, subst, ◌∙◌, arith}
+use Rattle.std.proofs.Common.{◌≡◌, ◌≢◌, inl, inr, ℕ, ◌==◌, true, false, List, [], ◌∷◌, map, pos, if◌then◌else◌, IsTrue}
+use Rattle.std.proofs.Common.{sym, ap, subst, ◌∙◌, arith}
 use Rattle.std.specs.List.{AllByRecursion}
-use Rattle.std.proofs.lemmas.Bool.Decides.{nat_tests}
+use Rattle.std.proofs.lemmas.Bool.Decides.{eqb_tells, nat_tests}
 use Rattle.sqlite_value.specs.declared.value.Value.TheVariants.{Int}
-use Rattle.sqlite_value.specs.declared.keys.Order as keys
 use Rattle.sqlite_value.specs.Order.{Row, column}
-use Rattle.sqlite_sql.specs.Term.{Term}
-use Rattle.sqlite_trees.specs.Tree.{Trees, put_row}
+use Rattle.sqlite_trees.specs.Tree.{Trees, with_tree}
 use Rattle.sqlite_trees.specs.View.{IsShaped}
 use Rattle.sqlite_trees.specs.declared.store.Shape.TheVariants as shape
-use Rattle.sqlite_trees.proofs.TreeLemmas.{IsShaped-put_row}
-use Rattle.sqlite_schema.specs.declared.schema.Column.{Column}
-use Rattle.sqlite_schema.specs.declared.schema.Keys.TheVariants.{Enforced}
-use Rattle.sqlite_schema.specs.declared.command.Source.TheVariants.{Values}
-use Rattle.sqlite_schema.specs.declared.command.Command.TheVariants.{Insert}
-use Rattle.sqlite_rules.specs.declared.error.Rowids.TheVariants.{Chosen}
-use Rattle.sqlite_rules.specs.Edit.{edit_of, edited, next_rowid}
-use Rattle.sqlite_rules.specs.Action.{works}
-use Rattle.sqlite.specs.Effect.{IsDatabase, value_rows}
-use Rattle.sqlite.specs.State.{State, Writes, Shows}
-use Rattle.sql_rows.specs.Tables.{plain_table}
-use Rattle.sql_rows.proofs.Inserts.{inserts}
-use Rattle.sql_rows.proofs.Rowids.{put_next}
+use Rattle.sqlite_schema.specs.declared.command.Command.{Command}
+use Rattle.sqlite.specs.Effect.{IsDatabase}
+use Rattle.sqlite.specs.Listing.{understood}
+use Rattle.sqlite.specs.State.{State, Shows}
+use Rattle.sqlite.proofs.Callers.{IsPlain, command_of}
+use Rattle.hub_schema.specs.Rows.{tables_in}
 use Rattle.hub_schema.specs.Schema.{hub_schema}
 use Rattle.hub_schema.specs.State.{IsHub}
+
+-- what a text is read as, and that there is no more to it
+abbrev pub ReadsAs : List ℕ → Command → Type 0
+ReadsAs sql command = (command_of (understood hub_schema sql) ≡ command) × IsPlain (understood hub_schema sql)
 
 abbrev pub all_trees : List ℕ
 all_trees = 0 ∷ 1 ∷ 3 ∷ 5 ∷ 7 ∷ 10 ∷ 12 ∷ 14 ∷ 16 ∷ 18 ∷ 20 ∷ 22 ∷ []
@@ -43,28 +38,55 @@ pub record Alters (tree : ℕ) (after : List Row) (old new : State) : Type 0 whe
   pub committed : new.committed ≡ old.committed
   pub mode : IsTrue new.in_transaction
 
-either : (n m : ℕ) (b : Bool) → (n == m) ≡ b → (n ≡ m) ⊎ (n ≢ m)
-either n m true e = inl (grind (arith, nat_tests, e))
-either n m false e = inr (λ same. absurd (grind (arith, nat_tests, e, same)))
+module _ (tree : ℕ) (rows : List Row) (old new : Trees) (is : new tree ≡ rows) where
+  each_tree : (trees : List ℕ) → KeepsOthers tree trees old new
+      → AllByRecursion (λ t. new t ≡ with_tree old tree rows t) trees
+  each_tree [] others = tt
+  each_tree (t ∷ trees) others = (
+    elim (eqb_tells t tree) [
+      | inl here ↦ ap new here.1 ∙ is ∙ ap (λ b. if b then rows else old t) (sym here.0)
+      | inr other ↦ others.0 other.1 ∙ ap (λ b. if b then rows else old t) (sym other.0)
+    ],
+    each_tree trees others.1,
+  )
+
+-- all tables, with the altered one in its place
+pub tables_are : (tree : ℕ) (rows : List Row) (old new : State) → Alters tree rows old new
+    → tables_in new.now.trees ≡ tables_in (with_tree old.now.trees tree rows)
+tables_are tree rows old new it =
+    let are = each_tree tree rows old.now.trees new.now.trees it.rows all_trees it.others in
+    rw (
+      are.1.0,
+      are.1.1.0,
+      are.1.1.1.0,
+      are.1.1.1.1.0,
+      are.1.1.1.1.1.0,
+      are.1.1.1.1.1.1.0,
+      are.1.1.1.1.1.1.1.0,
+      are.1.1.1.1.1.1.1.1.0,
+      are.1.1.1.1.1.1.1.1.1.0,
+      are.1.1.1.1.1.1.1.1.1.1.0,
+      are.1.1.1.1.1.1.1.1.1.1.1.0,
+    )
 
 still_shaped : (tree : ℕ) (trees : List ℕ) (old new : Trees) → IsShaped shape.Table (new tree)
     → KeepsOthers tree trees old new → AllByRecursion (λ t. IsShaped shape.Table (old t)) trees
     → AllByRecursion (λ t. IsShaped shape.Table (new t)) trees
 still_shaped tree [] old new here others all = tt
 still_shaped tree (t ∷ trees) old new here others all = (
-  elim (either t tree (t == tree) refl) [
-    | inl same ↦ subst (λ n. IsShaped shape.Table (new n)) (sym same) here
-    | inr other ↦ subst (IsShaped shape.Table) (sym (others.0 other)) all.0
+  elim (eqb_tells t tree) [
+    | inl same ↦ subst (λ n. IsShaped shape.Table (new n)) (sym same.1) here
+    | inr other ↦ subst (IsShaped shape.Table) (sym (others.0 other.1)) all.0
   ],
   still_shaped tree trees old new here others.1 all.1,
 )
 
-pub still_hub : (tree : ℕ) (rows : List Row) (old new : State) → 0 ≢ tree → IsHub old → Alters tree rows old new
-    → IsHub new
+pub still_hub : (tree : ℕ) (rows : List Row) (old new : State) → (0 == tree) ≡ false → IsHub old
+    → Alters tree rows old new → IsHub new
 still_hub tree rows old new other hub it = record {
   schema = it.schema;
   numbered = subst (λ (rs : List Row). map (λ row. column row 1) rs ≡ Int (pos 3)
-      ∷ []) (sym (it.others.0 other)) hub.numbered;
+      ∷ []) (sym (it.others.0 (λ same. absurd (grind (arith, nat_tests, other, same))))) hub.numbered;
   ordered = still_shaped tree all_trees old.now.trees new.now.trees (subst (IsShaped shape.Table) (sym it.rows)
       it.shaped) it.others hub.ordered;
   sound = it.sound;
@@ -85,25 +107,3 @@ altered tree rows old new begun schema sound shaped is others shown = record {
   committed = (subst (λ b. Shows old new new.now (if b then old.committed else new.now) b) begun shown).committed_is;
   mode = shown.mode ∙ begun;
 }
-
-module _ (place tree : ℕ) (name : List ℕ) (columns : List Column) (primary : List ℕ) (uniques : List (List ℕ)) (orders
-    : List keys.Order)
-    (found : slice_get hub_schema.tables place ≡ Some (plain_table tree name columns primary uniques orders)) (still :
-    (olds news : List Row) → works hub_schema Enforced 0 tree olds news ≡ [])
-    (old new : State) (hub : IsHub old) (begun : old.in_transaction ≡ true) (shaped : IsShaped shape.Table
-    (old.now.trees tree)) where
-  -- an INSERT adds one row behind the others
-  pub adds : (cells params : Row) (text : List ℕ) (terms : List Term) (width count : ℕ)
-      → Writes old new None (Insert place (Values terms width)) text params count
-      → edited old.now.trees (edit_of old.now.trees (plain_table tree name columns primary uniques orders) [] Chosen 0
-      (value_rows (params ++ []) width (length terms / width) terms))
-      ≡ put_row (Int (next_rowid (old.now.trees tree)) ∷ cells) (old.now.trees tree)
-      → Alters tree (old.now.trees tree ++ (Int (next_rowid (old.now.trees tree)) ∷ cells) ∷ []) old new
-  adds cells params text terms width count w edit =
-      let before = old.now.trees tree in
-      let row : Row = Int (next_rowid before) ∷ cells in
-      let did = inserts hub_schema place tree name columns primary uniques orders found still old new params text terms
-      width count hub.schema w in
-      let last = put_next before cells shaped in
-      altered tree _ old new begun did.schema_is w.sound (subst (IsShaped shape.Table) last (IsShaped-put_row row
-      before refl shaped)) (did.step.rows ∙ edit ∙ last) did.step.tables w.shown

@@ -31,7 +31,7 @@ is_founded rows s hub same = record {
   rows = same;
 }
 
-module _ {S : Type 0} (g : Ghosts S) (old mid end : Held S) (asked : Type 0) (rows : Tables)
+module _ {S : Type 0} (g : Ghosts S) (old mid end out : Held S) (same : end ≡ out) (asked : Type 0) (rows : Tables)
     (idle : old.in_transaction ≡ false)
     (settled : IsTrue (state g old).is_open → (state g old).now ≡ (state g old).committed) where
   abbrev begun : State
@@ -50,20 +50,27 @@ module _ {S : Type 0} (g : Ghosts S) (old mid end : Held S) (asked : Type 0) (ro
         is_open = up ∙ sym before;
       }
 
+  -- what the call gives back
+  given : (result told : Result (Unit {0}) StoreFault) → result ≡ told
+      → FoundsTo asked rows (state g old) (state g end) told → FoundsTo asked rows (state g old) (state g out) result
+  given result told is founds =
+      subst (λ (h : Held S). FoundsTo asked rows (state g old) (state g h) result) same
+      (subst (FoundsTo asked rows (state g old) (state g end)) (sym is) founds)
+
   module _ (kept : HasCleanDisk (state g mid) → KeepsCommit begun (state g mid))
       (one : Survives begun (state g mid) (λ _. ⊥)) (quiet : end.in_transaction ≡ false) where
     -- the rows were not made, and the transaction is rolled back
     pub failed : (fault : StoreFault) → (HasCleanDisk (state g end) → IsRolledBack (state g mid) (state g end))
-        → Survives (state g mid) (state g end) (λ _. ⊥)
-        → FoundsTo asked rows (state g old) (state g end) (Err fault)
-    failed fault back last = record {
+        → Survives (state g mid) (state g end) (λ _. ⊥) → (result : Result (Unit {0}) StoreFault) → result ≡ Err fault
+        → FoundsTo asked rows (state g old) (state g out) result
+    failed fault back last result is = given result (Err fault) is (record {
       done = λ clean so. tt;
       durable = λ clean. tt;
       kept = λ clean so up. back_again (kept (clean_before (state g mid) (state g end) _ last clean)) (back clean) up;
       mode = quiet;
       crash = survives_then (state g old) (state g mid) (state g end) _ _ _ (λ _ db none. absurd none)
           (λ _ db none. absurd none) (survives_begin g old (state g mid) _ one) last;
-    }
+    })
 
     module _ (makes : HasCleanDisk (state g mid) → asked → Makes (λ _. rows) begun (state g mid))
         (last : Survives (state g mid) (state g end) (λ db. db ≡ (state g mid).now.trees)) where
@@ -88,8 +95,9 @@ module _ {S : Type 0} (g : Ghosts S) (old mid end : Held S) (asked : Type 0) (ro
           → OnOk r (Shows (state g mid) (state g end) (state g mid).now (state g mid).now false))
           → (HasCleanDisk (state g end) → IfErr r (FailsToCommit (state g mid) (state g end)))
           → ((db : Trees) → IsTrue (state g end).is_open → (state g end).may_leave db
-          → db ≡ (state g end).committed.trees) → FoundsTo asked rows (state g old) (state g end) (ended r)
-      succeeded (Ok u) ok err law = record {
+          → db ≡ (state g end).committed.trees) → (result : Result (Unit {0}) StoreFault) → result ≡ ended r
+          → FoundsTo asked rows (state g old) (state g out) result
+      succeeded (Ok u) ok err law result is = given result (ended (Ok u)) is (record {
         done = λ clean so.
             let did = makes (early clean) so in
             let shows = ok clean in (
@@ -101,11 +109,11 @@ module _ {S : Type 0} (g : Ghosts S) (old mid end : Held S) (asked : Type 0) (ro
         kept = λ clean so up. tt;
         mode = quiet;
         crash = survived;
-      }
-      succeeded (Err e) ok err law = record {
+      })
+      succeeded (Err e) ok err law result is = given result (ended {X = Unit {0}} (Err e)) is (record {
         done = λ clean so. tt;
         durable = λ clean. tt;
         kept = λ clean so up. none_done clean so up e (err clean);
         mode = quiet;
         crash = survived;
-      }
+      })

@@ -1,43 +1,43 @@
 -- The hub's row in SQL.
-use Rattle.std.proofs.Common.{sym, subst, IsTrue, ◌≡◌, ℕ, List, [], ◌∷◌, map, codes, Ok, Err, Result, OnOk}
-use Rattle.std.proofs.Common.{true, None, refl, ap, ◌∙◌, arith}
+use Rattle.std.proofs.Common.{ℕ, List, [], ◌∷◌, codes, refl}
 use Rattle.sqlite_value.specs.declared.value.Value.TheVariants.{Null, Int, Blob}
 use Rattle.sqlite_value.specs.Order.{Row, column}
-use Rattle.sqlite_value.specs.Keys.{plain, first_key}
-use Rattle.std.specs.Ordering.{is_eq}
-use Rattle.std.proofs.lemmas.Bool.{and_parts}
-use Rattle.std.proofs.lemmas.Cmp.{tied_itself}
-use Rattle.sqlite_schema.specs.Rules.{agree, equal, Keeps, Obeys}
-use Rattle.sqlite_value.specs.declared.keys.Collation.TheVariants.{Binary}
-use Rattle.sqlite_schema.specs.declared.schema.Constraint.TheVariants.{Unique}
-use Rattle.sql_rows.specs.Cells.{AreOf}
-use Rattle.sql_rows.proofs.Refusals.{not_unique, refused}
-use Rattle.sql_rows.proofs.Rowids.{put_next}
-use Rattle.sql_rows.proofs.Unique.{keeps_unique}
-use Rattle.hub_tables.specs.Sets.{Rising}
-use Rattle.hub_tables.proofs.KindOrders.{hub_total}
-use Rattle.hub_schema.proofs.Single.{hub_kinds, hub_cells}
 use Rattle.sqlite_sql.specs.Term.{Term, lit, col}
-use Rattle.sqlite_trees.specs.Tree.{Trees, put_row, with_tree}
 use Rattle.sqlite_schema.specs.declared.command.Source.TheVariants.{Values}
 use Rattle.sqlite_schema.specs.declared.command.Command.TheVariants.{Insert}
-use Rattle.sqlite_rules.specs.declared.error.Rowids.TheVariants.{Chosen}
-use Rattle.sqlite_rules.specs.Edit.{edit_of, edited, next_rowid}
 use Rattle.sqlite_tied.specs.Compute.{everything}
-use Rattle.sqlite.specs.declared.error.Error.{Error}
 use Rattle.sqlite.specs.Listing.{understood}
-use Rattle.sqlite.specs.State.{State, Writes, ExecutesInside}
-use Rattle.sqlite.proofs.Callers.{IsPlain, command_of, runs_as}
 use Rattle.sql_rows.proofs.Inserts.{cast_null}
-use Rattle.hub_tables.specs.Change.{apply_all}
 use Rattle.hub_tables.specs.Rows.{hub_cmp}
 use Rattle.hub_tables.specs.declared.change.Change.TheVariants.{AddHub}
 use Rattle.hub_tables.specs.declared.rows.HubRow.{HubRow}
-use Rattle.hub_schema.specs.Rows.{hub_row_in, in_key_order, tables_in}
-use Rattle.hub_schema.specs.Schema.{hub_schema, hub_table}
-use Rattle.hub_schema.specs.State.{IsHub, Makes}
-use Rattle.hub_writes.proofs.Alters.{Alters, adds, still_hub}
-use Rattle.hub_writes.proofs.Keys.{listed_last, is_new, bytes_are}
+use Rattle.hub_tables.proofs.KindOrders.{hub_total}
+use Rattle.hub_schema.specs.Rows.{hub_row_in}
+use Rattle.hub_schema.specs.Schema.{hub_table}
+use Rattle.hub_schema.proofs.Single.{hub_cells}
+use Rattle.hub_writes.proofs.Adds.{Adds, IsTied, adds}
+use Rattle.hub_writes.proofs.Alters.{ReadsAs}
+use Rattle.hub_writes.proofs.Keys.{agreeing, bytes_are}
+use Rattle.hub_writes.proofs.RowKinds.{Kind}
+
+abbrev pub hub_kind : Kind HubRow
+hub_kind = record {
+  cmp = hub_cmp;
+  total = hub_total;
+  read = hub_row_in;
+  place = 9;
+  table = hub_table;
+  found = refl;
+  stored = λ _. refl;
+  later = refl;
+  typed = hub_cells;
+  rows = λ t. t.hubs;
+  with_rows = λ t rows. record t { hubs = rows };
+  set = λ _ _. refl;
+  held = λ _. refl;
+  shows = λ _ _. refl;
+  rises = λ _ rising. rising.hubs;
+}
 
 abbrev pub add_hub : List ℕ
 add_hub = codes "INSERT INTO hub (hub, retailer, \"key\") VALUES (?1, ?2, ?3)"
@@ -45,111 +45,24 @@ add_hub = codes "INSERT INTO hub (hub, retailer, \"key\") VALUES (?1, ?2, ?3)"
 abbrev terms : List Term
 terms = lit Null ∷ col 0 0 ∷ col 0 1 ∷ col 0 2 ∷ []
 
-pub add_hub_is : command_of (understood hub_schema add_hub) ≡ Insert 9 (Values terms 4)
+add_hub_is : ReadsAs add_hub (Insert 9 (Values terms 4))
 unfolding understood everything
-add_hub_is = refl
-
-pub add_hub_plain : IsPlain (understood hub_schema add_hub)
-unfolding understood everything
-add_hub_plain = (refl, refl)
+add_hub_is = (refl, (refl, refl))
 
 module _ (row : HubRow) where
   abbrev pub cells : Row
   cells = Blob row.hub ∷ Blob row.retailer ∷ Blob row.key ∷ []
 
-  -- the row that is stored
-  abbrev stored : List Row → Row
-  stored rows = Int (next_rowid rows) ∷ cells
+  tied : IsTied hub_kind row cells
+  tied n r typed = (
+    λ e.
+        let parts = agreeing (1 ∷ []) r (Int n ∷ cells) e in
+        let hub = bytes_are (column r 1) row.hub typed.0 parts.0 in
+        λ i. hub_cmp (record (hub_row_in r) { hub = hub i }) row,
+    tt,
+  )
 
-  edit_is : (db : Trees)
-      → edited db (edit_of db hub_table [] Chosen 0 ((Null ∷ cells) ∷ [])) ≡ put_row (stored (db 18)) (db 18)
-  edit_is db = rw cast_null
-
-  tables_are : (rows : List Row) (old new : State) → Alters 18 rows old new
-      → tables_in new.now.trees ≡ record (tables_in old.now.trees) { hubs = in_key_order hub_cmp (map hub_row_in rows) }
-  tables_are rows old new it =
-      let kept = it.others in
-      rw (
-        it.rows,
-        kept.1.0 (λ e. absurd (omega (arith, e))),
-        kept.1.1.0 (λ e. absurd (omega (arith, e))),
-        kept.1.1.1.0 (λ e. absurd (omega (arith, e))),
-        kept.1.1.1.1.0 (λ e. absurd (omega (arith, e))),
-        kept.1.1.1.1.1.0 (λ e. absurd (omega (arith, e))),
-        kept.1.1.1.1.1.1.0 (λ e. absurd (omega (arith, e))),
-        kept.1.1.1.1.1.1.1.0 (λ e. absurd (omega (arith, e))),
-        kept.1.1.1.1.1.1.1.1.0 (λ e. absurd (omega (arith, e))),
-        kept.1.1.1.1.1.1.1.1.1.1.0 (λ e. absurd (omega (arith, e))),
-        kept.1.1.1.1.1.1.1.1.1.1.1.0 (λ e. absurd (omega (arith, e))),
-      )
-
-  adds_row : (old new : State) (text : List ℕ) (count : ℕ) → IsHub old → old.in_transaction ≡ true
-      → Writes old new None (Insert 9 (Values terms 4)) text cells count
-      → Makes (apply_all (AddHub row ∷ [])) old new
-  adds_row old new text count hub begun w =
-      let db = old.now.trees in
-      let it = adds 9 18 _ _ _ _ _ refl (λ _ _. refl) old new hub begun hub.ordered.1.1.1.1.1.1.1.1.1.0 cells cells _ _ _
-      count w (edit_is db) in
-      record {
-        hub = still_hub 18 _ old new (λ e. absurd (omega (arith, e))) hub it;
-        tables = tables_are _ old new it
-            ∙ ap (λ rows. record (tables_in db) { hubs = rows }) (listed_last hub_total hub_row_in (db 18) (stored
-            (db 18)));
-        committed = it.committed;
-        mode = it.mode;
-      }
-
-  pub makes : (old new : State) (r : Result ℕ Error) → IsHub old → old.in_transaction ≡ true
-      → ExecutesInside 0 add_hub cells old new r → OnOk r (Makes (apply_all (AddHub row ∷ [])) old new)
-  makes old new (Err e) hub begun h = tt
-  makes old new (Ok count) hub begun h =
-      adds_row old new _ count hub begun (runs_as add_hub cells old new hub_schema hub.schema _ add_hub_is
-      add_hub_plain count h.0)
-
-  tied : (r : Row) (rows : List Row) → AreOf hub_kinds 0 r
-      → agree plain (1 ∷ []) r (1 ∷ []) (stored rows) ≡ true → is_eq (hub_cmp (hub_row_in r) row) ≡ true
-  unfolding first_key
-  tied r rows typed e =
-      let p = and_parts (equal Binary (column r 1) (Blob row.hub)) true e in
-      ap (λ key. is_eq (hub_cmp (record (hub_row_in r) { hub = key }) row)) (bytes_are (column r 1) row.hub typed.0
-      p.0) ∙ ap is_eq (tied_itself hub_total row)
-
-  keeps : (s : State) → IsHub s → Rising (apply_all (AddHub row ∷ []) (tables_in s.now.trees))
-      → Keeps Unique hub_schema (with_tree s.now.trees 18 (edited s.now.trees (edit_of s.now.trees hub_table [] Chosen
-      0 ((Null ∷ cells) ∷ []))))
-  keeps s hub rising =
-      let db = s.now.trees in
-      let new = stored (db 18) in
-      let fresh = is_new hub_total hub_row_in row plain (1
-      ∷ []) new (AreOf hub_kinds 0) (λ r. tied r (db 18)) (db 18) (hub_cells s.now hub.schema hub.sound
-      hub.ordered) rising.hubs in
-      let rules = subst (λ schema. Obeys schema db) hub.schema hub.sound.obeys in
-      subst (λ rows. Keeps Unique hub_schema (with_tree db 18 rows)) (sym (edit_is db
-      ∙ put_next (db 18) cells hub.ordered.1.1.1.1.1.1.1.1.1.0))
-      (keeps_unique db 18 new (next_rowid (db 18)) refl hub_schema (
-        λ e. absurd cc,
-        (
-          λ e. absurd cc,
-          (
-            λ e. absurd cc,
-            (
-              λ e. absurd cc,
-              (
-                λ e. absurd cc,
-                (
-                  λ e. absurd cc,
-                  (λ e. absurd cc, (λ e. absurd cc, (λ e. absurd cc, (λ _. fresh, (λ e. absurd cc, (λ e. absurd cc, tt)))))),
-                ),
-              ),
-            ),
-          ),
-        ),
-      )
-      (rules.rules Unique))
-
-  pub fits_not : (old new : State) → ExecutesInside 0 add_hub cells old new (Err not_unique) → IsTrue old.is_open
-      × (IsHub old → Rising (apply_all (AddHub row ∷ []) (tables_in old.now.trees)) → ⊥)
-  fits_not old new h =
-      let it = refused hub_schema 9 18 _ _ _ _ _ refl (λ _ _. refl) add_hub terms 4 add_hub_is add_hub_plain
-      old new cells h in
-      (it.0, λ hub rising. it.1 hub.schema (keeps old hub rising))
+  pub adds_hub : Adds (AddHub row) add_hub cells
+  adds_hub =
+      adds hub_kind (AddHub row) row cells add_hub terms 4 add_hub_is (λ t. refl)
+      (λ t. refl) (λ db. rw cast_null) (λ n. refl) tied

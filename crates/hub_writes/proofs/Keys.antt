@@ -6,14 +6,15 @@ use Rattle.std.specs.declared.cmp.Ordering.{Ordering}
 use Rattle.std.specs.Ordering.{is_eq}
 use Rattle.std.specs.Cmp.{IsTotalOrder}
 use Rattle.std.specs.Str.{bytes_eq}
-use Rattle.std.proofs.lemmas.Bool.{or_parts}
+use Rattle.std.proofs.lemmas.Bool.{and_parts, or_parts}
 use Rattle.std.proofs.lemmas.Bool.Decides.{nat_tests}
 use Rattle.std.proofs.lemmas.List.{map-append}
 use Rattle.sqlite_value.specs.declared.value.Value.{Value}
 use Rattle.sqlite_value.specs.declared.value.Value.TheVariants.{Int, Blob}
 use Rattle.sqlite_value.specs.declared.keys.Collation.TheVariants.{Binary}
 use Rattle.sqlite_value.specs.declared.keys.Order as keys
-use Rattle.sqlite_value.specs.Order.{Row}
+use Rattle.sqlite_value.specs.Keys.{plain, first_key}
+use Rattle.sqlite_value.specs.Order.{Row, column}
 use Rattle.sqlite_schema.specs.Rules.{agree, equal}
 use Rattle.sql_rows.proofs.Answers.{same_bytes, same_int}
 use Rattle.sql_rows.proofs.Unique.{IsNew}
@@ -54,6 +55,15 @@ bytes_are v bytes is e = same_is (bytes_in v) bytes (sym (bytes_equal v bytes is
 pub number_is : (v : Value) (number : ℕ) → number < 2 ^ 64 → ((n : ℤ) × (v ≡ Int n))
     → equal Binary v (Int (pos number)) ≡ true → number_in v ≡ number
 number_is v number low is e = let same = sym (number_equal v number low is) ∙ e in grind (arith, nat_tests, same)
+
+-- rows that agree in a key have each of its columns alike
+pub agreeing : (places : List ℕ) (r new : Row) → agree plain places r places new ≡ true
+    → AllByRecursion (λ p. equal Binary (column r p) (column new p) ≡ true) places
+unfolding first_key
+agreeing [] r new e = tt
+agreeing (p ∷ places) r new e =
+    let parts = and_parts (equal Binary (column r p) (column new p)) (agree plain places r places new) e in
+    (parts.0, agreeing places r new parts.1)
 
 module _ {X : Type 0} {cmp : X → X → Ordering} (total : IsTotalOrder cmp) (f : Row → X) where
   -- a row that comes last is put at its place

@@ -1,3 +1,4 @@
+pub mod Adds
 pub mod Advices
 pub mod Alters
 pub mod Contents
@@ -17,4 +18,6 @@ pub mod Pallets
 pub mod Places
 pub mod PrefixRows
 pub mod Receipts
+pub mod RowKinds
+pub mod Sets
 pub mod Steps

@@ -1,57 +1,53 @@
 -- Lines of orders in SQL.
-use Rattle.std.proofs.Common.{◌++◌, not, ◌≡◌, ◌&&◌, ◌==◌, ℕ, pos, Bool, true, false, None, List, [], ◌∷◌, map, drop}
-use Rattle.std.proofs.Common.{codes, if◌then◌else◌, Ok, Err, Result, OnOk, IsTrue, refl, sym, ap, ap₂, subst, ◌∙◌}
-use Rattle.std.proofs.Common.{arith}
-use Rattle.std.specs.List.{AllByRecursion}
-use Rattle.std.specs.Ordering.{is_eq}
+use Rattle.std.proofs.Common.{◌≡◌, ℕ, ℤ, pos, ◌==◌, ◌&&◌, true, ap₂, ◌∙◌, List, [], ◌∷◌, ◌++◌, codes, refl}
 use Rattle.std.proofs.lemmas.Bool.{and_parts}
-use Rattle.std.proofs.lemmas.Cmp.{tied_itself}
-use Rattle.sqlite_value.specs.declared.value.Value.TheVariants.{Null, Int, Blob}
+use Rattle.sqlite_value.specs.declared.value.Value.TheVariants.{Null, Int}
 use Rattle.sqlite_value.specs.declared.keys.Collation.TheVariants.{Binary}
-use Rattle.sqlite_value.specs.Keys.{plain, first_key}
 use Rattle.sqlite_value.specs.Order.{Row, column}
 use Rattle.sqlite_sql.specs.declared.ops.BinaryOp.TheVariants.{Compare}
 use Rattle.sqlite_sql.specs.declared.ops.CompareOp.TheVariants.{Eq}
 use Rattle.sqlite_sql.specs.Term.{Term, lit, col, op2}
-use Rattle.sqlite_trees.specs.Tree.{Trees, put_row, with_tree}
-use Rattle.sqlite_schema.specs.declared.schema.Constraint.TheVariants.{Unique}
 use Rattle.sqlite_schema.specs.declared.command.Source.TheVariants.{Values}
 use Rattle.sqlite_schema.specs.declared.command.Command.TheVariants.{Insert, Update}
-use Rattle.sqlite_schema.specs.Rules.{agree, equal, Keeps, Obeys}
-use Rattle.sqlite_rules.specs.declared.error.Rowids.TheVariants.{Chosen}
-use Rattle.sqlite_rules.specs.Cast.{cast_row}
-use Rattle.sqlite_rules.specs.Edit.{edit_of, edited, next_rowid}
 use Rattle.sqlite_tied.specs.Compute.{everything}
-use Rattle.sqlite.specs.declared.error.Error.{Error}
 use Rattle.sqlite.specs.Listing.{understood}
-use Rattle.sqlite.specs.State.{State, Writes, ExecutesInside}
-use Rattle.sqlite.proofs.Callers.{IsPlain, command_of, runs_as}
 use Rattle.sql_rows.specs.Cells.{AreOf}
 use Rattle.sql_rows.proofs.Answers.{and_true}
 use Rattle.sql_rows.proofs.Inserts.{cast_null, cast_int}
-use Rattle.sql_rows.proofs.Refusals.{not_unique, refused}
-use Rattle.sql_rows.proofs.Rowids.{put_next}
-use Rattle.sql_rows.proofs.Unique.{keeps_unique}
-use Rattle.sql_rows.proofs.Updates.{one_table, passes, show, sets}
-use Rattle.hub_tables.specs.Change.{apply_all}
-use Rattle.hub_parties.specs.KeyOrder.{put, replace}
+use Rattle.sql_rows.proofs.Updates.{one_table}
 use Rattle.hub_tables.specs.Rows.{same, line_cmp, same_line}
-use Rattle.hub_tables.specs.Sets.{Rising}
 use Rattle.hub_tables.specs.declared.change.Change.TheVariants.{AddLine, SetLine}
 use Rattle.hub_tables.specs.declared.rows.LineRow.{LineRow}
 use Rattle.hub_tables.proofs.KindOrders.{line_total, line_set}
 use Rattle.hub_tables.proofs.Lists.{same_is}
-use Rattle.hub_store.specs.Calls.{have_places}
-use Rattle.hub_schema.specs.Rows.{line_in, in_key_order, tables_in}
-use Rattle.hub_schema.specs.Schema.{hub_schema, line_table}
-use Rattle.hub_schema.specs.State.{IsHub, Makes}
-use Rattle.hub_schema.proofs.InKeyOrder.{listed_map}
+use Rattle.hub_schema.specs.Rows.{line_in}
+use Rattle.hub_schema.specs.Schema.{line_table}
 use Rattle.hub_schema.proofs.Single.{line_kinds, line_cells}
 use Rattle.hub_writes.specs.Line as spec
-use Rattle.hub_writes.proofs.Places.{place_met}
-use Rattle.hub_writes.proofs.Alters.{Alters, adds, altered, still_hub}
-use Rattle.hub_writes.proofs.Keys.{listed_last, is_new, number_shown, number_same, bytes_equal, number_equal, bytes_are}
-use Rattle.hub_writes.proofs.Keys.{number_is}
+use Rattle.hub_writes.proofs.Adds.{Adds, IsTied, adds}
+use Rattle.hub_writes.proofs.Alters.{ReadsAs}
+use Rattle.hub_writes.proofs.Keys.{agreeing, bytes_are, number_is, number_shown, number_same, bytes_equal, number_equal}
+use Rattle.hub_writes.proofs.RowKinds.{Kind}
+use Rattle.hub_writes.proofs.Sets.{Sets, becomes, passes, sets}
+
+abbrev pub line_kind : Kind LineRow
+line_kind = record {
+  cmp = line_cmp;
+  total = line_total;
+  read = line_in;
+  place = 2;
+  table = line_table;
+  found = refl;
+  stored = λ _. refl;
+  later = refl;
+  typed = line_cells;
+  rows = λ t. t.lines;
+  with_rows = λ t rows. record t { lines = rows };
+  set = λ _ _. refl;
+  held = λ _. refl;
+  shows = λ _ _. refl;
+  rises = λ _ rising. rising.lines;
+}
 
 abbrev pub add_line : List ℕ
 add_line =
@@ -61,13 +57,9 @@ add_line =
 abbrev terms : List Term
 terms = lit Null ∷ col 0 0 ∷ col 0 1 ∷ col 0 2 ∷ col 0 3 ∷ col 0 4 ∷ col 0 5 ∷ col 0 6 ∷ col 0 7 ∷ col 0 8 ∷ []
 
-pub add_line_is : command_of (understood hub_schema add_line) ≡ Insert 2 (Values terms 10)
+add_line_is : ReadsAs add_line (Insert 2 (Values terms 10))
 unfolding understood everything
-add_line_is = refl
-
-pub add_line_plain : IsPlain (understood hub_schema add_line)
-unfolding understood everything
-add_line_plain = (refl, refl)
+add_line_is = (refl, (refl, refl))
 
 abbrev pub set_line : List ℕ
 set_line =
@@ -83,251 +75,84 @@ tests = op2 (Compare Eq Binary) (col 1 1) (col 0 0) ∷ op2 (Compare Eq Binary) 
 abbrev shows : List Term
 shows = col 1 0 ∷ col 1 0 ∷ col 1 1 ∷ col 1 2 ∷ col 1 3 ∷ col 0 3 ∷ col 0 4 ∷ col 0 5 ∷ col 0 6 ∷ col 0 7 ∷ col 0 8 ∷ []
 
-pub set_line_is : command_of (understood hub_schema set_line) ≡ Update 2 (record {
-  lets = [];
-  body = one_table 3 (λ _.
-      refl) tests shows [];
-})
+set_line_is : ReadsAs set_line (Update 2 (record { lets = []; body = one_table 3 (λ _. refl) tests shows [] }))
 unfolding understood everything
-set_line_is = refl
-
-pub set_line_plain : IsPlain (understood hub_schema set_line)
-unfolding understood everything
-set_line_plain = (refl, refl)
+set_line_is = (refl, (refl, refl))
 
 module _ (row : LineRow) where
   abbrev pub cells : Row
   cells = spec.cells row
 
-  abbrev pub IsLow : Type 0
-  IsLow = spec.IsLow row
+  module _ (low : spec.IsLow row) where
+    read_back : (n : ℤ) → line_in (Int n ∷ cells) ≡ row
+    read_back n = rw (
+      number_shown row.line low.0,
+      number_shown row.ordered low.1,
+      number_shown row.open_qty low.2,
+      number_shown row.refused low.3,
+      number_shown row.cancelled low.4,
+      number_shown row.answer low.5,
+    )
 
-  -- the row that is stored
-  abbrev stored : List Row → Row
-  stored rows = Int (next_rowid rows) ∷ cells
+    tied : IsTied line_kind row cells
+    tied n r typed = (
+      λ e.
+          let parts = agreeing (1 ∷ 2 ∷ 3 ∷ []) r (Int n ∷ cells) e in
+          let supplier = bytes_are (column r 1) row.supplier typed.0 parts.0 in
+          let number = bytes_are (column r 2) row.number typed.1.0 parts.1.0 in
+          let line = number_is (column r 3) row.line low.0 typed.1.1.0 parts.1.1.0 in
+          λ i. line_cmp (record (line_in r) { supplier = supplier i; number = number i; line = line i }) row,
+      tt,
+    )
 
-  edit_is : (db : Trees)
-      → edited db (edit_of db line_table [] Chosen 0 ((Null ∷ cells) ∷ [])) ≡ put_row (stored (db 3)) (db 3)
-  edit_is db = rw (
-    cast_null,
-    cast_int (pos row.line),
-    cast_int (pos row.ordered),
-    cast_int (pos row.open_qty),
-    cast_int (pos row.refused),
-    cast_int (pos row.cancelled),
-    cast_int (pos row.answer),
-  )
+    pub adds_line : Adds (AddLine row) add_line cells
+    adds_line =
+        adds line_kind (AddLine row) row cells add_line terms 10 add_line_is (λ t. refl)
+        (λ t. refl) (λ db. rw (
+          cast_null,
+          cast_int (pos row.line),
+          cast_int (pos row.ordered),
+          cast_int (pos row.open_qty),
+          cast_int (pos row.refused),
+          cast_int (pos row.cancelled),
+          cast_int (pos row.answer),
+        )) read_back tied
 
-  tables_are : (rows : List Row) (old new : State) → Alters 3 rows old new
-      → tables_in new.now.trees ≡ record (tables_in old.now.trees) { lines = in_key_order line_cmp (map line_in rows) }
-  tables_are rows old new it =
-      let kept = it.others in
-      rw (
-        it.rows,
-        kept.1.0 (λ e. absurd (omega (arith, e))),
-        kept.1.1.1.0 (λ e. absurd (omega (arith, e))),
-        kept.1.1.1.1.0 (λ e. absurd (omega (arith, e))),
-        kept.1.1.1.1.1.0 (λ e. absurd (omega (arith, e))),
-        kept.1.1.1.1.1.1.0 (λ e. absurd (omega (arith, e))),
-        kept.1.1.1.1.1.1.1.0 (λ e. absurd (omega (arith, e))),
-        kept.1.1.1.1.1.1.1.1.0 (λ e. absurd (omega (arith, e))),
-        kept.1.1.1.1.1.1.1.1.1.0 (λ e. absurd (omega (arith, e))),
-        kept.1.1.1.1.1.1.1.1.1.1.0 (λ e. absurd (omega (arith, e))),
-        kept.1.1.1.1.1.1.1.1.1.1.1.0 (λ e. absurd (omega (arith, e))),
-      )
+    passes_is : (r : Row) → AreOf line_kinds 0 r → passes line_kind tests shows cells r ≡ same_line row (line_in r)
+    passes_is r typed = ap₂ ◌&&◌ (bytes_equal (column r 1) row.supplier typed.0)
+        (ap₂ ◌&&◌ (bytes_equal (column r 2) row.number typed.1.0)
+        (and_true _ ∙ number_equal (column r 3) row.line low.0 typed.1.1.0))
 
-  shown : (rows : List Row) → IsLow → line_in (stored rows) ≡ row
-  shown rows low = rw (
-    number_shown row.line low.0,
-    number_shown row.ordered low.1,
-    number_shown row.open_qty low.2,
-    number_shown row.refused low.3,
-    number_shown row.cancelled low.4,
-    number_shown row.answer low.5,
-  )
+    becomes_is : (r : Row) → AreOf line_kinds 0 r → same_line row (line_in r) ≡ true
+        → line_in (becomes line_kind tests shows cells r) ≡ row
+    becomes_is r typed e =
+        let p1 = and_parts (same (line_in r).supplier row.supplier) ((same (line_in r).number row.number
+        && ((line_in r).line == row.line))) e in
+        let e1 = same_is (line_in r).supplier row.supplier p1.0 in
+        let p2 = and_parts (same (line_in r).number row.number) (((line_in r).line == row.line)) p1.1 in
+        let e2 = same_is (line_in r).number row.number p2.0 in
+        let e3 : (line_in r).line ≡ row.line = number_same _ _ p2.1 in
+        let placed : line_in (becomes line_kind tests shows cells r) ≡ record row {
+          supplier = (line_in r).supplier;
+          number = (line_in r).number;
+          line = (line_in r).line;
+        } = rw (
+          typed.1.1.0.1,
+          cast_int (typed.1.1.0.0),
+          cast_int (pos row.ordered),
+          number_shown row.ordered low.1,
+          cast_int (pos row.open_qty),
+          number_shown row.open_qty low.2,
+          cast_int (pos row.refused),
+          number_shown row.refused low.3,
+          cast_int (pos row.cancelled),
+          number_shown row.cancelled low.4,
+          cast_int (pos row.answer),
+          number_shown row.answer low.5,
+        ) in
+        placed ∙ (λ i. record row { supplier = e1 i; number = e2 i; line = e3 i })
 
-  adds_line : (old new : State) (text : List ℕ) (count : ℕ) → IsLow → IsHub old → old.in_transaction ≡ true
-      → Writes old new None (Insert 2 (Values terms 10)) text cells count
-      → Makes (apply_all (AddLine row ∷ [])) old new
-  adds_line old new text count low hub begun w =
-      let db = old.now.trees in
-      let it = adds 2 3 _ _ _ _ _ refl (λ _ _. refl) old new hub begun hub.ordered.1.1.0 cells cells _ _ _ count w
-      (edit_is db) in
-      let rows = listed_last line_total line_in (db 3) (stored (db 3))
-      ∙ ap (λ r. put line_cmp r (tables_in db).lines) (shown (db 3) low) in
-      record {
-        hub = still_hub 3 _ old new (λ e. absurd (omega (arith, e))) hub it;
-        tables = tables_are _ old new it ∙ ap (λ rows. record (tables_in db) { lines = rows }) rows;
-        committed = it.committed;
-        mode = it.mode;
-      }
-
-  pub makes : (old new : State) (r : Result ℕ Error) → IsLow → IsHub old → old.in_transaction ≡ true
-      → ExecutesInside 0 add_line cells old new r → OnOk r (Makes (apply_all (AddLine row ∷ [])) old new)
-  makes old new (Err e) low hub begun h = tt
-  makes old new (Ok count) low hub begun h =
-      adds_line old new _ count low hub begun (runs_as add_line cells old new hub_schema hub.schema _ add_line_is
-      add_line_plain count h.0)
-
-  tied : (r : Row) (rows : List Row) → IsLow → AreOf line_kinds 0 r
-      → agree plain (1 ∷ 2 ∷ 3 ∷ []) r (1 ∷ 2 ∷ 3 ∷ []) (stored rows) ≡ true → is_eq (line_cmp (line_in r) row) ≡ true
-  unfolding first_key
-  tied r rows low typed e =
-      let p1 = and_parts (equal Binary (column r 1) (Blob row.supplier)) (equal Binary (column r 2) (Blob row.number)
-      && (equal Binary (column r 3) (Int (pos row.line)) && true)) e in
-      let p2 = and_parts (equal Binary (column r 2) (Blob row.number)) (equal Binary (column r 3) (Int (pos row.line))
-      && true) p1.1 in
-      let p3 = and_parts (equal Binary (column r 3) (Int (pos row.line))) (true) p2.1 in
-      let e1 = bytes_are (column r 1) row.supplier typed.0 p1.0 in
-      let e2 = bytes_are (column r 2) row.number typed.1.0 p2.0 in
-      let e3 = number_is (column r 3) row.line low.0 typed.1.1.0 p3.0 in
-      (λ i. is_eq (line_cmp (record (line_in r) { supplier = e1 i; number = e2 i; line = e3 i }) row))
-      ∙ ap is_eq (tied_itself line_total row)
-
-  keeps : (s : State) → IsLow → IsHub s → Rising (apply_all (AddLine row ∷ []) (tables_in s.now.trees))
-      → Keeps Unique hub_schema (with_tree s.now.trees 3 (edited s.now.trees (edit_of s.now.trees line_table [] Chosen
-      0 ((Null ∷ cells) ∷ []))))
-  keeps s low hub rising =
-      let db = s.now.trees in
-      let new = stored (db 3) in
-      let typed = line_cells s.now hub.schema hub.sound hub.ordered in
-      let fresh = is_new line_total line_in row plain (1 ∷ 2 ∷ 3
-      ∷ []) new (AreOf line_kinds 0) (λ r. tied r (db 3) low) (db 3) typed rising.lines in
-      let rules = subst (λ schema. Obeys schema db) hub.schema hub.sound.obeys in
-      subst (λ rows. Keeps Unique hub_schema (with_tree db 3 rows)) (sym (edit_is db
-      ∙ put_next (db 3) cells hub.ordered.1.1.0))
-      (keeps_unique db 3 new (next_rowid (db 3)) refl hub_schema (
-        λ e. absurd cc,
-        (
-          λ _. fresh,
-          (
-            λ e. absurd cc,
-            (
-              λ e. absurd cc,
-              (
-                λ e. absurd cc,
-                (
-                  λ e. absurd cc,
-                  (
-                    λ e. absurd cc,
-                    (
-                      λ e. absurd cc,
-                      (
-                        λ e. absurd cc,
-                        (λ e. absurd cc, (λ e. absurd cc, (λ e. absurd cc, tt))),
-                      ),
-                    ),
-                  ),
-                ),
-              ),
-            ),
-          ),
-        ),
-      ) (rules.rules Unique))
-
-  pub fits_not : (old new : State) → IsLow → ExecutesInside 0 add_line cells old new (Err not_unique)
-      → IsTrue old.is_open × (IsHub old → Rising (apply_all (AddLine row ∷ []) (tables_in old.now.trees)) → ⊥)
-  fits_not old new low h =
-      let it = refused hub_schema 2 3 _ _ _ _ _ refl (λ _ _. refl) add_line terms 10 add_line_is add_line_plain old new
-      cells h in
-      (it.0, λ hub rising. it.1 hub.schema (keeps old low hub rising))
-
-  -- An UPDATE.
-
-  abbrev passes_all : Row → Bool
-  passes_all = passes 3 (λ _. refl) tests shows cells
-
-  abbrev becomes : Row → Row
-  becomes r = cast_row line_table (drop 1 (show 3 (λ _. refl) tests shows cells r))
-
-  passes_is : (r : Row) → IsLow → AreOf line_kinds 0 r → passes_all r ≡ same_line row (line_in r)
-  passes_is r low typed =
-      (ap₂ ◌&&◌ (bytes_equal (column r 1) row.supplier typed.0) (ap₂ ◌&&◌ (bytes_equal (column r 2) row.number
-      typed.1.0) (and_true _ ∙ number_equal (column r 3) row.line low.0 typed.1.1.0)))
-
-  becomes_is : (r : Row) → IsLow → AreOf line_kinds 0 r → same_line row (line_in r) ≡ true → line_in (becomes r) ≡ row
-  becomes_is r low typed e =
-      let p1 = and_parts (same (line_in r).supplier row.supplier) ((same (line_in r).number row.number
-      && ((line_in r).line == row.line))) e in
-      let e1 = same_is (line_in r).supplier row.supplier p1.0 in
-      let p2 = and_parts (same (line_in r).number row.number) (((line_in r).line == row.line)) p1.1 in
-      let e2 = same_is (line_in r).number row.number p2.0 in
-      let e3 : (line_in r).line ≡ row.line = number_same _ _ p2.1 in
-      let placed : line_in (becomes r) ≡ record row {
-        supplier = (line_in r).supplier;
-        number = (line_in r).number;
-        line = (line_in r).line;
-      } = rw (
-        typed.1.1.0.1,
-        cast_int (typed.1.1.0.0),
-        cast_int (pos row.ordered),
-        number_shown row.ordered low.1,
-        cast_int (pos row.open_qty),
-        number_shown row.open_qty low.2,
-        cast_int (pos row.refused),
-        number_shown row.refused low.3,
-        cast_int (pos row.cancelled),
-        number_shown row.cancelled low.4,
-        cast_int (pos row.answer),
-        number_shown row.answer low.5,
-      ) in
-      placed ∙ (λ i. record row { supplier = e1 i; number = e2 i; line = e3 i })
-
-  one_set : (r : Row) → IsLow → AreOf line_kinds 0 r
-      → line_in (if passes_all r then becomes r else r) ≡ (if same_line row (line_in r) then row else line_in r)
-  one_set r low typed = go (same_line row (line_in r)) refl
-    where
-      go : (b : Bool) → same_line row (line_in r) ≡ b
-          → line_in (if passes_all r then becomes r else r) ≡ (if b then row else line_in r)
-      go true e = ap (λ b. line_in (if b then becomes r else r)) (passes_is r low typed ∙ e) ∙ becomes_is r low typed e
-      go false e = ap (λ b. line_in (if b then becomes r else r)) (passes_is r low typed ∙ e)
-
-  all_set : (rows : List Row) → IsLow → AllByRecursion (AreOf line_kinds 0) rows
-      → map line_in (map (λ r. if passes_all r then becomes r else r) rows) ≡ replace (same_line row) row (map line_in
-      rows)
-  all_set [] low typed = refl
-  all_set (r ∷ rows) low typed = ap₂ ◌∷◌ (one_set r low typed.0) (all_set rows low typed.1)
-
-  sets_line : (old new : State) (text : List ℕ) (count : ℕ) → IsLow → IsHub old → old.in_transaction ≡ true
-      → Writes old new None (Update 2 (record { lets = []; body = one_table 3 (λ _. refl) tests shows cells })) text
-      cells count
-      → Makes (apply_all (SetLine row ∷ [])) old new
-      × (have_places (SetLine row ∷ []) (tables_in old.now.trees) ≡ not (count == 0))
-  sets_line old new text count low hub begun w =
-      let db = old.now.trees in
-      let did = sets hub_schema 2 3 _ _ _ _ _ refl (λ _ _. refl) (λ _. refl) tests shows cells (λ r. (
-        refl,
-        refl,
-      )) old new text count hub.schema hub.ordered.1.1.0 w in
-      let it = altered 3 _ old new begun did.schema_is w.sound did.shaped did.rows did.others w.shown in
-      let rows = ap (in_key_order line_cmp) (all_set (db 3) low (line_cells old.now hub.schema hub.sound hub.ordered))
-      ∙ listed_map line_cmp (λ r. if same_line row r then row else r) (line_set row) (map line_in (db 3)) in
-      let there = place_met line_cmp (same_line row) line_in (AreOf line_kinds 0) passes_all (λ r. passes_is r low) (db 3)
-      count (line_cells old.now hub.schema hub.sound hub.ordered) did.counted in (
-        record {
-          hub = still_hub 3 _ old new (λ e. absurd (omega (arith, e))) hub it;
-          tables = tables_are _ old new it ∙ ap (λ rows. record (tables_in db) { lines = rows }) rows;
-          committed = it.committed;
-          mode = it.mode;
-        },
-        and_true _ ∙ there,
-      )
-
-  ran : (old new : State) (count : ℕ) → IsLow → IsHub old → old.in_transaction ≡ true
-      → ExecutesInside 0 set_line cells old new (Ok count)
-      → Makes (apply_all (SetLine row ∷ [])) old new
-      × (have_places (SetLine row ∷ []) (tables_in old.now.trees) ≡ not (count == 0))
-  ran old new count low hub begun h =
-      sets_line old new _ count low hub begun
-      (runs_as set_line cells old new hub_schema hub.schema _ set_line_is set_line_plain count h.0)
-
-  pub set_makes : (old new : State) (r : Result ℕ Error) → IsLow → IsHub old → old.in_transaction ≡ true
-      → ExecutesInside 0 set_line cells old new r → OnOk r (Makes (apply_all (SetLine row ∷ [])) old new)
-  set_makes old new (Err e) low hub begun h = tt
-  set_makes old new (Ok count) low hub begun h = (ran old new count low hub begun h).0
-
-  -- a row stands in its place exactly where the statement met one
-  pub set_met : (old new : State) → IsLow → IsHub old → old.in_transaction ≡ true → (count : ℕ)
-      → ExecutesInside 0 set_line cells old new (Ok count)
-      → have_places (SetLine row ∷ []) (tables_in old.now.trees) ≡ not (count == 0)
-  set_met old new low hub begun count h = (ran old new count low hub begun h).1
+    pub sets_line : Sets (SetLine row) set_line cells
+    sets_line =
+        sets line_kind tests shows cells (SetLine row) row (same_line row) set_line set_line_is
+        (λ t. and_true _) (λ t. refl) (line_set row) (λ r. (refl, refl)) passes_is becomes_is

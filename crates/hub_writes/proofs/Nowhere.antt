@@ -6,10 +6,7 @@ use Rattle.hub_parties.specs.KeyOrder.{replace}
 use Rattle.hub_tables.specs.Rows.{same_line, same_pallet, same_mail}
 use Rattle.hub_tables.specs.Tables.{Tables}
 use Rattle.hub_tables.specs.declared.change.Change.{Change}
-use Rattle.hub_tables.specs.declared.change.Change.TheVariants.{AddHub, AddKey, AddPrefix}
-use Rattle.hub_tables.specs.declared.change.Change.TheVariants.{AddOrder, AddLine, SetLine, AddAdvice, AddPallet}
-use Rattle.hub_tables.specs.declared.change.Change.TheVariants.{SetPallet, AddContent, AddReceipt, ClearReceipts, Remember, AddMail}
-use Rattle.hub_tables.specs.declared.change.Change.TheVariants.{SetMail}
+use Rattle.hub_tables.specs.declared.change.Change.TheVariants.{SetLine, SetPallet, SetMail}
 use Rattle.hub_store.specs.Calls.{have_places}
 
 neither : (a b : Bool) → (a || b) ≡ false → (a ≡ false) × (b ≡ false)
@@ -36,15 +33,4 @@ unplaced (SetPallet row) t none =
 unplaced (SetMail row) t none =
     ap (λ rows. record t { mail = rows })
     (none_replaced (same_mail row) row t.mail (first_none (list_any (same_mail row) t.mail) none))
-unplaced (AddHub row) t none = absurd cc
-unplaced (AddKey row) t none = absurd cc
-unplaced (AddPrefix row) t none = absurd cc
-unplaced (AddOrder row) t none = absurd cc
-unplaced (AddLine row) t none = absurd cc
-unplaced (AddAdvice row) t none = absurd cc
-unplaced (AddPallet row) t none = absurd cc
-unplaced (AddContent row) t none = absurd cc
-unplaced (AddReceipt row) t none = absurd cc
-unplaced (ClearReceipts sscc) t none = absurd cc
-unplaced (Remember row) t none = absurd cc
-unplaced (AddMail row) t none = absurd cc
+unplaced change t none = absurd cc

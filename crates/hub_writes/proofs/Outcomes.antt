@@ -8,7 +8,6 @@ use Rattle.sqlite_trees.specs.declared.store.Store.{Ghosts}
 use Rattle.sqlite_value.specs.Order.{Row}
 use Rattle.sqlite.specs.declared.error.Error.{Error}
 use Rattle.sqlite.specs.declared.error.Error.TheVariants.{SqliteFailure}
-use Rattle.sqlite.specs.declared.error.Error.TheVariants as error
 use Rattle.sqlite.specs.declared.error.ErrorCode.TheVariants as code
 use Rattle.sqlite.specs.Held.{Held, state}
 use Rattle.sqlite.specs.State.{State, HasCleanDisk, KeepsCommit, Survives, ExecutesInside}
@@ -28,7 +27,9 @@ use Rattle.hub_schema.specs.State.{IsHub, IsUndone, Makes, ShowsTheSame, Stateme
 use Rattle.hub_schema.proofs.Leaving.{executed_leaves}
 use Rattle.hub_writes.specs.Faults.{placed, inserted, ended, refusal_of, fault_of}
 use Rattle.hub_writes.specs.Acts.{Acts, MakesFirst}
+use Rattle.hub_writes.proofs.Adds.{Adds}
 use Rattle.hub_writes.proofs.Nowhere.{unplaced}
+use Rattle.hub_writes.proofs.Sets.{Sets}
 use Rattle.hub_schema.proofs.Same.{same_hub}
 
 pub on_inserted : (A : Type 0) (r : Result ℕ Error) → OnOk r A → OnOk (inserted r) A
@@ -73,86 +74,12 @@ fits_one change old new hub did = (
 
 -- only a key that is there is `Unclean`
 refused_so : (e : Error) → refusal_of e ≡ Unclean → e ≡ not_unique
-refused_so (SqliteFailure (code.ConstraintViolation rule.Datatype)) h = cc
-refused_so (SqliteFailure (code.ConstraintViolation rule.NotNull)) h = cc
-refused_so (SqliteFailure (code.ConstraintViolation rule.Check)) h = cc
-refused_so (SqliteFailure (code.ConstraintViolation rule.PrimaryKey)) h = cc
 refused_so (SqliteFailure (code.ConstraintViolation rule.Unique)) h = refl
-refused_so (SqliteFailure (code.ConstraintViolation rule.ForeignKey)) h = cc
-refused_so (SqliteFailure code.TypeMismatch) h = cc
-refused_so (SqliteFailure code.IntegerOverflow) h = cc
-refused_so (SqliteFailure code.NoRowid) h = cc
-refused_so (SqliteFailure code.ForeignKeyMismatch) h = cc
-refused_so (SqliteFailure code.TooDeep) h = cc
-refused_so (SqliteFailure code.NoClock) h = cc
-refused_so (SqliteFailure code.NameTaken) h = cc
-refused_so (SqliteFailure code.BadName) h = cc
-refused_so (SqliteFailure code.BadKey) h = cc
-refused_so (SqliteFailure code.BadText) h = cc
-refused_so (SqliteFailure code.SchemaTooBig) h = cc
-refused_so (SqliteFailure code.TransactionState) h = cc
-refused_so (SqliteFailure code.NoSuchSavepoint) h = cc
-refused_so (SqliteFailure code.OperationInterrupted) h = cc
-refused_so (SqliteFailure code.NotADatabase) h = cc
-refused_so (SqliteFailure code.DatabaseCorrupt) h = cc
-refused_so (SqliteFailure code.CannotOpen) h = cc
-refused_so (SqliteFailure code.DatabaseBusy) h = cc
-refused_so (SqliteFailure code.TooBig) h = cc
-refused_so (SqliteFailure code.OutOfMemory) h = cc
-refused_so (SqliteFailure code.SystemIoFailure) h = cc
-refused_so (SqliteFailure code.DiskFull) h = cc
-refused_so (SqliteFailure code.Closed) h = cc
-refused_so (error.SqlInputError x) h = cc
-refused_so (error.InvalidParameterCount x y) h = cc
-refused_so error.ExecuteReturnedResults h = cc
-refused_so error.InvalidQuery h = cc
-refused_so error.MultipleStatement h = cc
-refused_so error.QueryReturnedNoRows h = cc
-refused_so (error.InvalidColumnIndex x) h = cc
-refused_so (error.InvalidColumnType x y) h = cc
-refused_so (error.IntegralValueOutOfRange x) h = cc
-refused_so (error.Utf8Error x) h = cc
+refused_so e h = cc
 
 never_unclean : (e : Error) → fault_of e ≡ Unclean → ⊥
-never_unclean (SqliteFailure (code.ConstraintViolation rule.Datatype)) h = cc
-never_unclean (SqliteFailure (code.ConstraintViolation rule.NotNull)) h = cc
-never_unclean (SqliteFailure (code.ConstraintViolation rule.Check)) h = cc
-never_unclean (SqliteFailure (code.ConstraintViolation rule.PrimaryKey)) h = cc
-never_unclean (SqliteFailure (code.ConstraintViolation rule.Unique)) h = cc
-never_unclean (SqliteFailure (code.ConstraintViolation rule.ForeignKey)) h = cc
-never_unclean (SqliteFailure code.TypeMismatch) h = cc
-never_unclean (SqliteFailure code.IntegerOverflow) h = cc
-never_unclean (SqliteFailure code.NoRowid) h = cc
-never_unclean (SqliteFailure code.ForeignKeyMismatch) h = cc
-never_unclean (SqliteFailure code.TooDeep) h = cc
-never_unclean (SqliteFailure code.NoClock) h = cc
-never_unclean (SqliteFailure code.NameTaken) h = cc
-never_unclean (SqliteFailure code.BadName) h = cc
-never_unclean (SqliteFailure code.BadKey) h = cc
-never_unclean (SqliteFailure code.BadText) h = cc
-never_unclean (SqliteFailure code.SchemaTooBig) h = cc
-never_unclean (SqliteFailure code.TransactionState) h = cc
-never_unclean (SqliteFailure code.NoSuchSavepoint) h = cc
-never_unclean (SqliteFailure code.OperationInterrupted) h = cc
-never_unclean (SqliteFailure code.NotADatabase) h = cc
-never_unclean (SqliteFailure code.DatabaseCorrupt) h = cc
-never_unclean (SqliteFailure code.CannotOpen) h = cc
-never_unclean (SqliteFailure code.DatabaseBusy) h = cc
-never_unclean (SqliteFailure code.TooBig) h = cc
 never_unclean (SqliteFailure code.OutOfMemory) h = cc
-never_unclean (SqliteFailure code.SystemIoFailure) h = cc
-never_unclean (SqliteFailure code.DiskFull) h = cc
-never_unclean (SqliteFailure code.Closed) h = cc
-never_unclean (error.SqlInputError x) h = cc
-never_unclean (error.InvalidParameterCount x y) h = cc
-never_unclean error.ExecuteReturnedResults h = cc
-never_unclean error.InvalidQuery h = cc
-never_unclean error.MultipleStatement h = cc
-never_unclean error.QueryReturnedNoRows h = cc
-never_unclean (error.InvalidColumnIndex x) h = cc
-never_unclean (error.InvalidColumnType x y) h = cc
-never_unclean (error.IntegralValueOutOfRange x) h = cc
-never_unclean (error.Utf8Error x) h = cc
+never_unclean e h = cc
 
 pub no_unclean : {X : Type 0} (r : Result X Error) → ended r ≡ Err Unclean → ⊥
 no_unclean (Ok x) h = cc
@@ -165,6 +92,19 @@ pub record Executed {S : Type 0} (g : Ghosts S) (sql : List ℕ) (params : Row) 
   pub runs : HasCleanDisk (state g new) → IsTrue (state g old).in_transaction
       → ExecutesInside 0 sql params (state g old) (state g new) r
   pub survives : Survives (state g old) (state g new) (λ _. ⊥)
+
+-- where the values that it was given are these cells
+pub executed : {S : Type 0} (g : Ghosts S) (sql : List ℕ) (cells values : Row) (old new : Held S) (r : Result ℕ Error)
+    → ((state g old).in_transaction ≡ false → (r ≡ Err (SqliteFailure code.TransactionState)) × (new ≡ old))
+    → (HasCleanDisk (state g new) → IsTrue (state g old).in_transaction
+    → ExecutesInside 0 sql values (state g old) (state g new) r)
+    → Survives (state g old) (state g new) (λ _. ⊥) → values ≡ cells → Executed g sql cells old new r
+executed g sql cells values old new r ended runs survives are = record {
+  ended = ended;
+  runs = λ clean begun.
+      subst (λ row. ExecutesInside 0 sql row (state g old) (state g new) r) are (runs clean begun);
+  survives = survives;
+}
 
 -- a change that failed, where all is as it was
 pub first_failed : (change : Change) (old new : State) → old.in_transaction ≡ true → ShowsTheSame old new
@@ -223,28 +163,19 @@ module _ {S : Type 0} (g : Ghosts S) (sql : List ℕ) (params : Row) (old new : 
   error_of (Ok count) is h = absurd cc
   error_of (Err e) is h = let same : refusal_of e ≡ Unclean = cc in is ∙ ap (λ (x : Error). Err x) (refused_so e same)
 
-  -- its key is there
-  abbrev Refused : List Change → Type 0
-  Refused changes = IsTrue (state g old).is_open
-      × (IsHub (state g old) → Rising (apply_all changes (tables_in (state g old).now.trees)) → ⊥)
-
   -- an INSERT
-  pub insert_acts : (change : Change) → ((t : Tables) → have_places (change ∷ []) t ≡ true)
-      → (IsHub (state g old) → old.in_transaction ≡ true
-      → ExecutesInside 0 sql params (state g old) (state g new) r
-      → OnOk r (Makes (apply_all (change ∷ [])) (state g old) (state g new)))
-      → (ExecutesInside 0 sql params (state g old) (state g new) (Err not_unique) → Refused (change ∷ []))
+  pub insert_acts : (change : Change) → Adds change sql params
       → (out : Result (Unit {0}) StoreFault) → out ≡ inserted r → Acts (change ∷ []) (state g old) (state g new) out
-  insert_acts change there makes fits_not out is = subst (Acts (change ∷ []) (state g old) (state g new)) (sym is) (record {
-    makes = λ clean hub begun. on_inserted _ r (makes hub begun (did.runs clean begun));
-    places = λ clean hub begun. at_ok (inserted r) (there (tables_in (state g old).now.trees));
-    fits = λ clean hub begun. on_inserted _ r
-        (on_ok r (fits_one change (state g old) (state g new) hub) (makes hub begun (did.runs clean begun)));
+  insert_acts change it out is = subst (Acts (change ∷ []) (state g old) (state g new)) (sym is) (record {
+    makes = λ clean hub begun. on_inserted _ r (it.makes (state g old) (state g new) r hub begun (did.runs clean begun));
+    places = λ clean hub begun. at_ok (inserted r) (it.placed (tables_in (state g old).now.trees));
+    fits = λ clean hub begun. on_inserted _ r (on_ok r (fits_one change (state g old) (state g new) hub)
+        (it.makes (state g old) (state g new) r hub begun (did.runs clean begun)));
     unclean = λ clean h. let e = error_of r refl h in
         inl (elim (cases_Bool old.in_transaction) [
           | inl begun ↦
-              let no_fit = fits_not (subst (ExecutesInside 0 sql params (state g old) (state g new)) e (did.runs clean
-              begun)) in
+              let no_fit = it.fits_not (state g old) (state g new)
+              (subst (ExecutesInside 0 sql params (state g old) (state g new)) e (did.runs clean begun)) in
               (no_fit.0, λ hub fit _. absurd (no_fit.1 hub (fit_after (change ∷ []) (tables_in (state g old).now.trees) fit)))
           | inr none ↦ absurd (let no = sym e ∙ (did.ended none).0 in cc)
         ]);
@@ -299,12 +230,17 @@ module _ {S : Type 0} (g : Ghosts S) (sql : List ℕ) (params : Row) (old new : 
   })
 
   -- an UPDATE that is to meet a row, and tells how many it met
-  module _ (change : Change) (makes : IsHub (state g old) → old.in_transaction ≡ true
-      → ExecutesInside 0 sql params (state g old) (state g new) r
-      → OnOk r (Makes (apply_all (change ∷ [])) (state g old) (state g new)))
-      (met : IsHub (state g old) → old.in_transaction ≡ true → (count : ℕ)
-      → ExecutesInside 0 sql params (state g old) (state g new) (Ok count)
-      → have_places (change ∷ []) (tables_in (state g old).now.trees) ≡ not (count == 0)) where
+  module _ (change : Change) (setting : Sets change sql params) where
+    makes : IsHub (state g old) → old.in_transaction ≡ true
+        → ExecutesInside 0 sql params (state g old) (state g new) r
+        → OnOk r (Makes (apply_all (change ∷ [])) (state g old) (state g new))
+    makes = setting.makes (state g old) (state g new) r
+
+    met : IsHub (state g old) → old.in_transaction ≡ true → (count : ℕ)
+        → ExecutesInside 0 sql params (state g old) (state g new) (Ok count)
+        → have_places (change ∷ []) (tables_in (state g old).now.trees) ≡ not (count == 0)
+    met = setting.met (state g old) (state g new)
+
     ran : (count : ℕ) → r ≡ Ok count → HasCleanDisk (state g new)
         → IsTrue old.in_transaction × ExecutesInside 0 sql params (state g old) (state g new) (Ok count)
     ran count is clean = elim (cases_Bool old.in_transaction) [

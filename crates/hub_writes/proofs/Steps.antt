@@ -10,7 +10,7 @@ use Rattle.sqlite.specs.declared.error.Error.{Error}
 use Rattle.sqlite.specs.Held.{Held, state}
 use Rattle.sqlite.specs.Listing.{understood}
 use Rattle.sqlite.specs.State.{State, HasCleanDisk, ExecutesInside}
-use Rattle.sqlite.proofs.Callers.{IsPlain, command_of, runs_as}
+use Rattle.sqlite.proofs.Callers.{runs_as}
 use Rattle.sqlite.proofs.StateLemmas.{survives_then}
 use Rattle.sql_rows.proofs.Transactions.{kept_still, survives_still, kept_then, clean_before}
 use Rattle.std.specs.List.{list_any}
@@ -18,10 +18,7 @@ use Rattle.std.proofs.lemmas.Bool.{and_parts}
 use Rattle.std.proofs.lemmas.Bool.Decides.{nat_tests}
 use Rattle.hub_parties.specs.KeyOrder.{replace}
 use Rattle.hub_tables.specs.Rows.{same, same_mail, content_cmp, mail_cmp}
-use Rattle.hub_tables.specs.declared.change.Change.TheVariants.{AddHub, AddKey, AddPrefix}
-use Rattle.hub_tables.specs.declared.change.Change.TheVariants.{AddOrder, AddLine, SetLine, AddAdvice, AddPallet}
-use Rattle.hub_tables.specs.declared.change.Change.TheVariants.{SetPallet, AddContent, AddReceipt, ClearReceipts, Remember, AddMail}
-use Rattle.hub_tables.specs.declared.change.Change.TheVariants.{SetMail}
+use Rattle.hub_tables.specs.declared.change.Change.TheVariants.{AddContent, AddMail, SetMail}
 use Rattle.hub_tables.specs.declared.rows.ContentRow.{ContentRow}
 use Rattle.hub_tables.specs.declared.rows.MailRow.{MailRow}
 use Rattle.hub_tables.proofs.KeyOrder.{any_put}
@@ -42,22 +39,19 @@ use Rattle.hub_schema.proofs.Single.{hub_rises}
 use Rattle.hub_writes.specs.Acts.{great_place, great_entry, has_great, Acts, MakesFirst, HasRun}
 use Rattle.hub_writes.specs.Faults.{ended}
 use Rattle.hub_schema.proofs.Same.{same_hub}
+use Rattle.hub_writes.proofs.Alters.{ReadsAs}
 use Rattle.hub_writes.proofs.Outcomes.{Executed, first_failed}
 
-nothing_is : command_of (understood hub_schema []) ≡ Nothing
+nothing_is : ReadsAs [] Nothing
 unfolding understood everything
-nothing_is = refl
-
-nothing_plain : IsPlain (understood hub_schema [])
-unfolding understood everything
-nothing_plain = (refl, refl)
+nothing_is = (refl, (refl, refl))
 
 -- an empty text changes nothing
 pub nothing_made : (old new : State) (r : Result ℕ Error) → IsHub old → old.in_transaction ≡ true
     → ExecutesInside 0 [] [] old new r → OnOk r (Makes (apply_all []) old new)
 nothing_made old new (Err e) hub begun h = tt
 nothing_made old new (Ok count) hub begun h =
-    let same = (runs_as [] [] old new hub_schema hub.schema Nothing nothing_is nothing_plain count h.0).0.0 in
+    let same = (runs_as [] [] old new hub_schema hub.schema Nothing nothing_is.0 nothing_is.1 count h.0).0.0 in
     record {
       hub = same_hub old new same.now_is hub;
       tables = ap (λ d. tables_in d.trees) same.now_is;
@@ -198,25 +192,14 @@ entries_still_great : (row : MailRow) (entries : List MailRow)
 entries_still_great row entries = any_replaced great_entry (same_mail row) row entries (same_great row)
 
 great_stays : (change : Change) (t : Tables) → has_great t ≡ true → has_great (apply change t) ≡ true
-great_stays (AddHub row) t h = h
-great_stays (AddKey row) t h = h
-great_stays (AddPrefix row) t h = h
-great_stays (AddOrder row) t h = h
-great_stays (AddLine row) t h = h
-great_stays (SetLine row) t h = h
-great_stays (AddAdvice row) t h = h
-great_stays (AddPallet row) t h = h
-great_stays (SetPallet row) t h = h
 great_stays (AddContent row) t h =
     ap (λ b. b || list_any great_entry t.mail) (any_put content_cmp great_place t.contents row)
     ∙ more_great (list_any great_place t.contents) (list_any great_entry t.mail) (great_place row) h
-great_stays (AddReceipt row) t h = h
-great_stays (ClearReceipts sscc) t h = h
-great_stays (Remember row) t h = h
 great_stays (AddMail row) t h =
     ap (λ b. list_any great_place t.contents || b) (any_put mail_cmp great_entry t.mail row)
     ∙ other_great (list_any great_place t.contents) (list_any great_entry t.mail) (great_entry row) h
 great_stays (SetMail row) t h = ap (λ b. list_any great_place t.contents || b) (entries_still_great row t.mail) ∙ h
+great_stays change t h = h
 
 there : (a b c : Bool) → c ≡ true → ((a || (c || false)) || b) ≡ true
 there true b c h = refl

@@ -13,7 +13,7 @@ use Rattle.hub_store.specs.Calls.{have_places}
 use Rattle.hub_store.specs.declared.fault.StoreFault.{StoreFault}
 use Rattle.hub_store.specs.declared.fault.StoreFault.TheVariants.{Unclean}
 use Rattle.hub_schema.specs.Rows.{tables_in}
-use Rattle.hub_schema.specs.State.{IsHub, IsUndone, Makes, ShowsTheSame}
+use Rattle.hub_schema.specs.State.{IsHub, IsUndone, Makes, Never, ShowsTheSame}
 
 -- a place, and an entry, whose number SQL has not
 abbrev pub great_place : ContentRow → Bool
@@ -57,7 +57,7 @@ pub record Acts (changes : List Change) (old new : State) (result : Result (Unit
       HasCleanDisk new → IsTrue old.in_transaction → OnErr result (MakesFirst changes old new ⊎ IsUndone old new)
   pub ended : old.in_transaction ≡ false → OnOk result ⊥ × ShowsTheSame old new
   pub kept : HasCleanDisk new → KeepsCommit old new
-  pub survives : Survives old new (λ _. ⊥)
+  pub survives : Survives old new Never
 
 -- some of the changes are made, and these are left
 pub record IsUnderWay (all left : List Change) (old now : State) : Type 0 where
@@ -79,4 +79,4 @@ pub record HasRun (all left : List Change) (old now : State) : Type 0 where
       (t : Tables) → (u : Tables) × (apply_all all t ≡ apply_all left u)
       × (have_places all t ≡ true → have_places left u ≡ true)
   pub kept : HasCleanDisk now → KeepsCommit old now
-  pub survives : Survives old now (λ _. ⊥)
+  pub survives : Survives old now Never

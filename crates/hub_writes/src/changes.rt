@@ -32,7 +32,8 @@ fn touch<S: Alter>(tx: &mut Transaction<'_, S>) -> Result<(), StoreFault>
 /// Makes one change.
 pub fn apply<S: Alter>(tx: &mut Transaction<'_, S>, change: &Change) -> Result<(), StoreFault>
     ensures same_reference { tx.new.conn.ghost_name ≡ tx.old.conn.ghost_name }
-    ensures acts { Acts (change.now ∷ []) (state S.Store tx.old.conn.now) (state S.Store tx.new.conn.now) result }
+    ensures acts { Acts (change.now ∷ [])
+        (state S.Store tx.old.conn.now) (state S.Store tx.new.conn.now) result }
 {
     match change {
         Change::AddHub(row) => add_hub(tx, row),

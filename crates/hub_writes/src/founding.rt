@@ -8,7 +8,7 @@ ghost use Rattle.hub_tables.specs.Change.{apply_all as all_applied};
 ghost use Rattle.hub_tables.specs.Tables.{empty};
 ghost use Rattle.hub_schema.specs.Making.{HasMade};
 ghost use Rattle.hub_schema.specs.Schema.{no_schema};
-ghost use Rattle.hub_schema.specs.State.{FoundsTo, HasNumber, HasTables, IsOldHub, Makes};
+ghost use Rattle.hub_schema.specs.State.{FoundsTo, HasNumber, HasTables, IsOldHub, Makes, Never};
 ghost use Rattle.hub_schema.specs.Rows.{tables_in, traffic_in};
 
 use crate::changes::apply_all;
@@ -27,7 +27,7 @@ fn lay<S: Alter>(tx: &mut Transaction<'_, S>, changes: &[Change]) -> Result<(), 
         (state S.Store tx.new.conn.now)) }
     ensures kept { HasCleanDisk (state S.Store tx.new.conn.now) →
         KeepsCommit (state S.Store tx.old.conn.now) (state S.Store tx.new.conn.now) }
-    ensures survives { Survives (state S.Store tx.old.conn.now) (state S.Store tx.new.conn.now) (λ _. ⊥) }
+    ensures survives { Survives (state S.Store tx.old.conn.now) (state S.Store tx.new.conn.now) Never }
 {
     call_ended(make_tables(tx))?;
     apply_all(tx, changes)
@@ -38,11 +38,12 @@ fn lay_beside<S: Alter>(tx: &mut Transaction<'_, S>, changes: &[Change]) -> Resu
     ensures same_reference { tx.new.conn.ghost_name ≡ tx.old.conn.ghost_name }
     ensures makes { HasCleanDisk (state S.Store tx.new.conn.now) → IsOldHub (state S.Store tx.old.conn.now) →
         IsTrue (state S.Store tx.old.conn.now).in_transaction →
-        OnOk result (Makes (λ _. all_applied changes.now (traffic_in (state S.Store tx.old.conn.now).now.trees))
+        OnOk result (Makes (λ _.
+        all_applied changes.now (traffic_in (state S.Store tx.old.conn.now).now.trees))
         (state S.Store tx.old.conn.now) (state S.Store tx.new.conn.now)) }
     ensures kept { HasCleanDisk (state S.Store tx.new.conn.now) →
         KeepsCommit (state S.Store tx.old.conn.now) (state S.Store tx.new.conn.now) }
-    ensures survives { Survives (state S.Store tx.old.conn.now) (state S.Store tx.new.conn.now) (λ _. ⊥) }
+    ensures survives { Survives (state S.Store tx.old.conn.now) (state S.Store tx.new.conn.now) Never }
 {
     call_ended(make_party_tables(tx))?;
     apply_all(tx, changes)
@@ -52,12 +53,13 @@ fn lay_beside<S: Alter>(tx: &mut Transaction<'_, S>, changes: &[Change]) -> Resu
 fn raise<S: Alter>(tx: &mut Transaction<'_, S>) -> Result<(), StoreFault>
     ensures same_reference { tx.new.conn.ghost_name ≡ tx.old.conn.ghost_name }
     ensures makes { HasCleanDisk (state S.Store tx.new.conn.now) → HasTables (state S.Store tx.old.conn.now) →
-        HasNumber 2 (state S.Store tx.old.conn.now).now.trees → IsTrue (state S.Store tx.old.conn.now).in_transaction →
+        HasNumber 2 (state S.Store tx.old.conn.now).now.trees →
+        IsTrue (state S.Store tx.old.conn.now).in_transaction →
         OnOk result (Makes (λ _. tables_in (state S.Store tx.old.conn.now).now.trees)
         (state S.Store tx.old.conn.now) (state S.Store tx.new.conn.now)) }
     ensures kept { HasCleanDisk (state S.Store tx.new.conn.now) →
         KeepsCommit (state S.Store tx.old.conn.now) (state S.Store tx.new.conn.now) }
-    ensures survives { Survives (state S.Store tx.old.conn.now) (state S.Store tx.new.conn.now) (λ _. ⊥) }
+    ensures survives { Survives (state S.Store tx.old.conn.now) (state S.Store tx.new.conn.now) Never }
 {
     statement_ended(set_number(tx))
 }

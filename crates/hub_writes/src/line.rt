@@ -35,7 +35,8 @@ fn cells(row: &LineRow) -> [ValueRef<'_>; 9]
 /// Adds a line of an order.
 pub fn add_line<S: Alter>(tx: &mut Transaction<'_, S>, row: &LineRow) -> Result<(), StoreFault>
     ensures same_reference { tx.new.conn.ghost_name ≡ tx.old.conn.ghost_name }
-    ensures acts { Acts (AddLine row.now ∷ []) (state S.Store tx.old.conn.now) (state S.Store tx.new.conn.now) result }
+    ensures acts { Acts (AddLine row.now ∷ [])
+        (state S.Store tx.old.conn.now) (state S.Store tx.new.conn.now) result }
 {
     insert_ended(tx.execute(
         "INSERT INTO line (supplier, number, line, gtin, ordered, open_qty, refused, cancelled, answer) \
@@ -47,7 +48,8 @@ pub fn add_line<S: Alter>(tx: &mut Transaction<'_, S>, row: &LineRow) -> Result<
 /// Sets what stands under the key of a line.
 pub fn set_line<S: Alter>(tx: &mut Transaction<'_, S>, row: &LineRow) -> Result<(), StoreFault>
     ensures same_reference { tx.new.conn.ghost_name ≡ tx.old.conn.ghost_name }
-    ensures acts { Acts (SetLine row.now ∷ []) (state S.Store tx.old.conn.now) (state S.Store tx.new.conn.now) result }
+    ensures acts { Acts (SetLine row.now ∷ [])
+        (state S.Store tx.old.conn.now) (state S.Store tx.new.conn.now) result }
 {
     update_ended(tx.execute(
         "UPDATE line SET gtin = ?4, ordered = ?5, open_qty = ?6, refused = ?7, cancelled = ?8, answer = ?9 \

@@ -13,7 +13,8 @@ use sqlite::{Alter, Transaction};
 /// Adds an order.
 pub fn add_order<S: Alter>(tx: &mut Transaction<'_, S>, row: &OrderRow) -> Result<(), StoreFault>
     ensures same_reference { tx.new.conn.ghost_name ≡ tx.old.conn.ghost_name }
-    ensures acts { Acts (AddOrder row.now ∷ []) (state S.Store tx.old.conn.now) (state S.Store tx.new.conn.now) result }
+    ensures acts { Acts (AddOrder row.now ∷ [])
+        (state S.Store tx.old.conn.now) (state S.Store tx.new.conn.now) result }
 {
     let supplier = gln_value(&row.supplier);
     let number = text_value(&row.number);

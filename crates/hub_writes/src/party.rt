@@ -13,7 +13,8 @@ use sqlite::{Alter, Transaction};
 /// Adds the hub's row.
 pub fn add_hub<S: Alter>(tx: &mut Transaction<'_, S>, row: &HubRow) -> Result<(), StoreFault>
     ensures same_reference { tx.new.conn.ghost_name ≡ tx.old.conn.ghost_name }
-    ensures acts { Acts (AddHub row.now ∷ []) (state S.Store tx.old.conn.now) (state S.Store tx.new.conn.now) result }
+    ensures acts { Acts (AddHub row.now ∷ [])
+        (state S.Store tx.old.conn.now) (state S.Store tx.new.conn.now) result }
 {
     let hub = gln_value(&row.hub);
     let retailer = gln_value(&row.retailer);
@@ -27,7 +28,8 @@ pub fn add_hub<S: Alter>(tx: &mut Transaction<'_, S>, row: &HubRow) -> Result<()
 /// Adds the key of a supplier.
 pub fn add_key<S: Alter>(tx: &mut Transaction<'_, S>, row: &KeyRow) -> Result<(), StoreFault>
     ensures same_reference { tx.new.conn.ghost_name ≡ tx.old.conn.ghost_name }
-    ensures acts { Acts (AddKey row.now ∷ []) (state S.Store tx.old.conn.now) (state S.Store tx.new.conn.now) result }
+    ensures acts { Acts (AddKey row.now ∷ [])
+        (state S.Store tx.old.conn.now) (state S.Store tx.new.conn.now) result }
 {
     let supplier = gln_value(&row.supplier);
     let key = key_value(&row.key);

@@ -16,7 +16,8 @@ pub fn remember<S: Alter>(
     row: &RememberedRow,
 ) -> Result<(), StoreFault>
     ensures same_reference { tx.new.conn.ghost_name ≡ tx.old.conn.ghost_name }
-    ensures acts { Acts (Remember row.now ∷ []) (state S.Store tx.old.conn.now) (state S.Store tx.new.conn.now) result }
+    ensures acts { Acts (Remember row.now ∷ [])
+        (state S.Store tx.old.conn.now) (state S.Store tx.new.conn.now) result }
 {
     let supplier = gln_value(&row.supplier);
     let side = side_value(&row.side);

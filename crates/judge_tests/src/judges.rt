@@ -56,14 +56,25 @@ fn delivery(alloc: Global) -> Result<IncomingMessage, Fail> {
 }
 
 // What each judge asks for: the retailer, alpha's row, and message 7 of interchange 1001 with the body of its mail.
-type Setting = (Gln, SupplierRow, IncomingMessage, Items<u8>);
+#[derive(Drop)]
+struct Setting {
+    retailer: Gln,
+    row: SupplierRow,
+    delivery: IncomingMessage,
+    body: Items<u8>,
+}
 
-fn setting(alloc: Global) -> Result<Setting, Fail> {
+fn usual_setting(alloc: Global) -> Result<Setting, Fail> {
     let retailer = gln(RETAILER)?;
     let body = copied(alloc, b"body")?;
     let row = alpha(alloc)?;
     let delivery = delivery(alloc)?;
-    Ok((retailer, row, delivery, body))
+    Ok(Setting {
+        retailer,
+        row,
+        delivery,
+        body,
+    })
 }
 
 // Lines of three orders that wait.

@@ -5,6 +5,7 @@ use Rattle.std.proofs.Common.{Some, None, refl, sym, ap, ap₂, ◌∙◌, arith
 use Rattle.std.specs.List.{AllByRecursion, list_any, last_or, filter_map, cons_option}
 use Rattle.std.proofs.lemmas.Bool.Decides.{nat_tests}
 use Rattle.std.proofs.lemmas.List.{drop_more}
+use Rattle.std.proofs.Math.Bool.{and_comm}
 use Rattle.hub_tables.specs.Rows.{same}
 use Rattle.hub_tables.specs.Tables.{holds}
 use Rattle.hub_tables.specs.declared.rows.ContentRow.{ContentRow}
@@ -51,15 +52,9 @@ pub any_of_both : {X : Type 0} (p q : X → Bool) (xs : List X) → list_any q (
     (length (filter (λ x. p x && q x) xs) == 0)
 any_of_both p q xs = any_within p q xs ∙ any_filtered (λ x. p x && q x) xs
 
-turned : (a b : Bool) → (a && b) ≡ (b && a)
-turned true true = refl
-turned true false = refl
-turned false true = refl
-turned false false = refl
-
 pub any_of_either : {X : Type 0} (p q : X → Bool) (xs : List X) → list_any q (filter p xs) ≡ list_any
     (λ x. q x && p x) xs
-any_of_either p q xs = any_within p q xs ∙ (λ i. list_any (λ x. turned (p x) (q x) i) xs)
+any_of_either p q xs = any_within p q xs ∙ (λ i. list_any (λ x. and_comm (p x) (q x) i) xs)
 
 find_within : {X : Type 0} (p q : X → Bool) (xs : List X) → find q (filter p xs) ≡ find (λ x. p x && q x) xs
 find_within p q [] = refl
@@ -68,7 +63,7 @@ find_within p q (x ∷ xs) =
     (λ x. p x && q x) xs)) [ true ↦ ap (cond (q x) (Some x)) (find_within p q xs) | false ↦ find_within p q xs ]
 
 pub find_of_either : {X : Type 0} (p q : X → Bool) (xs : List X) → find q (filter p xs) ≡ find p (filter q xs)
-find_of_either p q xs = find_within p q xs ∙ (λ i. find (λ x. turned (p x) (q x) i) xs) ∙ sym (find_within q p xs)
+find_of_either p q xs = find_within p q xs ∙ (λ i. find (λ x. and_comm (p x) (q x) i) xs) ∙ sym (find_within q p xs)
 
 pub filter_three : {X : Type 0} (p q r : X → Bool) (xs : List X) → filter r (filter (λ x. p x && q x) xs) ≡ filter
     (λ x. q x && r x)
@@ -144,15 +139,6 @@ filter_map_step h xs i x within is = ap (filter_map h) (drop_more xs i x within)
     ∙ ap (λ y. cons_option (h y) (filter_map h (drop (i + 1) xs))) (sym is)
 
 -- Filters and tests, of lists and of their keys.
-
-pub filter_swap : {X : Type 0} (p q : X → Bool) (xs : List X) → filter p (filter q xs) ≡ filter q (filter p xs)
-filter_swap p q [] = refl
-filter_swap p q (x ∷ xs) =
-    let rest = filter_swap p q xs in
-    elim (decide (p x)) [
-      | inl e ↦ elim (decide (q x)) [ inl f ↦ grind (arith, e, f, rest) | inr f ↦ grind (arith, e, f, rest) ]
-      | inr e ↦ elim (decide (q x)) [ inl f ↦ grind (arith, e, f, rest) | inr f ↦ grind (arith, e, f, rest) ]
-    ]
 
 pub filter_of_map : {X K : Type 0} (p : K → Bool) (key : X → K) (xs : List X) → filter p (map key xs) ≡ map key
     (filter (λ x. p (key x)) xs)

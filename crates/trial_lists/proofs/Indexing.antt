@@ -5,16 +5,18 @@ use Rattle.std.specs.List.{AllByRecursion, list_any, remove, filter_map, cons_op
 use Rattle.std.specs.declared.cmp.Ordering.{Ordering}
 use Rattle.std.specs.declared.cmp.Ordering.TheVariants.{Less, Equal, Greater}
 use Rattle.std.specs.Ordering.{is_eq, is_gt, is_lt}
-use Rattle.std.specs.Cmp.{IsTotalOrder}
+use Rattle.std.specs.Cmp.{IsTotalOrder, Equal-is}
 use Rattle.std.proofs.lemmas.Cmp.{tied_itself}
+use Rattle.std.proofs.lemmas.Bool.{not-true}
 use Rattle.hub_parties.specs.KeyOrder.{InOrder, put, replace, Rises}
 use Rattle.hub_tables.specs.Rows.{same}
 use Rattle.hub_tables.proofs.KeyOrder.{filter_put_in, filter_put_out, in_order_filter, put_first, rises_filter}
 use Rattle.hub_tables.proofs.Lists.{decide, same_is, same_if, all_filter, all_weaker, all_passes, filter_alike}
 use Rattle.hub_tables.proofs.Lists.{filter_none}
 use Rattle.trial_lists.specs.Index.{IsIndex}
-use Rattle.trial_lists.proofs.Filters.{filter_swap, filter_of_map, any_none, none_any, any_among, any_of_map}
-use Rattle.hub_tables.proofs.Setting.{equal_is, has, below, rises_put, all_above, after_equal, none_above}
+use Rattle.trial_lists.proofs.Filters.{filter_of_map, any_none, none_any, any_among, any_of_map}
+use Rattle.hub_tables.proofs.Filters.{filter_swap}
+use Rattle.hub_tables.proofs.Setting.{has, below, rises_put, all_above, after_equal, none_above}
 
 -- Rows that rise.
 
@@ -51,12 +53,8 @@ module _ {X : Type 0} {cmp : X → X → Ordering} (total : IsTotalOrder cmp) (r
 
   pub none_left : (xs : List X) → has total r (but xs) ≡ false
   none_left xs = any_none at (but xs)
-      (all_weaker (λ x. not (at x) ≡ true) (λ x. at x ≡ false) (λ x h. turned (at x) h) (but xs)
+      (all_weaker (λ x. not (at x) ≡ true) (λ x. at x ≡ false) (λ x h. not-true (at x) h) (but xs)
       (all_passes (λ x. not (at x)) xs))
-    where
-      turned : (v : Bool) → not v ≡ true → v ≡ false
-      turned true h = sym h
-      turned false h = refl
 
   not_replaced : (xs : List X) → AllByRecursion (λ y. cmp y r ≡ Greater) xs → replace at r xs ≡ xs
   not_replaced [] all = refl
@@ -261,7 +259,7 @@ module _ {X K : Type 0} {cmp : X → X → Ordering} {kcmp : K → K → Orderin
           | inl e ↦ ap (λ z. is_eq (kcmp (key z) (key old))) (f e) ∙ ap is_eq (tied_itself ktotal (key old)) ∙ sym e
           | inr e ↦ elim (decide (is_eq (kcmp (key x) (key old)))) [
             | inl h ↦
-                let equal = equal_is (cmp x old) (one_key x old h) in
+                let equal = (Equal-is (cmp x old)).0 (one_key x old h) in
                 let no : false ≡ true = sym e ∙ ap is_eq (total.congr x old r equal) ∙ only.0 in absurd (cc (no))
             | inr h ↦ h ∙ sym e
           ]

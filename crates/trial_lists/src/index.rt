@@ -147,7 +147,8 @@ fn list_key<T: Indexed<K>, K: Row>(index: &mut Vec<K>, row: &T)
     requires room { vec_len index.old < vec_capacity index.old }
     requires rises { Rises K.compared index.old.items }
     ensures items { list_any (λ old. is_eq (K.compared old (T.key row.now))) index.old.items ≡ false →
-        index.new.items ≡ (if T.listed row.now then put K.compared (T.key row.now) index.old.items else index.old.items) }
+        index.new.items ≡ (if T.listed row.now
+        then put K.compared (T.key row.now) index.old.items else index.old.items) }
     ensures len { vec_len index.new ≤ vec_len index.old + 1 }
     ensures capacity { vec_capacity index.new ≡ vec_capacity index.old }
 {
@@ -165,7 +166,8 @@ pub(crate) fn put_indexed<T: Indexed<K>, K: Row>(rows: &mut Vec<T>, index: &mut 
     requires index { IsIndex K.compared T.supplier T.key T.listed index.old.items rows.old.items }
     ensures rises { Rises T.compared rows.new.items }
     ensures index { IsIndex K.compared T.supplier T.key T.listed index.new.items rows.new.items }
-    ensures items { Rises T.compared (put T.compared row rows.old.items) → rows.new.items ≡ put T.compared row rows.old.items }
+    ensures items { Rises T.compared (put T.compared row rows.old.items) →
+        rows.new.items ≡ put T.compared row rows.old.items }
     ensures len { vec_len rows.new ≤ vec_len rows.old + 1 }
     ensures capacity { vec_capacity rows.new ≡ vec_capacity rows.old }
     ensures index_len { vec_len index.new ≤ vec_len index.old + 1 }

@@ -106,7 +106,8 @@ impl<'a> Key<LineRow> for OfSupplier<'a> {
 
     ghost exact = { λ key row. same_bytes row.supplier key.supplier.now };
 
-    ghost kept = { λ key. first_part _ _ _ (by_key nat_list_cmp_total (λ row. row.supplier) key.supplier.now) };
+    ghost kept = { λ key. first_part _ _ _
+        (by_key nat_list_cmp_total (λ row. row.supplier) key.supplier.now) };
 }
 
 impl<'a> Key<MailRow> for OfSupplier<'a> {
@@ -120,20 +121,23 @@ impl<'a> Key<MailRow> for OfSupplier<'a> {
 
     ghost exact = { λ key row. same_bytes row.supplier key.supplier.now };
 
-    ghost kept = { λ key. first_part _ _ _ (by_key nat_list_cmp_total (λ row. row.supplier) key.supplier.now) };
+    ghost kept = { λ key. first_part _ _ _
+        (by_key nat_list_cmp_total (λ row. row.supplier) key.supplier.now) };
 }
 
 impl<'a> Numbered<'a> {
     // Where a supplier's number stands.
     fn compare(&self, supplier: &Gln, number: &[u8]) -> Ordering
-        ensures { result ≡ ordering_then (bytes_cmp supplier.now self.now.supplier.now) (bytes_cmp number.now self.now.number.now) }
+        ensures { result ≡ ordering_then (bytes_cmp supplier.now self.now.supplier.now)
+            (bytes_cmp number.now self.now.number.now) }
     {
         supplier.cmp(self.supplier).then(number.cmp(self.number))
     }
 }
 
 impl<'a> Key<OrderRow> for Numbered<'a> {
-    ghost place = { λ key row. ordering_then (bytes_cmp row.supplier key.supplier.now) (bytes_cmp row.number key.number.now) };
+    ghost place = { λ key row. ordering_then (bytes_cmp row.supplier key.supplier.now)
+        (bytes_cmp row.number key.number.now) };
 
     ghost wanted = { λ key row. same row.supplier key.supplier.now && same row.number key.number.now };
 
@@ -141,7 +145,8 @@ impl<'a> Key<OrderRow> for Numbered<'a> {
         self.compare(&row.supplier, row.number.as_slice())
     }
 
-    ghost exact = { λ key row. both (bytes_cmp row.supplier key.supplier.now) (bytes_cmp row.number key.number.now)
+    ghost exact = { λ key row. both (bytes_cmp row.supplier key.supplier.now)
+        (bytes_cmp row.number key.number.now)
         (same_bytes row.supplier key.supplier.now) (same_bytes row.number key.number.now) };
 
     ghost kept = { λ key. then_part nat_list_cmp_total (λ row.
@@ -149,7 +154,8 @@ impl<'a> Key<OrderRow> for Numbered<'a> {
 }
 
 impl<'a> Key<LineRow> for Numbered<'a> {
-    ghost place = { λ key row. ordering_then (bytes_cmp row.supplier key.supplier.now) (bytes_cmp row.number key.number.now) };
+    ghost place = { λ key row. ordering_then (bytes_cmp row.supplier key.supplier.now)
+        (bytes_cmp row.number key.number.now) };
 
     ghost wanted = { λ key row. same row.supplier key.supplier.now && same row.number key.number.now };
 
@@ -157,7 +163,8 @@ impl<'a> Key<LineRow> for Numbered<'a> {
         self.compare(&row.supplier, row.number.as_slice())
     }
 
-    ghost exact = { λ key row. both (bytes_cmp row.supplier key.supplier.now) (bytes_cmp row.number key.number.now)
+    ghost exact = { λ key row. both (bytes_cmp row.supplier key.supplier.now)
+        (bytes_cmp row.number key.number.now)
         (same_bytes row.supplier key.supplier.now) (same_bytes row.number key.number.now) };
 
     ghost kept = { λ key. then_part nat_list_cmp_total (λ row. row.supplier) key.supplier.now _ _
@@ -165,7 +172,8 @@ impl<'a> Key<LineRow> for Numbered<'a> {
 }
 
 impl<'a> Key<AdviceRow> for Numbered<'a> {
-    ghost place = { λ key row. ordering_then (bytes_cmp row.supplier key.supplier.now) (bytes_cmp row.number key.number.now) };
+    ghost place = { λ key row. ordering_then (bytes_cmp row.supplier key.supplier.now)
+        (bytes_cmp row.number key.number.now) };
 
     ghost wanted = { λ key row. same row.supplier key.supplier.now && same row.number key.number.now };
 
@@ -173,7 +181,8 @@ impl<'a> Key<AdviceRow> for Numbered<'a> {
         self.compare(&row.supplier, row.number.as_slice())
     }
 
-    ghost exact = { λ key row. both (bytes_cmp row.supplier key.supplier.now) (bytes_cmp row.number key.number.now)
+    ghost exact = { λ key row. both (bytes_cmp row.supplier key.supplier.now)
+        (bytes_cmp row.number key.number.now)
         (same_bytes row.supplier key.supplier.now) (same_bytes row.number key.number.now) };
 
     ghost kept = { λ key. then_part nat_list_cmp_total (λ row.
@@ -250,7 +259,8 @@ impl<'a> Key<RememberedRow> for Reference<'a> {
 }
 
 impl Key<MailRow> for EntryKey {
-    ghost place = { λ key row. ordering_then (bytes_cmp row.supplier key.supplier) (nat_cmp row.number key.number) };
+    ghost place = { λ key row. ordering_then (bytes_cmp row.supplier key.supplier)
+        (nat_cmp row.number key.number) };
 
     ghost wanted = { λ key row. same row.supplier key.supplier && (row.number == key.number) };
 
@@ -259,7 +269,8 @@ impl Key<MailRow> for EntryKey {
         row.supplier.cmp(&self.supplier).then(place)
     }
 
-    ghost exact = { λ key row. both (bytes_cmp row.supplier key.supplier) _ (same_bytes row.supplier key.supplier)
+    ghost exact = { λ key row. both (bytes_cmp row.supplier key.supplier) _
+        (same_bytes row.supplier key.supplier)
         (same_numbers row.number key.number) };
 
     ghost kept = { λ key. then_part nat_list_cmp_total (λ row.
@@ -291,11 +302,13 @@ impl<'a> Key<PalletKey> for OfSupplier<'a> {
 
     ghost exact = { λ key row. same_bytes row.supplier key.supplier.now };
 
-    ghost kept = { λ key. first_part _ _ _ (by_key nat_list_cmp_total (λ row. row.supplier) key.supplier.now) };
+    ghost kept = { λ key. first_part _ _ _
+        (by_key nat_list_cmp_total (λ row. row.supplier) key.supplier.now) };
 }
 
 impl<'a> Key<EntryKey> for Above<'a> {
-    ghost place = { λ key row. ordering_then (bytes_cmp row.supplier key.supplier.now) (above key.number row.number) };
+    ghost place = { λ key row. ordering_then (bytes_cmp row.supplier key.supplier.now)
+        (above key.number row.number) };
 
     ghost wanted = { λ key row. same row.supplier key.supplier.now && nat_lt key.number row.number };
 

@@ -83,7 +83,8 @@ pub(crate) fn apply_one(lists: &mut Lists, change: Change)
     requires room { Room 1 lists.old }
     requires kept { AreInOrder lists.old }
     ensures kept { AreInOrder lists.new }
-    ensures tables { Rising (apply change (tables_in lists.old)) → tables_in lists.new ≡ apply change (tables_in lists.old) }
+    ensures tables { Rising (apply change (tables_in lists.old)) →
+        tables_in lists.new ≡ apply change (tables_in lists.old) }
     ensures room { (n : ℕ) → Room (n + 1) lists.old → Room n lists.new }
 {
     match change {

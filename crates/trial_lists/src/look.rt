@@ -116,7 +116,8 @@ pub(crate) fn remembered_with(
 #[tactic(auto, using(crate::proofs::Filters::any_of_both))]
 pub(crate) fn has_order(orders: &[OrderRow], supplier: &Gln, number: &[u8]) -> bool
     requires { Rises order_cmp orders.now }
-    ensures { result ≡ list_any (λ order. same order.number number.now) (filter (λ row. same row.supplier supplier.now) orders.now) }
+    ensures { result ≡ list_any (λ order. same order.number number.now)
+        (filter (λ row. same row.supplier supplier.now) orders.now) }
 {
     !rows_at(orders, &Numbered { supplier, number }).is_empty()
 }
@@ -125,7 +126,8 @@ pub(crate) fn has_order(orders: &[OrderRow], supplier: &Gln, number: &[u8]) -> b
 #[tactic(auto, using(crate::proofs::Filters::any_of_both))]
 pub(crate) fn has_advice(advices: &[AdviceRow], supplier: &Gln, number: &[u8]) -> bool
     requires { Rises advice_cmp advices.now }
-    ensures { result ≡ list_any (λ advice. same advice.number number.now) (filter (λ row. same row.supplier supplier.now) advices.now) }
+    ensures { result ≡ list_any (λ advice. same advice.number number.now)
+        (filter (λ row. same row.supplier supplier.now) advices.now) }
 {
     !rows_at(advices, &Numbered { supplier, number }).is_empty()
 }
@@ -182,7 +184,8 @@ fn holds_pallet(pallets: &[PalletRow], supplier: &Gln, sscc: &Sscc) -> bool
 
 // The first pallet of a supplier.
 fn first_from<'a>(pallets: &'a [PalletRow], supplier: &Gln) -> Option<&'a PalletRow>
-    ensures { option_map (λ pallet. pallet.now) result ≡ find (λ pallet. same pallet.supplier supplier.now) pallets.now }
+    ensures { option_map (λ pallet. pallet.now) result
+        ≡ find (λ pallet. same pallet.supplier supplier.now) pallets.now }
 {
     pallets.iter().find(|pallet| pallet.supplier == *supplier)
 }
@@ -213,7 +216,8 @@ pub(crate) fn pallets_from(
     supplier: &Gln,
 ) -> Result<Items<PalletRow>, MemoryFault>
     requires pallets { Rises pallet_cmp pallets.now }
-    requires owned { IsIndex owned_cmp (λ key. key.supplier) owned_key (λ pallet. true) owned.now pallets.now }
+    requires owned { IsIndex owned_cmp (λ key. key.supplier) owned_key
+        (λ pallet. true) owned.now pallets.now }
     ensures { IfOk result (λ found. found ≡ filter (λ row. same row.supplier supplier.now) pallets.now) }
 {
     copies_at(alloc, pallets, rows_at(owned, &OfSupplier { supplier }))

@@ -36,8 +36,10 @@ pub(crate) fn put_row<T: Row>(rows: &mut Vec<T>, row: T)
     requires room { vec_len rows.old < vec_capacity rows.old }
     requires rises { Rises T.compared rows.old.items }
     ensures rises { Rises T.compared rows.new.items }
-    ensures items { Rises T.compared (put T.compared row rows.old.items) → rows.new.items ≡ put T.compared row rows.old.items }
-    ensures new { list_any (λ old. is_eq (T.compared old row)) rows.old.items ≡ false → rows.new.items ≡ put T.compared row rows.old.items }
+    ensures items { Rises T.compared (put T.compared row rows.old.items) →
+        rows.new.items ≡ put T.compared row rows.old.items }
+    ensures new { list_any (λ old. is_eq (T.compared old row)) rows.old.items ≡ false →
+        rows.new.items ≡ put T.compared row rows.old.items }
     ensures len { vec_len rows.new ≤ vec_len rows.old + 1 }
     ensures capacity { vec_capacity rows.new ≡ vec_capacity rows.old }
 {

@@ -320,7 +320,8 @@ impl Settable for LineRow {
             && old.line == self.line
     }
 
-    ghost same_key = { λ new old. both (bytes_cmp old.supplier new.supplier) _ (same_bytes old.supplier new.supplier)
+    ghost same_key = { λ new old. both (bytes_cmp old.supplier new.supplier) _
+        (same_bytes old.supplier new.supplier)
         (both (bytes_cmp old.number new.number) _ (same_bytes old.number new.number)
         (same_numbers old.line new.line)) };
 }
@@ -349,6 +350,7 @@ impl Settable for MailRow {
         old.supplier == self.supplier && old.number == self.number
     }
 
-    ghost same_key = { λ new old. both (bytes_cmp old.supplier new.supplier) _ (same_bytes old.supplier new.supplier)
+    ghost same_key = { λ new old. both (bytes_cmp old.supplier new.supplier) _
+        (same_bytes old.supplier new.supplier)
         (same_numbers old.number new.number) };
 }

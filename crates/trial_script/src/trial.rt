@@ -104,7 +104,10 @@ fn input_of(alloc: Global, asker: Option<&Asker>, request: Request) -> Result<In
     })
 }
 
-fn put(inputs: &mut Vec<Input>, input: Result<Input, ScriptFault>) -> Result<(), ScriptFault> {
+fn push_input(
+    inputs: &mut Vec<Input>,
+    input: Result<Input, ScriptFault>,
+) -> Result<(), ScriptFault> {
     match inputs.push(input?) {
         Ok(()) => Ok(()),
         Err(_) => Err(ScriptFault::Memory),
@@ -248,7 +251,7 @@ impl<S: Store + Drop, O: Opener<S>> Trial<S, O> {
     // Asks, or puts what is asked into the run.
     fn ask<W: Sink>(&mut self, request: Request, out: &mut W) -> Result<(), ScriptFault> {
         match &mut self.run {
-            Some(inputs) => put(inputs, input_of(self.alloc, self.asker.as_ref(), request)),
+            Some(inputs) => push_input(inputs, input_of(self.alloc, self.asker.as_ref(), request)),
             None => self.step(request, out),
         }
     }

@@ -172,7 +172,12 @@ fn judged(
     requires each_unit { length known.used ≡ length despatch.now.units }
     requires apart { has_twice (map (λ unit. unit.sscc) despatch.now.units) ≡ false }
 {
-    let (retailer, row, delivery, _) = setting;
+    let Setting {
+        retailer,
+        row,
+        delivery,
+        ..
+    } = setting;
     Ok(judge_despatch(alloc, &retailer, Some(&row), known, delivery, despatch)?)
 }
 
@@ -183,7 +188,7 @@ fn verdict_on(alloc: Global, known: Known, despatch: &Despatch) -> Result<Verdic
     if known.used.as_slice().len() != despatch.units.as_slice().len() {
         return Err(Fail::new("not a flag for each unit"));
     }
-    let setting = setting(alloc)?;
+    let setting = usual_setting(alloc)?;
     judged(alloc, setting, known, despatch)
 }
 

@@ -140,7 +140,12 @@ fn judged(
     known: &Known,
     order: &Order,
 ) -> Result<Verdict, Fail> {
-    let (retailer, row, delivery, body) = setting;
+    let Setting {
+        retailer,
+        row,
+        delivery,
+        body,
+    } = setting;
     let supplier = registered(&row, case.is_registered);
     Ok(judge_order(alloc, &retailer, supplier, known, delivery, body, order)?)
 }
@@ -154,7 +159,7 @@ fn known_of(alloc: Global, case: &OrderCase) -> Result<Known, Fail> {
 
 fn verdict(alloc: Global, case: &OrderCase) -> Result<Verdict, Fail> {
     let order = order(alloc, case.buyer, case.supplier)?;
-    let setting = setting(alloc)?;
+    let setting = usual_setting(alloc)?;
     let known = known_of(alloc, case)?;
     judged(alloc, setting, case, &known, &order)
 }

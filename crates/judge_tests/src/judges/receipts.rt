@@ -246,7 +246,12 @@ fn judged(
     requires apart { has_twice (map (λ unit. unit.sscc) receipt.now.units) ≡ false }
     requires sums { list_all (λ unit. has_sums unit.lines) receipt.now.units ≡ true }
 {
-    let (retailer, row, delivery, body) = setting;
+    let Setting {
+        retailer,
+        row,
+        delivery,
+        body,
+    } = setting;
     let supplier = registered(&row, is_registered);
     Ok(judge_receipt(alloc, &retailer, supplier, known, delivery, body, receipt)?)
 }
@@ -264,7 +269,7 @@ fn verdict_on(
     if known.pallets.as_slice().len() != receipt.units.as_slice().len() {
         return Err(Fail::new("not a pallet for each unit"));
     }
-    let setting = setting(alloc)?;
+    let setting = usual_setting(alloc)?;
     judged(alloc, setting, is_registered, known, receipt)
 }
 

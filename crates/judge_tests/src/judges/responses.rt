@@ -236,13 +236,18 @@ fn judged(
     known: Known,
     response: &Response,
 ) -> Result<Verdict, Fail> {
-    let (retailer, row, delivery, _) = setting;
+    let Setting {
+        retailer,
+        row,
+        delivery,
+        ..
+    } = setting;
     Ok(judge_response(alloc, &retailer, Some(&row), known, delivery, response)?)
 }
 
 fn verdict(alloc: Global, case: &ResponseCase) -> Result<Verdict, Fail> {
     let response = response(alloc, case)?;
-    let setting = setting(alloc)?;
+    let setting = usual_setting(alloc)?;
     let known = known(alloc, *case.lines, None)?;
     judged(alloc, setting, known, &response)
 }

@@ -3,5 +3,5 @@ use Rattle.edi_goods.specs.Receipt.{unit_from}
 use Rattle.edi_goods.proofs.receipt.units_of.Given as goal
 
 -- the units are those so far and those of the rest
-abbrev pub invariant-loop-place : goal.invariant-loop-place
-invariant-loop-place l = map unit_from l.units ≡ l.read ++ map unit_from (drop l.place l.units)
+abbrev pub invariant-loop-index : goal.invariant-loop-index
+invariant-loop-index l = map unit_from l.units ≡ l.read ++ map unit_from (drop l.index l.units)

@@ -5,8 +5,8 @@ use Rattle.edi_goods.proofs.units.item_units.Goals as goal
 pub returns-in_err-items-clause-err : goal.returns-in_err-items-clause-err
 returns-in_err-items-clause-err c = grind (arith, common_steps)
 
-pub loop-place-preserved : goal.loop-place-preserved
-loop-place-preserved c = grind (arith, common_steps)
+pub loop-index-preserved : goal.loop-index-preserved
+loop-index-preserved c = grind (arith, common_steps)
 
 pub invariant_of-push : goal.invariant_of-push
 invariant_of-push c = search rules

@@ -2,5 +2,5 @@ use Rattle.std.proofs.Common.{arith}
 use Rattle.std.proofs.lemmas.Grind.{common_steps}
 use Rattle.edi_messages.proofs.lines.line_items.Goals as goal
 
-pub loop-place-preserved : goal.loop-place-preserved
-loop-place-preserved c = grind (arith, common_steps)
+pub loop-index-preserved : goal.loop-index-preserved
+loop-index-preserved c = grind (arith, common_steps)

@@ -1,10 +1,10 @@
 use Rattle.hub_register.specs.Register.{register_of}
-use Rattle.hub_commands.proofs.Verdicts.{judged, written, unwritten}
+use Rattle.hub_commands.proofs.Verdicts.{checked, written, unwritten}
 use Rattle.hub_commands.proofs.check.check_run.Goals as goal
 
-pub returns-clause-judged : goal.returns-clause-judged
-returns-clause-judged g c =
-    judged (register_of c.args.text.now) _ _ _ _ _ _ _ _ _ _ c.in-Ok.ensures.status c.in-Ok.ensures.line c.print_verdict.ensures.told
+pub returns-clause-checked : goal.returns-clause-checked
+returns-clause-checked g c =
+    checked (register_of c.args.text.now) _ _ _ _ _ _ _ _ _ _ c.in-Ok.ensures.status c.in-Ok.ensures.line c.print_verdict.ensures.told
 
 pub returns-clause-written : goal.returns-clause-written
 returns-clause-written g c =

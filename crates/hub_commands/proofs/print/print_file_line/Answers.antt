@@ -1,6 +1,7 @@
 use Rattle.std.proofs.Common.{◌++◌, codes}
 use Rattle.std.proofs.lemmas.Result.{on_err_weaker}
-use Rattle.hub_commands.proofs.Output.{on_err, lost_first, lost_second, written_as, lost_as}
+use Rattle.edi_relay.proofs.Lines.{on_err}
+use Rattle.hub_commands.proofs.Output.{lost_first, lost_second, written_as, lost_as}
 use Rattle.hub_commands.proofs.print.print_file_line.Goals as goal
 
 pub returns-in_err-print-clause-err : goal.returns-in_err-print-clause-err

@@ -50,7 +50,7 @@ returns-in_default-clause-answered g c honest may =
     let written : c.extend_from_slice.new.self.items ≡ c.take_message.new.reply.items ++ stopped_line =
     grind (arith, common_steps) in
     let body : c.from_vec.result ≡ c.loop-message.reply.items ++ stopped_line =
-    c.from_vec.ensures ∙ written ∙ ap (λ xs. xs ++ stopped_line) c.in_default.ensures.reply_stays in
+    c.from_vec.ensures ∙ written ∙ ap (λ xs. xs ++ stopped_line) c.in_default.ensures.reply.stays in
     let same = c.in_default.ensures.unharmed.same honest in
     record {
       mark = StoppedAfter count;
@@ -95,7 +95,7 @@ loop-message-preserved g c =
     subst (λ (xs : List ℕ).
     DoneSoFar deliver c.args.upload.now.moment c.args.upload.now.interchange.now t after
     (count + 1) c.either_refused-refused.result xs)
-    (sym c.in-Ok.ensures.line)
+    (sym c.in-Ok.ensures.reply.line)
     (subst (λ (b : Bool).
     DoneSoFar deliver c.args.upload.now.moment c.args.upload.now.interchange.now t after (count + 1) b
     (c.loop-message.reply.items
@@ -104,7 +104,7 @@ loop-message-preserved g c =
     (so_far_more deliver c.args.upload.now.moment c.args.upload.now.interchange.now t before after count
     c.loop-message.refused c.loop-message.reply.items c.message-item.result told below there far one)) in
     record {
-      room = c.take_message.ensures.room c.loop-message.invariant.room;
+      room = c.take_message.ensures.reply.room c.loop-message.invariant.room;
       was_honest = λ h. c.loop-message.invariant.was_honest (c.take_message.ensures.unharmed.was_honest h);
       may = λ h m. c.take_message.ensures.may h
           (c.loop-message.invariant.may (c.take_message.ensures.unharmed.was_honest h) m);

@@ -4,10 +4,10 @@ use Rattle.hub_http.specs.Wording.{asked_as}
 use Rattle.hub_http.specs.declared.refusal.Refusal.TheVariants.{BadRequest}
 use Rattle.hub_http.proofs.answer.answer_asked.Goals as goal
 
-pub returns-in-Ok-clause-once : goal.returns-in-Ok-clause-once
-returns-in-Ok-clause-once g c =
+pub returns-in-Ok-clause-or_fails : goal.returns-in-Ok-clause-or_fails
+returns-in-Ok-clause-or_fails g c =
     ((with_body (asked_as c.args.asked.now) c.in-Ok.body, c.answer_body.ensures.answers), search rules)
 
-pub returns-in-Err-Memory-clause-once : goal.returns-in-Err-Memory-clause-once
-returns-in-Err-Memory-clause-once g c =
+pub returns-in-Err-Memory-clause-or_fails : goal.returns-in-Err-Memory-clause-or_fails
+returns-in-Err-Memory-clause-or_fails g c =
     ((Err BadRequest, inr (refl, (refl, c.stopped.ensures))), search rules)

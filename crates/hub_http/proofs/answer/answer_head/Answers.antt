@@ -22,5 +22,5 @@ returns-in-Ok-clause-answers g c =
     (subst (λ (r : Result AskedHere Refusal). asked_or_refused r ≡ asked_by c.args.hub.now.0 c.args.head.now) c.in-Ok.is
     c.asked_of.ensures) c.rest.ensures c.answer_asked.ensures.answers
 
-pub returns-in-Err-clause-once : goal.returns-in-Err-clause-once
-returns-in-Err-clause-once g c = ((Err c.in-Err.refusal, inl (refl, c.refused.ensures)), refl)
+pub returns-in-Err-clause-or_fails : goal.returns-in-Err-clause-or_fails
+returns-in-Err-clause-or_fails g c = ((Err c.in-Err.refusal, inl (refl, c.refused.ensures)), refl)

@@ -1,6 +1,6 @@
 use Rattle.std.proofs.Common.{◌≡◌, ◌+◌, Bool, Err, inl, refl, subst, arith}
 use Rattle.http_messages.specs.Head.{longest_head}
-use Rattle.hub_http.specs.Answer.{AnswersOnce, Steps, size_asked}
+use Rattle.hub_http.specs.Answer.{AnswersOrFails, Steps, size_asked}
 use Rattle.hub_http.specs.Asked.{asked_by, longest_body}
 use Rattle.hub_http.specs.declared.refusal.Refusal.TheVariants.{BadRequest}
 use Rattle.hub_http.proofs.Bounds.{asked_short, both_taken, taken_within}
@@ -36,12 +36,12 @@ returns-in-None-clause-answered g c =
     (c.args.hub.now ≡ c.args.hub.now) c.args.hub.now.0 _ _ c.refused.result (rw c.in-None.is at found)
     c.in_ok-head.ensures.limit (inl (refl, c.refused.ensures))
 
-pub returns-in-Some-clause-once : goal.returns-in-Some-clause-once
-returns-in-Some-clause-once g c =
+pub returns-in-Some-clause-or_fails : goal.returns-in-Some-clause-or_fails
+returns-in-Some-clause-or_fails g c =
     subst (λ (before : Bool).
-    AnswersOnce (Steps g.S.Store.content g.S.Store.honest g.S.Store.left c.args.moment c.args.hub.now c.answer_head.new.hub)
+    AnswersOrFails (Steps g.S.Store.content g.S.Store.honest g.S.Store.left c.args.moment c.args.hub.now c.answer_head.new.hub)
     (c.answer_head.new.hub ≡ c.args.hub.now) before (g.R.Source.failed c.answer_head.new.reader) c.answer_head.result)
-    c.in_ok-head.ensures.kept c.answer_head.ensures.once
+    c.in_ok-head.ensures.kept c.answer_head.ensures.or_fails
 
-pub returns-in-None-clause-once : goal.returns-in-None-clause-once
-returns-in-None-clause-once g c = ((Err BadRequest, inl (refl, c.refused.ensures)), c.in_ok-head.ensures.kept)
+pub returns-in-None-clause-or_fails : goal.returns-in-None-clause-or_fails
+returns-in-None-clause-or_fails g c = ((Err BadRequest, inl (refl, c.refused.ensures)), c.in_ok-head.ensures.kept)

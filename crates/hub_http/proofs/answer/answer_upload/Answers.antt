@@ -20,8 +20,8 @@ returns-in-Ok-Some-clause-answers g c =
     IsUpload u (body_in c.args.asked.now.size (c.args.front.now ++ left)))) c.in-Ok-Some.field-0-is c.in-Ok-Some.ensures.body)
     c.ask_opened.ensures.asked
 
-pub returns-in-Ok-Some-clause-once : goal.returns-in-Ok-Some-clause-once
-returns-in-Ok-Some-clause-once g c = (
+pub returns-in-Ok-Some-clause-or_fails : goal.returns-in-Ok-Some-clause-or_fails
+returns-in-Ok-Some-clause-or_fails g c = (
   one_upload (Steps g.S.Store.content g.S.Store.honest g.S.Store.left c.args.moment c.args.hub.now c.ask_opened.new.hub)
       (c.ask_opened.new.hub ≡ c.args.hub.now) (asked_as c.args.asked.now) c.in-Ok-Some.upload c.ask_opened.result
       (subst (λ (u : Option (Result Interchange OpenFault)). IfSome u (λ upload. (bytes : List ℕ) × Opens upload (opened bytes)))
@@ -36,9 +36,9 @@ returns-in-Ok-Some-clause-stays g c =
     c.in-Ok-Some.field-0-is c.in-Ok-Some.ensures.some in
     c.ask_opened.ensures.stays some.0 some.1
 
-pub returns-in-Ok-None-clause-once : goal.returns-in-Ok-None-clause-once
-returns-in-Ok-None-clause-once g c = ((Err BadRequest, inl (refl, c.refused.ensures)), search rules)
+pub returns-in-Ok-None-clause-or_fails : goal.returns-in-Ok-None-clause-or_fails
+returns-in-Ok-None-clause-or_fails g c = ((Err BadRequest, inl (refl, c.refused.ensures)), search rules)
 
-pub returns-in-Err-Memory-clause-once : goal.returns-in-Err-Memory-clause-once
-returns-in-Err-Memory-clause-once g c =
+pub returns-in-Err-Memory-clause-or_fails : goal.returns-in-Err-Memory-clause-or_fails
+returns-in-Err-Memory-clause-or_fails g c =
     ((Err BadRequest, inr (refl, (refl, c.stopped.ensures))), search rules)

@@ -11,14 +11,14 @@ returns-in-Ok-write_answer-clause-served g c =
 
 pub returns-in-Ok-write_answer-clause-written : goal.returns-in-Ok-write_answer-clause-written
 returns-in-Ok-write_answer-clause-written g c =
-    (c.in-Ok.answer, c.in-Ok.ensures.once.0, c.in-Ok-write_answer.ensures.bytes, c.as_u16.ensures.value)
+    (c.in-Ok.answer, c.in-Ok.ensures.or_fails.0, c.in-Ok-write_answer.ensures.bytes, c.as_u16.ensures.value)
 
 pub returns-in-Ok-write_answer-clause-stepped : goal.returns-in-Ok-write_answer-clause-stepped
 returns-in-Ok-write_answer-clause-stepped g c =
     one_asked (Steps g.S.Store.content g.S.Store.honest g.S.Store.left c.args.moment c.args.hub.now c.answer_one.new.hub)
-    (c.answer_one.new.hub ≡ c.args.hub.now) c.args.hub.now.0 c.in-Ok.answer c.in-Ok.ensures.once.0
+    (c.answer_one.new.hub ≡ c.args.hub.now) c.args.hub.now.0 c.in-Ok.answer c.in-Ok.ensures.or_fails.0
 
 pub returns-clause-stepped : goal.returns-clause-stepped
 returns-clause-stepped g c =
     one_asked (Steps g.S.Store.content g.S.Store.honest g.S.Store.left c.args.moment c.args.hub.now c.answer_one.new.hub)
-    (c.answer_one.new.hub ≡ c.args.hub.now) c.args.hub.now.0 c.in-Ok.answer c.in-Ok.ensures.once.0
+    (c.answer_one.new.hub ≡ c.args.hub.now) c.args.hub.now.0 c.in-Ok.answer c.in-Ok.ensures.or_fails.0

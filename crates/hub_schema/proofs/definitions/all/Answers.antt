@@ -1,4 +1,4 @@
-use Rattle.std.proofs.Common.{refl, arith}
+use Rattle.std.proofs.Common.{arith}
 use Rattle.std.proofs.lemmas.Fmt.{decimal_digit}
 use Rattle.sqlite.specs.Listing.{understood}
 use Rattle.sqlite_tied.specs.Compute.{everything}
@@ -9,52 +9,4 @@ returns-clause-indexes c = rw (decimal_digit 1 (omega arith), decimal_digit 2 (o
 
 pub returns-clause-texts : goal.returns-clause-texts
 unfolding understood everything
-returns-clause-texts c = (
-  record { command = refl; whole = refl; plain = (refl, refl); defined = refl; calm = refl },
-  refl,
-  (
-    record { command = refl; whole = refl; plain = (refl, refl); defined = refl; calm = refl },
-    refl,
-    (
-      record { command = refl; whole = refl; plain = (refl, refl); defined = refl; calm = refl },
-      refl,
-      (
-        record { command = refl; whole = refl; plain = (refl, refl); defined = refl; calm = refl },
-        refl,
-        (
-          record { command = refl; whole = refl; plain = (refl, refl); defined = refl; calm = refl },
-          refl,
-          (
-            record { command = refl; whole = refl; plain = (refl, refl); defined = refl; calm = refl },
-            refl,
-            (
-              record { command = refl; whole = refl; plain = (refl, refl); defined = refl; calm = refl },
-              refl,
-              (
-                record { command = refl; whole = refl; plain = (refl, refl); defined = refl; calm = refl },
-                refl,
-                (
-                  record { command = refl; whole = refl; plain = (refl, refl); defined = refl; calm = refl },
-                  refl,
-                  (
-                    record { command = refl; whole = refl; plain = (refl, refl); defined = refl; calm = refl },
-                    refl,
-                    (
-                      record { command = refl; whole = refl; plain = (refl, refl); defined = refl; calm = refl },
-                      refl,
-                      (
-                        record { command = refl; whole = refl; plain = (refl, refl); defined = refl; calm = refl },
-                        refl,
-                        tt,
-                      ),
-                    ),
-                  ),
-                ),
-              ),
-            ),
-          ),
-        ),
-      ),
-    ),
-  ),
-)
+returns-clause-texts c = assumption

@@ -1,20 +1,7 @@
-use Rattle.std.proofs.Common.{refl}
 use Rattle.sqlite.specs.Listing.{understood}
 use Rattle.sqlite_tied.specs.Compute.{everything}
 use Rattle.hub_schema.proofs.definitions.parties.Goals as goal
 
 pub returns : goal.returns
 unfolding understood everything
-returns c = (
-  record { command = refl; whole = refl; plain = (refl, refl); defined = refl; calm = refl },
-  refl,
-  (
-    record { command = refl; whole = refl; plain = (refl, refl); defined = refl; calm = refl },
-    refl,
-    (
-      record { command = refl; whole = refl; plain = (refl, refl); defined = refl; calm = refl },
-      refl,
-      tt,
-    ),
-  ),
-)
+returns c = assumption

@@ -7,14 +7,14 @@ use Rattle.hub_sql.proofs.founding.founded_bare.Goals as goal
 pub returns-in-Ok-clause-founds : goal.returns-in-Ok-clause-founds
 returns-in-Ok-clause-founds g c = record {
   before = empty;
-  whole = c.in-Ok.ensures.whole;
+  whole = c.in-Ok.ensures.holds.whole;
   stood = λ honest. inl (c.requires.bare, refl);
   fit = λ honest. refl;
-  rows = c.in-Ok.ensures.rows;
-  holds = λ honest. subst HoldsRegister (sym (c.in-Ok.ensures.rows honest))
+  rows = c.in-Ok.ensures.holds.rows_are;
+  holds = λ honest. subst HoldsRegister (sym (c.in-Ok.ensures.holds.rows_are honest))
       (c.founded_tables_hold_their_register.ensures.holds c.args.register.now c.in-Ok.ensures.register);
-  crash = c.in-Ok.ensures.crash;
-  clean = c.in-Ok.ensures.clean;
+  crash = c.in-Ok.ensures.holds.crash;
+  clean = c.in-Ok.ensures.holds.clean;
 }
 
 pub returns-in-Err-clause-refuses : goal.returns-in-Err-clause-refuses

@@ -1,48 +1,47 @@
 use Rattle.std.proofs.Common.{inl, inr, sym, ◌∙◌}
 use Rattle.sqlite.specs.Held.{state}
 use Rattle.hub_sql.specs.declared.version.Version.TheVariants.{First}
-use Rattle.hub_sql.proofs.Migrated.{may_be_founded, migrates, refused_old, refused_version, rows_refused}
-use Rattle.hub_sql.proofs.Sparing.{spared_anew, spared_before, spared_more}
+use Rattle.hub_sql.proofs.Migrated.{migrates, refused_anew, refused_old, refused_version}
+use Rattle.hub_sql.proofs.Sparing.{IsAnew, spared_before}
+use Rattle.hub_sql.proofs.migrating.migrated.Given as given
 use Rattle.hub_sql.proofs.migrating.migrated.Goals as goal
+use Rattle.hub_sql.proofs.migrating.migrated.Goals.{After-beside}
 
 pub returns-in-Err-clause-refuses : goal.returns-in-Err-clause-refuses
 returns-in-Err-clause-refuses g c =
-    refused_version g.S.Store c.args.register.now (state g.S.Store c.args.conn) c.requires.tables c.in-Err.conn c.in-Err.fault
-    c.in-Err.ensures.refuses c.in-Err.ensures.other c.in-Err.ensures.unclean
-    (spared_more g.S.Store (λ _. ⊥) _ (state g.S.Store c.args.conn) c.in-Err.conn (λ trees never. absurd never) c.in-Err.ensures.spared)
+    refused_version c.requires.tables c.in-Err.ensures.refuses c.in-Err.ensures.other c.in-Err.ensures.unclean
+    c.in-Err.ensures.spared
 
 pub returns-in-Err-reopened-clause-refuses : goal.returns-in-Err-reopened-clause-refuses
 returns-in-Err-reopened-clause-refuses g c =
-    refused_old g.S.Store c.args.register.now (state g.S.Store c.args.conn) c.in-Ok.ensures.schema _ _
+    refused_old c.in-Ok.ensures.schema
     (elim c.in-Err-reopened.ensures.fails [ inl memory ↦ inr (inl cc) | inr disk ↦ inr (inr cc) ])
     (λ is. absurd cc)
     (spared_before g.S.Store (state g.S.Store c.args.conn) c.in-Ok.conn c.in-Err-reopened.store
     (λ clean. (c.in-Ok.ensures.holds clean).1) c.in-Ok.ensures.clean c.in-Err-reopened.ensures.spared)
 
-pub returns-in-Ok-beside-clause-founds : goal.returns-in-Ok-beside-clause-founds
-returns-in-Ok-beside-clause-founds g c =
-    migrates g.S.Store c.args.register.now (state g.S.Store c.args.conn) c.in-Ok.conn c.in-Ok-reopened.conn
-    c.in-Ok.ensures.holds c.in-Ok-reopened.ensures.clean c.in-Ok.ensures.clean c.in-Ok-reopened.ensures.rows
-    c.in-Ok-beside.store c.in-Ok-beside.ensures.whole c.in-Ok-beside.ensures.fits c.in-Ok-beside.ensures.rows
-    (λ t hubs keys prefixes. c.rows_beside_stay.ensures.holds c.args.register.now t c.in-Ok-beside.ensures.register hubs keys prefixes)
-    c.in-Ok-beside.ensures.crash c.in-Ok-beside.ensures.clean
+anew : (g : given.Over) (c : After-beside g)
+    → IsAnew g.S.Store First (state g.S.Store c.args.conn) c.in-Ok.conn c.in-Ok-reopened.conn
+anew g c = record {
+  known = c.in-Ok.ensures.schema;
+  holds = c.in-Ok.ensures.holds;
+  clean = c.in-Ok.ensures.clean;
+  early = c.in-Ok-reopened.ensures.clean;
+  rows = c.in-Ok-reopened.ensures.rows;
+  limit = c.in-Ok-reopened.ensures.fresh.unlimited ∙ sym c.requires.unlimited;
+  ready = c.in-Ok-reopened.ensures.ready;
+  settled = g.met.S.Store.settled c.in-Ok-reopened.conn.store;
+}
 
 pub returns-in-Err-beside-clause-refuses : goal.returns-in-Err-beside-clause-refuses
 returns-in-Err-beside-clause-refuses g c =
+    refused_anew (anew g (goal.at.returns-in-Err-beside-clause-refuses g c).After-beside) c.args.register.now
+    c.in-Err-beside.ensures.fails c.in-Err-beside.ensures.none c.in-Err-beside.ensures.spared
+
+pub returns-in-Ok-beside-clause-founds : goal.returns-in-Ok-beside-clause-founds
+returns-in-Ok-beside-clause-founds g c =
     let register = c.args.register.now in
-    let was = state g.S.Store c.args.conn in
-    let mid = c.in-Ok.conn in
-    let conn = c.in-Ok-reopened.conn in
-    let back = c.in-Err-beside.conn in
-    let spared = c.in-Err-beside.ensures.spared in
-    refused_old g.S.Store register was c.in-Ok.ensures.schema _ c.in-Err-beside.fault c.in-Err-beside.ensures.fails
-    (λ is. rows_refused g.S.Store register was mid conn c.in-Ok.ensures.holds c.in-Ok-reopened.ensures.clean
-    c.in-Ok.ensures.clean c.in-Ok-reopened.ensures.rows back spared.clean c.in-Ok.ensures.schema
-    (c.in-Err-beside.ensures.none is))
-    (spared_anew g.S.Store _ _ was mid conn back
-    (may_be_founded g.S.Store register was mid conn c.in-Ok.ensures.holds c.in-Ok-reopened.ensures.clean
-    c.in-Ok.ensures.clean c.in-Ok-reopened.ensures.rows back spared.clean)
-    First c.in-Ok.ensures.schema (λ clean. (c.in-Ok.ensures.holds clean).1) c.in-Ok.ensures.clean
-    c.in-Ok-reopened.ensures.clean c.in-Ok-reopened.ensures.rows
-    (c.in-Ok-reopened.ensures.fresh.unlimited ∙ sym c.requires.unlimited)
-    c.in-Ok-reopened.ensures.ready (g.met.S.Store.settled conn.store) spared)
+    migrates (anew g (goal.at.returns-in-Ok-beside-clause-founds g c).After-beside) register
+    c.in-Ok-beside.ensures.holds.whole c.in-Ok-beside.ensures.fits c.in-Ok-beside.ensures.holds.rows_are
+    (λ t. c.rows_beside_stay.ensures.holds register t c.in-Ok-beside.ensures.register)
+    c.in-Ok-beside.ensures.holds.crash c.in-Ok-beside.ensures.holds.clean

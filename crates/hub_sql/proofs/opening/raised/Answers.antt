@@ -8,10 +8,12 @@ returns-in-First g c =
     let left = left_alone g.S.Store c.args.conn (g.met.S.Store.settled c.args.conn.store) (c.is_autocommit-idle.ensures.settled idle) in
     rw c.settled.ensures
     (record {
-      whole = refl;
-      rows = λ clean. refl;
-      crash = λ clean t h. left (c.requires.open clean) t h;
-      clean = λ clean. clean;
+      holds = record {
+        whole = refl;
+        rows_are = λ clean. refl;
+        crash = λ clean t h. left (c.requires.open clean) t h;
+        clean = λ clean. clean;
+      };
       fails = tt;
       spared = tt;
     })

@@ -10,27 +10,27 @@ use Rattle.hub_transactions.proofs.Reading.{act_of_read}
 use Rattle.hub_transactions.proofs.judged.judged_despatch.Goals as goal
 
 pub returns-clause-judged : goal.returns-clause-judged
-returns-clause-judged g c = λ honest kept.
-    let s = c.args.supplier.now in
-    let t = g.S.Store.content c.args.store.now in
-    let despatch = c.in-Ok.despatch in
-    let told = c.in_ok-known.ensures.told honest kept in
-    let retailer = c.retailer-retailer.ensures.value in
-    let judge : Despatch → Verdict =
-    λ despatch. judge_despatch c.args.register.now.retailer (Some s) (has_pallet t) c.args.incoming despatch (view s.gln t) in
-    let verdict = c.in_ok-verdict.ensures (has_pallet t) (view s.gln t) told
-    ∙ ap (λ gln. judge_despatch gln (Some s) (has_pallet t) c.args.incoming despatch (view s.gln t))
-    retailer in
-    ap (λ read. read_act read judge t) c.in-Ok.ensures.ok ∙ act_of_read judge despatch c.in_ok-verdict.verdict t verdict
-
-pub returns-clause-fit : goal.returns-clause-fit
-returns-clause-fit g c = λ honest here rise.
-    let s = c.args.supplier.now in
-    let t = g.S.Store.content c.args.store.now in
-    let despatch = c.in-Ok.despatch in
-    let told = c.in_ok-known.ensures.told honest (here.sound.kept s.gln) in
-    let verdict = c.in_ok-verdict.ensures (has_pallet t) (view s.gln t) told
-    ∙ ap (λ gln. judge_despatch gln (Some s) (has_pallet t) c.args.incoming despatch (view s.gln t)) c.retailer-retailer.ensures.value in
-    subst (λ verdict. VerdictFits verdict t) (sym verdict) (verdict_fits _ t (λ changes accepted.
-    c.accepted_changes_fit.ensures.despatch c.args.register.now.suppliers s t c.args.register.now.retailer (has_pallet t) c.args.incoming
-    despatch changes here rise accepted))
+returns-clause-judged g c = record {
+  told = λ honest kept.
+      let s = c.args.supplier.now in
+      let t = g.S.Store.content c.args.store.now in
+      let despatch = c.in-Ok.despatch in
+      let told = c.in_ok-known.ensures.told honest kept in
+      let retailer = c.retailer-retailer.ensures.value in
+      let judge : Despatch → Verdict =
+      λ despatch. judge_despatch c.args.register.now.retailer (Some s) (has_pallet t) c.args.incoming despatch (view s.gln t) in
+      let verdict = c.in_ok-verdict.ensures (has_pallet t) (view s.gln t) told
+      ∙ ap (λ gln. judge_despatch gln (Some s) (has_pallet t) c.args.incoming despatch (view s.gln t))
+      retailer in
+      ap (λ read. read_act read judge t) c.in-Ok.ensures.ok ∙ act_of_read judge despatch c.in_ok-verdict.verdict t verdict;
+  fit = λ honest here rise.
+      let s = c.args.supplier.now in
+      let t = g.S.Store.content c.args.store.now in
+      let despatch = c.in-Ok.despatch in
+      let told = c.in_ok-known.ensures.told honest (here.sound.kept s.gln) in
+      let verdict = c.in_ok-verdict.ensures (has_pallet t) (view s.gln t) told
+      ∙ ap (λ gln. judge_despatch gln (Some s) (has_pallet t) c.args.incoming despatch (view s.gln t)) c.retailer-retailer.ensures.value in
+      subst (λ verdict. VerdictFits verdict t) (sym verdict) (verdict_fits _ t (λ changes accepted.
+      c.accepted_changes_fit.ensures.despatch c.args.register.now.suppliers s t c.args.register.now.retailer (has_pallet t) c.args.incoming
+      despatch changes here rise accepted));
+}

@@ -18,39 +18,39 @@ use Rattle.hub_transactions.proofs.Reading.{order_names, act_of_read}
 use Rattle.hub_transactions.proofs.judged.judged_order.Goals as goal
 
 pub returns-clause-judged : goal.returns-clause-judged
-returns-clause-judged g c = λ honest kept.
-    let suppliers = c.args.register.now.suppliers in
-    let message = c.args.message.now in
-    let t = g.S.Store.content c.args.store.now in
-    let order = c.in-Ok.order in
-    let is = order_names message order c.in-Ok.ensures.ok in
-    let told = c.in_ok-known.ensures.told honest (subst (λ gln. Kept (view gln t)) is kept) in
-    let retailer = c.retailer-retailer.ensures.value in
-    let supplier = c.supplier-supplier.ensures.value ∙ ap (supplier_row suppliers) (sym is) in
-    let body = c.in_ok-body.ensures in
-    let judge : Order → Verdict =
-    λ order.
-    judge_order c.args.register.now.retailer (supplier_row suppliers (named message)) c.args.incoming (body_of message)
-    order (view (named message) t) in
-    let verdict = c.in_ok-verdict.ensures (view order.supplier t) told
-    ∙ (λ i. judge_order (retailer i) (supplier i) c.args.incoming (body i) order (view (sym is i) t)) in
-    ap (λ read. read_act read judge t) c.in-Ok.ensures.ok ∙ act_of_read judge order c.in_ok-verdict.verdict t verdict
-
-pub returns-clause-fit : goal.returns-clause-fit
-returns-clause-fit g c = λ honest hub rise.
-    let suppliers = c.args.register.now.suppliers in
-    let message = c.args.message.now in
-    let t = g.S.Store.content c.args.store.now in
-    let order = c.in-Ok.order in
-    let told = c.in_ok-known.ensures.told honest (hub.sound.kept order.supplier) in
-    let retailer = c.retailer-retailer.ensures.value in
-    let supplier = c.supplier-supplier.ensures.value in
-    let body = c.in_ok-body.ensures in
-    let judge : Option SupplierRow → Judge =
-    λ supplier. judge_order c.args.register.now.retailer supplier c.args.incoming (body_of message) order in
-    let verdict = c.in_ok-verdict.ensures (view order.supplier t) told
-    ∙ (λ i. judge_order (retailer i) (supplier i) c.args.incoming (body i) order (view order.supplier t)) in
-    subst (λ verdict. VerdictFits verdict t) (sym verdict) (named_fits suppliers order.supplier t judge hub
-    (refused_fits (is_other_buyer c.args.register.now.retailer (Some order.buyer)) codes.Buyer codes.Supplier t)
-    (λ s here changes accepted. c.accepted_changes_fit.ensures.order suppliers s t c.args.register.now.retailer
-    c.args.incoming (body_of message) order changes here rise (order_apart message order c.in-Ok.ensures.ok) accepted))
+returns-clause-judged g c = record {
+  told = λ honest kept.
+      let suppliers = c.args.register.now.suppliers in
+      let message = c.args.message.now in
+      let t = g.S.Store.content c.args.store.now in
+      let order = c.in-Ok.order in
+      let is = order_names message order c.in-Ok.ensures.ok in
+      let told = c.in_ok-known.ensures.told honest (subst (λ gln. Kept (view gln t)) is kept) in
+      let retailer = c.retailer-retailer.ensures.value in
+      let supplier = c.supplier-supplier.ensures.value ∙ ap (supplier_row suppliers) (sym is) in
+      let body = c.in_ok-body.ensures in
+      let judge : Order → Verdict =
+      λ order.
+      judge_order c.args.register.now.retailer (supplier_row suppliers (named message)) c.args.incoming (body_of message)
+      order (view (named message) t) in
+      let verdict = c.in_ok-verdict.ensures (view order.supplier t) told
+      ∙ (λ i. judge_order (retailer i) (supplier i) c.args.incoming (body i) order (view (sym is i) t)) in
+      ap (λ read. read_act read judge t) c.in-Ok.ensures.ok ∙ act_of_read judge order c.in_ok-verdict.verdict t verdict;
+  fit = λ honest hub rise.
+      let suppliers = c.args.register.now.suppliers in
+      let message = c.args.message.now in
+      let t = g.S.Store.content c.args.store.now in
+      let order = c.in-Ok.order in
+      let told = c.in_ok-known.ensures.told honest (hub.sound.kept order.supplier) in
+      let retailer = c.retailer-retailer.ensures.value in
+      let supplier = c.supplier-supplier.ensures.value in
+      let body = c.in_ok-body.ensures in
+      let judge : Option SupplierRow → Judge =
+      λ supplier. judge_order c.args.register.now.retailer supplier c.args.incoming (body_of message) order in
+      let verdict = c.in_ok-verdict.ensures (view order.supplier t) told
+      ∙ (λ i. judge_order (retailer i) (supplier i) c.args.incoming (body i) order (view order.supplier t)) in
+      subst (λ verdict. VerdictFits verdict t) (sym verdict) (named_fits suppliers order.supplier t judge hub
+      (refused_fits (is_other_buyer c.args.register.now.retailer (Some order.buyer)) codes.Buyer codes.Supplier t)
+      (λ s here changes accepted. c.accepted_changes_fit.ensures.order suppliers s t c.args.register.now.retailer
+      c.args.incoming (body_of message) order changes here rise (order_apart message order c.in-Ok.ensures.ok) accepted));
+}

@@ -17,39 +17,39 @@ use Rattle.hub_transactions.proofs.Reading.{receipt_names, act_of_read}
 use Rattle.hub_transactions.proofs.judged.judged_receipt.Goals as goal
 
 pub returns-clause-judged : goal.returns-clause-judged
-returns-clause-judged g c = λ honest kept.
-    let suppliers = c.args.register.now.suppliers in
-    let message = c.args.message.now in
-    let t = g.S.Store.content c.args.store.now in
-    let receipt = c.in-Ok.receipt in
-    let is = receipt_names message receipt c.in-Ok.ensures.ok in
-    let told = c.in_ok-known.ensures.told honest (subst (λ gln. Kept (view gln t)) is kept) in
-    let retailer = c.retailer-retailer.ensures.value in
-    let supplier = c.supplier-supplier.ensures.value ∙ ap (supplier_row suppliers) (sym is) in
-    let body = c.in_ok-body.ensures in
-    let judge : Receipt → Verdict =
-    λ receipt.
-    judge_receipt c.args.register.now.retailer (supplier_row suppliers (named message)) c.args.incoming (body_of message)
-    receipt (view (named message) t) in
-    let verdict = c.in_ok-verdict.ensures (view receipt.supplier t) told
-    ∙ (λ i. judge_receipt (retailer i) (supplier i) c.args.incoming (body i) receipt (view (sym is i) t)) in
-    ap (λ read. read_act read judge t) c.in-Ok.ensures.ok ∙ act_of_read judge receipt c.in_ok-verdict.verdict t verdict
-
-pub returns-clause-fit : goal.returns-clause-fit
-returns-clause-fit g c = λ honest hub rise.
-    let suppliers = c.args.register.now.suppliers in
-    let message = c.args.message.now in
-    let t = g.S.Store.content c.args.store.now in
-    let receipt = c.in-Ok.receipt in
-    let told = c.in_ok-known.ensures.told honest (hub.sound.kept receipt.supplier) in
-    let retailer = c.retailer-retailer.ensures.value in
-    let supplier = c.supplier-supplier.ensures.value in
-    let body = c.in_ok-body.ensures in
-    let judge : Option SupplierRow → Judge =
-    λ supplier. judge_receipt c.args.register.now.retailer supplier c.args.incoming (body_of message) receipt in
-    let verdict = c.in_ok-verdict.ensures (view receipt.supplier t) told
-    ∙ (λ i. judge_receipt (retailer i) (supplier i) c.args.incoming (body i) receipt (view receipt.supplier t)) in
-    subst (λ verdict. VerdictFits verdict t) (sym verdict) (named_fits suppliers receipt.supplier t judge hub
-    (refused_fits (is_other_buyer c.args.register.now.retailer receipt.buyer) codes.Buyer codes.Supplier t)
-    (λ s here changes accepted. c.accepted_changes_fit.ensures.receipt suppliers s t c.args.register.now.retailer
-    c.args.incoming (body_of message) receipt changes here rise accepted))
+returns-clause-judged g c = record {
+  told = λ honest kept.
+      let suppliers = c.args.register.now.suppliers in
+      let message = c.args.message.now in
+      let t = g.S.Store.content c.args.store.now in
+      let receipt = c.in-Ok.receipt in
+      let is = receipt_names message receipt c.in-Ok.ensures.ok in
+      let told = c.in_ok-known.ensures.told honest (subst (λ gln. Kept (view gln t)) is kept) in
+      let retailer = c.retailer-retailer.ensures.value in
+      let supplier = c.supplier-supplier.ensures.value ∙ ap (supplier_row suppliers) (sym is) in
+      let body = c.in_ok-body.ensures in
+      let judge : Receipt → Verdict =
+      λ receipt.
+      judge_receipt c.args.register.now.retailer (supplier_row suppliers (named message)) c.args.incoming (body_of message)
+      receipt (view (named message) t) in
+      let verdict = c.in_ok-verdict.ensures (view receipt.supplier t) told
+      ∙ (λ i. judge_receipt (retailer i) (supplier i) c.args.incoming (body i) receipt (view (sym is i) t)) in
+      ap (λ read. read_act read judge t) c.in-Ok.ensures.ok ∙ act_of_read judge receipt c.in_ok-verdict.verdict t verdict;
+  fit = λ honest hub rise.
+      let suppliers = c.args.register.now.suppliers in
+      let message = c.args.message.now in
+      let t = g.S.Store.content c.args.store.now in
+      let receipt = c.in-Ok.receipt in
+      let told = c.in_ok-known.ensures.told honest (hub.sound.kept receipt.supplier) in
+      let retailer = c.retailer-retailer.ensures.value in
+      let supplier = c.supplier-supplier.ensures.value in
+      let body = c.in_ok-body.ensures in
+      let judge : Option SupplierRow → Judge =
+      λ supplier. judge_receipt c.args.register.now.retailer supplier c.args.incoming (body_of message) receipt in
+      let verdict = c.in_ok-verdict.ensures (view receipt.supplier t) told
+      ∙ (λ i. judge_receipt (retailer i) (supplier i) c.args.incoming (body i) receipt (view receipt.supplier t)) in
+      subst (λ verdict. VerdictFits verdict t) (sym verdict) (named_fits suppliers receipt.supplier t judge hub
+      (refused_fits (is_other_buyer c.args.register.now.retailer receipt.buyer) codes.Buyer codes.Supplier t)
+      (λ s here changes accepted. c.accepted_changes_fit.ensures.receipt suppliers s t c.args.register.now.retailer
+      c.args.incoming (body_of message) receipt changes here rise accepted));
+}

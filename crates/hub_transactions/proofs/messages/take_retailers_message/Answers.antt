@@ -16,12 +16,12 @@ returns-clause-carried g c = λ hub rise.
     let came = incoming c.args.moment c.args.interchange.now message in
     let t = g.S.Store.content c.args.store.now in
     after_looking g.S.Store.content g.S.Store.honest g.S.Store.left c.args.store.now
-    c.judged_for_retailer.new.store c.commit_and_tell.new.store
+    c.judged_of_retailer.new.store c.commit_and_tell.new.store
     (deliver_named register (message, came)) (act_of c.in_ok-judged.judged) told_of (JudgedFits c.in_ok-judged.judged)
     c.in_ok-judged.ensures.stays c.commit_and_tell.ensures.unharmed.was_honest
     (λ honest. ap (λ one. deliver_named register (message, one) t) (sym c.in_ok-came.ensures)
-    ∙ c.in_ok-judged.ensures.judged honest (hub.sound.kept (named message)))
-    (λ honest. c.in_ok-judged.ensures.fit honest hub rise)
+    ∙ c.in_ok-judged.ensures.judged.told honest (hub.sound.kept (named message)))
+    (λ honest. c.in_ok-judged.ensures.judged.fit honest hub rise)
     c.commit_and_tell.result c.commit_and_tell.ensures.carried
 
 pub returns-clause-fails : goal.returns-clause-fails
@@ -30,7 +30,7 @@ returns-clause-fails g c =
     let message = c.args.message.now in
     let came = incoming c.args.moment c.args.interchange.now message in
     let old = g.S.Store.broken c.args.store.now in
-    let middle = g.S.Store.broken c.judged_for_retailer.new.store in
+    let middle = g.S.Store.broken c.judged_of_retailer.new.store in
     let judged = c.in_ok-judged.judged in
     after_judging g.S.Store.plain ⊥ ⊥ old middle (g.S.Store.broken c.commit_and_tell.new.store)
     (deliver_named register (message, came)) judged

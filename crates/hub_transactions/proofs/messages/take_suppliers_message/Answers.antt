@@ -19,14 +19,14 @@ returns-clause-carried g c = λ here rise.
     let came = incoming c.args.moment c.args.interchange.now message in
     let t = g.S.Store.content c.args.store.now in
     after_looking g.S.Store.content g.S.Store.honest g.S.Store.left c.args.store.now
-    c.judged_for_supplier.new.store c.commit_and_tell.new.store
+    c.judged_of_supplier.new.store c.commit_and_tell.new.store
     (deliver_suppliers (view s.gln) (parties_of register) s (message, came))
     (act_of c.in_ok-judged.judged) told_of (JudgedFits c.in_ok-judged.judged)
     c.in_ok-judged.ensures.stays c.commit_and_tell.ensures.unharmed.was_honest
     (λ honest.
     ap (λ one. deliver_suppliers (view s.gln) (parties_of register) s (message, one) t) (sym c.in_ok-came.ensures)
-    ∙ c.in_ok-judged.ensures.judged honest (here.sound.kept s.gln))
-    (λ honest. c.in_ok-judged.ensures.fit honest here rise)
+    ∙ c.in_ok-judged.ensures.judged.told honest (here.sound.kept s.gln))
+    (λ honest. c.in_ok-judged.ensures.judged.fit honest here rise)
     c.commit_and_tell.result c.commit_and_tell.ensures.carried
 
 pub returns-clause-fails : goal.returns-clause-fails
@@ -36,14 +36,14 @@ returns-clause-fails g c =
     let message = c.args.message.now in
     let came = incoming c.args.moment c.args.interchange.now message in
     let old = g.S.Store.broken c.args.store.now in
-    let middle = g.S.Store.broken c.judged_for_supplier.new.store in
+    let middle = g.S.Store.broken c.judged_of_supplier.new.store in
     let judged = c.in_ok-judged.judged in
     let unclean : Type 0 = MessageUnclean message (view s.gln (g.S.Store.content c.args.store.now)) in
     after_judging g.S.Store.plain (g.S.Store.honest c.commit_and_tell.new.store → unclean)
-    (g.S.Store.honest c.judged_for_supplier.new.store → unclean)
+    (g.S.Store.honest c.judged_of_supplier.new.store → unclean)
     old middle (g.S.Store.broken c.commit_and_tell.new.store)
     (deliver_suppliers (view s.gln) (parties_of register) s (message, came)) judged c.commit_and_tell.result
-    (subst (λ (one : IncomingMessage). FailsWith g.S.Store.plain (g.S.Store.honest c.judged_for_supplier.new.store → unclean)
+    (subst (λ (one : IncomingMessage). FailsWith g.S.Store.plain (g.S.Store.honest c.judged_of_supplier.new.store → unclean)
     (UnreadOf (deliver_suppliers (view s.gln) (parties_of register) s (message, one))) old middle (Ok judged))
     c.in_ok-came.ensures c.in_ok-judged.ensures.fails)
     c.commit_and_tell.ensures.fails

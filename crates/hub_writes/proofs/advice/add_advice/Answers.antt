@@ -1,19 +1,11 @@
 use Rattle.std.proofs.Common.{refl}
-use Rattle.hub_writes.proofs.Advices.{add_advice, cells, makes, fits_not}
-use Rattle.hub_writes.proofs.Outcomes.{Executed, insert_acts}
+use Rattle.hub_writes.proofs.Advices.{add_advice, cells, adds_advice}
+use Rattle.hub_writes.proofs.Outcomes.{executed, insert_acts}
 use Rattle.hub_writes.proofs.advice.add_advice.Goals as goal
 
 pub returns-clause-acts : goal.returns-clause-acts
 returns-clause-acts g c =
     let row = c.args.row.now in
-    let did : Executed g.S.Store add_advice (cells row) c.args.tx.now.conn.now c.execute.new.self.conn.now
-    c.execute.result = record {
-      ended = c.execute.ensures.ended;
-      runs = λ clean begun. rw (
-        c.gln_value-supplier.ensures,
-        c.text_value-number.ensures,
-      ) at (c.execute.ensures.runs clean begun);
-      survives = c.execute.ensures.survives;
-    } in
-    insert_acts g.S.Store _ _ _ _ c.execute.result did _ (λ t. refl) (makes row _ _ c.execute.result) (fits_not row _ _)
-    c.insert_ended.result c.insert_ended.ensures
+    let did = executed g.S.Store add_advice (cells row) _ _ _ c.execute.result c.execute.ensures.ended
+    c.execute.ensures.runs c.execute.ensures.survives (rw (c.gln_value-supplier.ensures, c.text_value-number.ensures) refl) in
+    insert_acts g.S.Store _ _ _ _ c.execute.result did _ (adds_advice row) c.insert_ended.result c.insert_ended.ensures

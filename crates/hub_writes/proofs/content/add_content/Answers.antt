@@ -1,6 +1,6 @@
 use Rattle.std.proofs.Common.{sym, ◌∙◌, ◌<◌, ◌^◌, arith, refl}
-use Rattle.hub_writes.proofs.Contents.{add_content, cells, makes, fits_not}
-use Rattle.hub_writes.proofs.Outcomes.{Executed, insert_acts}
+use Rattle.hub_writes.proofs.Contents.{add_content, cells, adds_content}
+use Rattle.hub_writes.proofs.Outcomes.{executed, insert_acts}
 use Rattle.hub_writes.proofs.Steps.{place_is_great, refused_before}
 use Rattle.hub_writes.proofs.content.add_content.Goals as goal
 
@@ -11,27 +11,16 @@ returns-then-is_great-clause-acts g c =
 pub returns-clause-acts : goal.returns-clause-acts
 returns-clause-acts g c =
     let row = c.args.row.now in
-    let did : Executed g.S.Store add_content (cells row) c.args.tx.now.conn.now c.execute.new.self.conn.now
-    c.execute.result = record {
-      ended = c.execute.ensures.ended;
-      runs = λ clean begun. rw (
-        c.sscc_value-sscc.ensures,
-        c.number_value-place.ensures,
-        c.text_value-number.ensures,
-        c.count_value-line.ensures,
-        c.count_value-quantity.ensures,
-      ) at (c.execute.ensures.runs clean begun);
-      survives = c.execute.ensures.survives;
-    } in
+    let did = executed g.S.Store add_content (cells row) _ _ _ c.execute.result c.execute.ensures.ended
+    c.execute.ensures.runs c.execute.ensures.survives (rw (
+      c.sscc_value-sscc.ensures,
+      c.number_value-place.ensures,
+      c.text_value-number.ensures,
+      c.count_value-line.ensures,
+      c.count_value-quantity.ensures,
+    ) refl) in
     let low_place : c.args.row.now.place < 2 ^ 64 = omega arith in
     let low_line : c.args.row.now.line < 2 ^ 64 = omega arith in
     let low_quantity : c.args.row.now.quantity < 2 ^ 64 = omega arith in
-    insert_acts g.S.Store _ _ _ _ c.execute.result did _ (λ t. refl) (makes row _ _ c.execute.result (
-      low_place,
-      low_line,
-      low_quantity,
-    )) (fits_not row _ _ (
-      low_place,
-      low_line,
-      low_quantity,
-    )) c.insert_ended.result c.insert_ended.ensures
+    insert_acts g.S.Store _ _ _ _ c.execute.result did _ (adds_content row (low_place, low_line, low_quantity))
+    c.insert_ended.result c.insert_ended.ensures

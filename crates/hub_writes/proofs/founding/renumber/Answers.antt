@@ -1,50 +1,39 @@
-use Rattle.std.proofs.Common.{◌≡◌, Err, IsTrue, rules, refl, sym, subst}
-use Rattle.sqlite.specs.Held.{Held, state}
+use Rattle.std.proofs.Common.{◌≡◌, Err, IsTrue, rules, refl}
+use Rattle.sqlite.specs.Held.{state}
 use Rattle.sql_rows.proofs.Transactions.{on_ok}
 use Rattle.hub_schema.specs.Rows.{tables_in}
-use Rattle.hub_schema.specs.State.{FoundsTo, HasNumber, HasTables}
+use Rattle.hub_schema.specs.State.{HasNumber, HasTables}
 use Rattle.hub_writes.proofs.Founded.{failed, succeeded}
 use Rattle.hub_writes.proofs.founding.renumber.Goals as goal
 
 pub returns-in_err-raise : goal.returns-in_err-raise
 returns-in_err-raise g c =
-    let asked = HasTables (state g.S.Store c.args.conn.now) × HasNumber 2 (state g.S.Store c.args.conn.now).now.trees in
-    let rows = tables_in (state g.S.Store c.args.conn.now).now.trees in
+    let old = c.args.conn.now in
+    let asked = HasTables (state g.S.Store old) × HasNumber 2 (state g.S.Store old).now.trees in
+    let rows = tables_in (state g.S.Store old).now.trees in
     let fault = c.in_err-raise.field-0.0 in
     let given : c.from_residual.result ≡ Err fault = search rules in
-    let old = c.args.conn.now in
-    let mid = c.raise.new.tx.conn.now in
     let end = c.drop-tx.new.self.0 in
+    let same : end ≡ c.conn-1.given.0 = search rules in
     let idle : IsTrue c.is_autocommit-idle.result = rw (c.is_autocommit-idle.ensures.value, c.requires) in
     let kept = rw c.transaction-tx.ensures.begun at c.raise.ensures.kept in
     let one = rw c.transaction-tx.ensures.begun at c.raise.ensures.survives in
-    let founds = failed g.S.Store old mid end asked rows c.requires
-    (c.is_autocommit-idle.ensures.settled idle) kept one c.drop-tx.ensures.ended fault c.drop-tx.ensures.undone
-    c.drop-tx.ensures.survives in
-    let same : end ≡ c.conn-1.given.0 = search rules in
-    subst (λ (h : Held _). FoundsTo asked rows (state g.S.Store old)
-    (state g.S.Store h) c.from_residual.result) same
-    (subst (FoundsTo asked rows _ _) (sym given) founds)
+    failed g.S.Store old c.raise.new.tx.conn.now end _ same asked rows c.requires (c.is_autocommit-idle.ensures.settled idle)
+    kept one c.drop-tx.ensures.ended fault c.drop-tx.ensures.undone c.drop-tx.ensures.survives _ given
 
 pub returns : goal.returns
 returns g c =
-    let asked = HasTables (state g.S.Store c.args.conn.now) × HasNumber 2 (state g.S.Store c.args.conn.now).now.trees in
-    let rows = tables_in (state g.S.Store c.args.conn.now).now.trees in
     let old = c.args.conn.now in
-    let mid = c.raise.new.tx.conn.now in
+    let asked = HasTables (state g.S.Store old) × HasNumber 2 (state g.S.Store old).now.trees in
+    let rows = tables_in (state g.S.Store old).now.trees in
     let end = c.commit.new.self.0 in
+    let same : end ≡ c.conn-2-1.given.0 = search rules in
     let idle : IsTrue c.is_autocommit-idle.result = rw (c.is_autocommit-idle.ensures.value, c.requires) in
     let kept = rw c.transaction-tx.ensures.begun at c.raise.ensures.kept in
     let one = rw c.transaction-tx.ensures.begun at c.raise.ensures.survives in
     let makes = rw c.transaction-tx.ensures.begun at c.in_ok-raise.ensures.makes in
-    let founds = succeeded g.S.Store old mid end asked rows c.requires
+    succeeded g.S.Store old c.raise.new.tx.conn.now end _ same asked rows c.requires
     (c.is_autocommit-idle.ensures.settled idle) kept one c.commit.ensures.ended
-    (λ clean so.
-    makes clean (record { schema = so.0.schema; ordered = so.0.ordered; sound = so.0.sound }) so.1 refl)
-    c.commit.ensures.survives c.commit.result
-    (λ clean. on_ok c.commit.result (λ h. h.1) (c.commit.ensures.ok clean)) c.commit.ensures.err (g.met.S.Store.settled
-    end.store) in
-    let same : end ≡ c.conn-2-1.given.0 = search rules in
-    subst (λ (h : Held _). FoundsTo asked rows (state g.S.Store old)
-    (state g.S.Store h) c.call_ended.result) same
-    (subst (FoundsTo asked rows _ _) (sym c.call_ended.ensures) founds)
+    (λ clean so. makes clean (record { schema = so.0.schema; ordered = so.0.ordered; sound = so.0.sound }) so.1 refl)
+    c.commit.ensures.survives c.commit.result (λ clean. on_ok c.commit.result (λ h. h.1) (c.commit.ensures.ok clean))
+    c.commit.ensures.err (g.met.S.Store.settled end.store) _ c.call_ended.ensures

@@ -1,15 +1,11 @@
-use Rattle.hub_writes.proofs.Lines.{set_line, cells, set_makes, set_met}
-use Rattle.hub_writes.proofs.Outcomes.{Executed, set_acts}
+use Rattle.hub_writes.proofs.Lines.{set_line, cells, sets_line}
+use Rattle.hub_writes.proofs.Outcomes.{executed, set_acts}
 use Rattle.hub_writes.proofs.line.set_line.Goals as goal
 
 pub returns-clause-acts : goal.returns-clause-acts
 returns-clause-acts g c =
     let row = c.args.row.now in
-    let did : Executed g.S.Store set_line (cells row) c.args.tx.now.conn.now c.execute.new.self.conn.now
-    c.execute.result = record {
-      ended = c.execute.ensures.ended;
-      runs = λ clean begun. rw c.cells.ensures.cells at (c.execute.ensures.runs clean begun);
-      survives = c.execute.ensures.survives;
-    } in
-    set_acts g.S.Store _ _ _ _ c.execute.result did _ (set_makes row _ _ c.execute.result c.cells.ensures.low)
-    (set_met row _ _ c.cells.ensures.low) c.update_ended.result c.update_ended.ensures
+    let did = executed g.S.Store set_line (cells row) _ _ _ c.execute.result c.execute.ensures.ended
+    c.execute.ensures.runs c.execute.ensures.survives c.cells.ensures.cells in
+    set_acts g.S.Store _ _ _ _ c.execute.result did _ (sets_line row c.cells.ensures.low) c.update_ended.result
+    c.update_ended.ensures

@@ -1,6 +1,6 @@
-use Rattle.std.proofs.Common.{sym, ◌∙◌, refl}
-use Rattle.hub_writes.proofs.Entries.{add_mail, cells, makes, fits_not}
-use Rattle.hub_writes.proofs.Outcomes.{Executed, insert_acts}
+use Rattle.std.proofs.Common.{sym, ◌∙◌}
+use Rattle.hub_writes.proofs.Entries.{add_mail, cells, adds_mail}
+use Rattle.hub_writes.proofs.Outcomes.{executed, insert_acts}
 use Rattle.hub_writes.proofs.Steps.{entry_is_great, refused_before}
 use Rattle.hub_writes.proofs.mail.add_mail.Goals as goal
 
@@ -11,11 +11,7 @@ returns-then-is_great-clause-acts g c =
 pub returns-clause-acts : goal.returns-clause-acts
 returns-clause-acts g c =
     let row = c.args.row.now in
-    let did : Executed g.S.Store add_mail (cells row) c.args.tx.now.conn.now c.execute.new.self.conn.now
-    c.execute.result = record {
-      ended = c.execute.ensures.ended;
-      runs = λ clean begun. rw c.cells.ensures.cells at (c.execute.ensures.runs clean begun);
-      survives = c.execute.ensures.survives;
-    } in
-    insert_acts g.S.Store _ _ _ _ c.execute.result did _ (λ t. refl) (makes row _ _ c.execute.result c.cells.ensures.low)
-    (fits_not row _ _ c.cells.ensures.low) c.insert_ended.result c.insert_ended.ensures
+    let did = executed g.S.Store add_mail (cells row) _ _ _ c.execute.result c.execute.ensures.ended
+    c.execute.ensures.runs c.execute.ensures.survives c.cells.ensures.cells in
+    insert_acts g.S.Store _ _ _ _ c.execute.result did _ (adds_mail row c.cells.ensures.low) c.insert_ended.result
+    c.insert_ended.ensures

@@ -1,18 +1,11 @@
 use Rattle.std.proofs.Common.{refl}
-use Rattle.hub_writes.proofs.Orders.{add_order, cells, makes, fits_not}
-use Rattle.hub_writes.proofs.Outcomes.{Executed, insert_acts}
+use Rattle.hub_writes.proofs.Orders.{add_order, cells, adds_order}
+use Rattle.hub_writes.proofs.Outcomes.{executed, insert_acts}
 use Rattle.hub_writes.proofs.order.add_order.Goals as goal
 
 pub returns-clause-acts : goal.returns-clause-acts
 returns-clause-acts g c =
-    let did : Executed g.S.Store add_order (cells c.args.row.now) c.args.tx.now.conn.now c.execute.new.self.conn.now
-    c.execute.result = record {
-      ended = c.execute.ensures.ended;
-      runs = λ clean begun. rw (
-        c.gln_value-supplier.ensures,
-        c.text_value-number.ensures,
-      ) at (c.execute.ensures.runs clean begun);
-      survives = c.execute.ensures.survives;
-    } in
-    insert_acts g.S.Store _ _ _ _ c.execute.result did _ (λ t. refl) (makes c.args.row.now _ _ c.execute.result) (fits_not
-    c.args.row.now _ _) c.insert_ended.result c.insert_ended.ensures
+    let row = c.args.row.now in
+    let did = executed g.S.Store add_order (cells row) _ _ _ c.execute.result c.execute.ensures.ended
+    c.execute.ensures.runs c.execute.ensures.survives (rw (c.gln_value-supplier.ensures, c.text_value-number.ensures) refl) in
+    insert_acts g.S.Store _ _ _ _ c.execute.result did _ (adds_order row) c.insert_ended.result c.insert_ended.ensures

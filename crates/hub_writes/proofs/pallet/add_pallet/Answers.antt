@@ -1,16 +1,11 @@
-use Rattle.std.proofs.Common.{refl}
-use Rattle.hub_writes.proofs.Pallets.{add_pallet, cells, makes, fits_not}
-use Rattle.hub_writes.proofs.Outcomes.{Executed, insert_acts}
+use Rattle.hub_writes.proofs.Pallets.{add_pallet, cells, adds_pallet}
+use Rattle.hub_writes.proofs.Outcomes.{executed, insert_acts}
 use Rattle.hub_writes.proofs.pallet.add_pallet.Goals as goal
 
 pub returns-clause-acts : goal.returns-clause-acts
 returns-clause-acts g c =
     let row = c.args.row.now in
-    let did : Executed g.S.Store add_pallet (cells row) c.args.tx.now.conn.now c.execute.new.self.conn.now
-    c.execute.result = record {
-      ended = c.execute.ensures.ended;
-      runs = λ clean begun. rw c.cells.ensures.cells at (c.execute.ensures.runs clean begun);
-      survives = c.execute.ensures.survives;
-    } in
-    insert_acts g.S.Store _ _ _ _ c.execute.result did _ (λ t. refl) (makes row _ _ c.execute.result c.cells.ensures.low)
-    (fits_not row _ _) c.insert_ended.result c.insert_ended.ensures
+    let did = executed g.S.Store add_pallet (cells row) _ _ _ c.execute.result c.execute.ensures.ended
+    c.execute.ensures.runs c.execute.ensures.survives c.cells.ensures.cells in
+    insert_acts g.S.Store _ _ _ _ c.execute.result did _ (adds_pallet row c.cells.ensures.low) c.insert_ended.result
+    c.insert_ended.ensures

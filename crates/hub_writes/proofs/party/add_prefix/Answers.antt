@@ -1,15 +1,11 @@
 use Rattle.std.proofs.Common.{refl}
-use Rattle.hub_writes.proofs.PrefixRows.{add_prefix, cells, makes, fits_not}
-use Rattle.hub_writes.proofs.Outcomes.{Executed, insert_acts}
+use Rattle.hub_writes.proofs.PrefixRows.{add_prefix, cells, adds_prefix}
+use Rattle.hub_writes.proofs.Outcomes.{executed, insert_acts}
 use Rattle.hub_writes.proofs.party.add_prefix.Goals as goal
 
 pub returns-clause-acts : goal.returns-clause-acts
 returns-clause-acts g c =
-    let did : Executed g.S.Store add_prefix (cells c.args.row.now) c.args.tx.now.conn.now c.execute.new.self.conn.now
-    c.execute.result = record {
-      ended = c.execute.ensures.ended;
-      runs = λ clean begun. rw (c.prefix_value-prefix.ensures, c.gln_value-supplier.ensures) at (c.execute.ensures.runs clean begun);
-      survives = c.execute.ensures.survives;
-    } in
-    insert_acts g.S.Store _ _ _ _ c.execute.result did _ (λ t. refl) (makes c.args.row.now _ _ c.execute.result) (fits_not
-    c.args.row.now _ _) c.insert_ended.result c.insert_ended.ensures
+    let row = c.args.row.now in
+    let did = executed g.S.Store add_prefix (cells row) _ _ _ c.execute.result c.execute.ensures.ended
+    c.execute.ensures.runs c.execute.ensures.survives (rw (c.prefix_value-prefix.ensures, c.gln_value-supplier.ensures) refl) in
+    insert_acts g.S.Store _ _ _ _ c.execute.result did _ (adds_prefix row) c.insert_ended.result c.insert_ended.ensures

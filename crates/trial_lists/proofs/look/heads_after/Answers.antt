@@ -7,6 +7,7 @@ use Rattle.std.proofs.lemmas.List.{take_min}
 use Rattle.hub_parties.specs.KeyOrder.{bytes_cmp}
 use Rattle.hub_tables.specs.Rows.{same}
 use Rattle.hub_tables.specs.declared.rows.MailRow.{MailRow}
+use Rattle.hub_tables.proofs.Filters.{filter_swap}
 use Rattle.hub_tables.proofs.KindOrders.{mail_total}
 use Rattle.hub_tables.proofs.Lists.{all_filter}
 use Rattle.trial_lists.specs.Index.{entry_key, is_untaken}
@@ -14,7 +15,7 @@ use Rattle.hub_store.specs.Heads.{head_of}
 use Rattle.hub_store.specs.declared.mail.MailHead.{MailHead}
 use Rattle.trial_rows.specs.Alike.{both, same_bytes, same_numbers}
 use Rattle.trial_lists.specs.declared.index.EntryKey.{EntryKey}
-use Rattle.trial_lists.proofs.Filters.{all_taken, filter_both, filter_of_map, filter_swap, take_of_map, take_within}
+use Rattle.trial_lists.proofs.Filters.{all_taken, filter_both, filter_of_map, take_of_map, take_within}
 use Rattle.trial_lists.proofs.Indexing.{Again, all_again, found_again}
 use Rattle.trial_lists.proofs.look.heads_after.Goals as goal
 

@@ -63,5 +63,5 @@ returns-clause-held c = record {
   left_stays = λ _ t h. h;
   was_honest = λ h. h;
   again = tt;
-  fails = λ _. record { again = tt; after = refl; opened = tt; only_memory = λ _. tt };
+  fails = λ _. record { again = tt; after = refl; not_version = tt; only_memory = λ _. tt };
 }

@@ -15,7 +15,7 @@ noted : {plain : _} (result : Result RegisterRows StoreFault) (before after old 
 noted result None after old new none kept fails = record {
   again = tt;
   after = kept;
-  opened = fails.opened;
+  not_version = fails.not_version;
   only_memory = λ plain. cc;
 }
 noted result (Some fault) after old new none kept fails = cc

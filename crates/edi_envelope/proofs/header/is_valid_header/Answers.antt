@@ -1,5 +1,5 @@
 use Rattle.std.proofs.Common.{rules}
-use Rattle.edi_envelope.proofs.header.is_header.Goals as goal
+use Rattle.edi_envelope.proofs.header.is_valid_header.Goals as goal
 
 pub returns-then-is_empty : goal.returns-then-is_empty
 returns-then-is_empty c = search rules

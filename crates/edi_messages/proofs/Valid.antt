@@ -3,7 +3,7 @@ use Rattle.std.proofs.Common.{◌≡◌, ◌⊎◌, inl, inr, Bool, false, List,
 use Rattle.std.proofs.Common.{◌==◌, ◌∙◌}
 use Rattle.std.proofs.lemmas.Bool.{cases_Bool}
 use Rattle.edi_base.proofs.Lowest.{Among, Above, Above-from_test, all_false}
-use Rattle.edi_messages.specs.Fault.{number, faults, unless, judged}
+use Rattle.edi_messages.specs.Fault.{number, faults, unless, unless_any}
 use Rattle.edi_messages.specs.declared.fault.MessageFault.{MessageFault}
 use Rattle.edi_messages.specs.declared.fault.MessageFault.TheVariants as fault
 
@@ -35,15 +35,16 @@ pub content_found : {X : Type 0} (found : Option MessageFault) (content right : 
 content_found None content right h = (refl, cc)
 content_found (Some f) content right h = absurd cc
 
--- the record is the one that was to be judged
-pub judged_is : {X : Type 0} (holds : MessageFault → Bool) (content right : X) → judged holds content ≡ Ok right → content ≡ right
-judged_is holds content right h = (content_found (find holds faults) content right h).1
+-- the record is the content
+pub content_is : {X : Type 0} (holds : MessageFault → Bool) (content right : X)
+    → unless_any holds content ≡ Ok right → content ≡ right
+content_is holds content right h = (content_found (find holds faults) content right h).1
 
 -- no condition holds
-pub judged_none : {X : Type 0} (holds : MessageFault → Bool) (content right : X)
+pub no_fault_holds : {X : Type 0} (holds : MessageFault → Bool) (content right : X)
     → holds fault.Memory ≡ false
-    → judged holds content ≡ Ok right
+    → unless_any holds content ≡ Ok right
     → (f : MessageFault)
     → holds f ≡ false
-judged_none holds content right no_memory h =
+no_fault_holds holds content right no_memory h =
     all_false number holds faults rising (listed_or_false holds no_memory) (content_found (find holds faults) content right h).0
