@@ -1,33 +1,11 @@
 //! Serving a hub over the network.
 use crate::fault::BeginFault;
-use crate::tasks::{now, written};
+use crate::tasks::written;
 use edi_base::OfWrite;
-use edi_envelope::Moment;
 use hub_app::ServeWords;
 use hub_core::Hub;
-use hub_serve::{Listening, Moments, Paths, print_listening, serve_on};
+use hub_serve::{ClockMoments, Listening, NamedOr, Paths, print_listening, serve_on};
 use hub_store::Store;
-
-// The moment that the words name, each time; or else what the clock tells, until it fails.
-#[derive(Drop)]
-struct ByTheClock<'a> {
-    rt: &'a HostRuntime,
-    named: Option<Moment>,
-    failed: bool,
-}
-
-impl<'a> Moments for ByTheClock<'a> {
-    ghost failed = { λ m. m.failed };
-
-    fn next(&mut self) -> Option<Moment> {
-        if self.named.is_some() {
-            return self.named;
-        }
-        let moment = now(self.rt).ok();
-        self.failed = self.failed || moment.is_none();
-        moment
-    }
-}
 
 /// Serves what comes over the network. A fault is told where it ends that.
 pub(crate) fn serve_over<S: Store>(
@@ -37,11 +15,7 @@ pub(crate) fn serve_over<S: Store>(
 ) -> Result<u8, BeginFault> {
     let paths = Paths::new(rt.alloc())?;
     let mut connections = Listening::on(rt, words.port).map_err(|_| BeginFault::Listen)?;
-    let mut moments = ByTheClock {
-        rt,
-        named: words.moment,
-        failed: false,
-    };
+    let mut moments = NamedOr::new(words.moment, ClockMoments::new(rt));
     let mut out = OfWrite::new(rt.stdout());
     if print_listening(&mut out, words.port).is_err() {
         return Err(BeginFault::File);
@@ -55,7 +29,7 @@ pub(crate) fn serve_over<S: Store>(
         words.count,
         &mut out,
     );
-    if moments.failed {
+    if moments.clock().has_failed() {
         return Err(BeginFault::Clock);
     }
     if connections.has_failed() {

@@ -6,14 +6,12 @@ use gs1_ids::Gln;
 use hub_app::{HubTask, HubWords};
 use hub_commands::{Folder, import_run, reply_run};
 use hub_core::{Hub, Request};
+use hub_serve::moment_now;
 use hub_store::Store;
-use jiff::Timestamp;
 
 // What the clock tells.
 pub(crate) fn now(rt: &HostRuntime) -> Result<Moment, BeginFault> {
-    let time = Timestamp::now(rt).map_err(|_| BeginFault::Clock)?;
-    let seconds = u64::try_from(time.as_second()).map_err(|_| BeginFault::Clock)?;
-    Moment::new(seconds).ok_or(BeginFault::Clock)
+    moment_now(rt).ok_or(BeginFault::Clock)
 }
 
 // The exit status, where all was written.

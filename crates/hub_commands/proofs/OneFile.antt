@@ -103,14 +103,6 @@ module _ {B : Type 0} (remaining : B → Option (List ℕ)) (broken : B → Type
   did_upload Steps Stays name reply (Ok source) upload step opens = step opens.0 opens.2
   did_upload Steps Stays name reply (Err fault) upload step opens = absurd opens
 
-  -- what is known of an upload whose bytes are some is known of this one
-  pub of_opened : {Known : Type 0} (source : Result B ReadFault) (upload : Result Interchange OpenFault)
-      → ((bytes : List ℕ) → Opens upload (opened bytes) → Known)
-      → OpensSource remaining source upload
-      → Known
-  of_opened (Ok source) upload known opens = known opens.0 opens.2
-  of_opened (Err fault) upload known opens = absurd opens
-
   pub of_unread : (file : NextFile B) (named : NamedFile B) (fault : ReadFault) → file ≡ Named named
       → FaultComesOf broken named.source fault
       → Of remaining broken file (of_fault (string_bytes named.name) fault)

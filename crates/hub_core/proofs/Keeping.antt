@@ -88,9 +88,6 @@ join_or_none (requests.StatusOf gln) = inr (λ row e. cc)
 join_or_none (requests.Cancel c) = inr (λ row e. cc)
 join_or_none (requests.Join row) = inl (row, refl)
 
-pub no_join : (bytes : List ℕ) → IsNoJoin (requests.Upload bytes)
-no_join bytes row e = cc
-
 -- what changes nothing whatever the tables
 pub content_kept : {S : Type 0} (content : S → Tables) (honest : S → Type 0) (left : S → Tables → Type 0) (old new : S) (count : ℕ)
     (does : Does) (result : Result Reply StoreFault)

@@ -2,6 +2,8 @@ pub mod Again
 pub mod Asking
 pub mod Breaking
 pub mod Callers
+pub mod CleanRuns
+pub mod Uploading
 pub mod Keeping
 pub mod Openings
 pub mod SoFar

@@ -1,5 +1,5 @@
 //! A hub.
-ghost use Rattle.std.specs.Prelude.{◌≡◌, ◌≢◌, ℕ, List, [], ◌∷◌, ◌++◌, IfOk, OnErr, Ok, Err, MatchResult};
+ghost use Rattle.std.specs.Prelude.{◌≡◌, ◌≢◌, true, ℕ, List, [], ◌∷◌, ◌++◌, IfOk, OnErr, Ok, Err, MatchResult};
 ghost use Rattle.edi_envelope.specs.Opened.{opened, Opens};
 ghost use Rattle.hub_parties.specs.Rows.{IsRegister, role_of};
 ghost use Rattle.std.specs.List.{AllByRecursion};
@@ -7,9 +7,11 @@ ghost use Rattle.hub_rules.specs.Laws.{SoundHub};
 ghost use Rattle.hub_requests.specs.declared.reply.Reply.{Reply};
 ghost use Rattle.hub_requests.specs.declared.request.Input.{Input};
 ghost use Rattle.hub_requests.specs.declared.request.Request.TheVariants.{Upload};
+ghost use Rattle.hub_store.specs.Clean.{are_clean};
+ghost use Rattle.hub_transactions.specs.Clean.{WithinInput};
 ghost use Rattle.hub_transactions.specs.Joins.{KeepsRows};
 ghost use Rattle.hub_core.specs.Broken.{RunBreaks};
-ghost use Rattle.hub_core.specs.Hub.{BreaksFrom, JoinsBy, StaysSound, StepsFrom};
+ghost use Rattle.hub_core.specs.Hub.{BreaksFrom, JoinsBy, KeepsClean, StaysSound, StepsFrom};
 ghost use Rattle.hub_core.specs.Opened.{IsStopped, RanOut};
 ghost use Rattle.hub_core.specs.Made.{Reads};
 ghost use Rattle.hub_core.specs.Steps.{IsNoJoin, SoundWith, Stepped, Ran, input_of};
@@ -110,6 +112,8 @@ impl<S: Store> Hub<S> {
         ensures stepped { StepsFrom S.content S.honest S.left self.old self.new
             (input_of moment caller.now key.now request) result }
         ensures held { StaysSound S.content S.honest self.old self.new }
+        ensures clean { KeepsClean S.content S.honest self.old self.new
+            (input_of moment caller.now key.now request) }
         ensures breaks { BreaksFrom S.plain S.broken self.old self.new
             (input_of moment caller.now key.now request) result }
         ensures joined { JoinsBy self.old.0 self.new.0 (input_of moment caller.now key.now request) result }
@@ -143,8 +147,10 @@ impl<S: Store> Hub<S> {
         ensures stepped { (bytes : List ℕ) → Opens upload (opened bytes) →
             StepsFrom S.content S.honest S.left self.old self.new
             (input_of moment caller.now key.now (Upload bytes)) result }
-        ensures held { (bytes : List ℕ) → Opens upload (opened bytes) →
-            StaysSound S.content S.honest self.old self.new }
+        ensures held { StaysSound S.content S.honest self.old self.new }
+        ensures clean { (bytes : List ℕ) → Opens upload (opened bytes) →
+            KeepsClean S.content S.honest self.old self.new
+            (input_of moment caller.now key.now (Upload bytes)) }
         ensures breaks { (bytes : List ℕ) → Opens upload (opened bytes) →
             BreaksFrom S.plain S.broken self.old self.new
             (input_of moment caller.now key.now (Upload bytes)) result }
@@ -184,6 +190,9 @@ impl<S: Store> Hub<S> {
             IfOk result (λ replies. Ran (S.content self.old.1) (S.content self.new.1) (S.left self.old.1)
             (S.left self.new.1) inputs.now replies) }
         ensures held { StaysSound S.content S.honest self.old self.new }
+        ensures clean { S.honest self.new.1 → SoundWith self.old.0 (S.content self.old.1) →
+            are_clean (S.content self.old.1) ≡ true → AllByRecursion WithinInput inputs.now →
+            are_clean (S.content self.new.1) ≡ true }
         ensures none { OnErr result (self.new ≡ self.old) }
         ensures breaks { IfOk result (λ replies.
             RunBreaks S.plain self.new.0 (S.broken self.old.1) (S.broken self.new.1)

@@ -1,19 +1,20 @@
 //! An upload is opened.
-ghost use Rattle.std.specs.Prelude.{◌≡◌, IfOk};
-ghost use Rattle.std.specs.Option.{IfSome};
+ghost use Rattle.std.specs.Prelude.{◌≡◌, IfOk, OnErr};
+ghost use Rattle.std.specs.Option.{IfSome, IfNone};
 ghost use Rattle.edi_envelope.specs.Opened.{code_text};
 ghost use Rattle.hub_law.specs.Opening.{told_as, interchange_in};
 ghost use Rattle.hub_core.specs.Opened as spec;
-ghost use Rattle.hub_core.specs.Opened.{HasCode, Sufficed};
+ghost use Rattle.hub_core.specs.Opened.{HasCode, OfMemory, RanOut, Sufficed};
 
 use edi_base::MemoryFault;
 use edi_envelope::{EnvelopeFault, Interchange, OpenFault, open};
 use edi_tokens::{TokenFault, read_all};
 use std::alloc::{AllocError, Global};
 
-// The code of a fault; there is none for want of memory.
+// The code of a fault; there is none for want of memory, and only for that.
 fn refusal_code(fault: OpenFault) -> Option<&'static str>
     ensures some { IfSome result (λ code. (code.now ≡ code_text fault) × HasCode fault) }
+    ensures none { IfNone result (OfMemory fault) }
 {
     match fault {
         OpenFault::Token(TokenFault::Memory) | OpenFault::Envelope(EnvelopeFault::Memory) => None,
@@ -27,6 +28,7 @@ pub(crate) fn with_code(
 ) -> Result<Result<Interchange, &'static str>, MemoryFault>
     ensures told { IfOk result (λ coded. spec.with_code coded ≡ told_as upload) }
     ensures sufficed { IfOk result (λ _. Sufficed upload) }
+    ensures ran_out { OnErr result (RanOut upload) }
 {
     match upload {
         Ok(interchange) => Ok(Ok(interchange)),

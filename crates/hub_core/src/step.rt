@@ -1,18 +1,20 @@
 //! One request, and a run of them.
-ghost use Rattle.std.specs.Prelude.{◌≡◌, ◌≢◌, ℕ, List, IfOk, OnErr, IsErr, Err};
+ghost use Rattle.std.specs.Prelude.{◌≡◌, ◌≢◌, true, ℕ, List, IfOk, OnErr, IsErr, Err};
 ghost use Rattle.std.specs.Option.{IfSome};
 ghost use Rattle.edi_envelope.specs.Opened.{opened, Opens};
 ghost use Rattle.std.specs.List.{AllByRecursion};
 ghost use Rattle.hub_parties.specs.declared.row.SupplierRow.{SupplierRow};
 ghost use Rattle.hub_tables.specs.Register.{register_of};
+ghost use Rattle.hub_store.specs.Clean.{are_clean};
 ghost use Rattle.hub_law.specs.Machine.{step_under};
 ghost use Rattle.hub_law.specs.Replies.{reply};
 ghost use Rattle.hub_law.specs.Stops.{upload_of};
 ghost use Rattle.hub_requests.specs.declared.reply.Outcome.TheVariants.{Stopped};
 ghost use Rattle.hub_requests.specs.declared.request.Request.TheVariants.{Upload, Join};
+ghost use Rattle.hub_transactions.specs.Clean.{WithinInput};
 ghost use Rattle.hub_transactions.specs.Joins.{KeepsRows};
 ghost use Rattle.hub_core.specs.Broken.{BreaksAsked, RunBreaks, does_input};
-ghost use Rattle.hub_core.specs.Hub.{BreaksFrom, JoinsBy, StaysSound, StepsFrom};
+ghost use Rattle.hub_core.specs.Hub.{BreaksFrom, JoinsBy, KeepsClean, StaysSound, StepsFrom};
 ghost use Rattle.hub_core.specs.Opened.{IsStopped, RanOut};
 ghost use Rattle.hub_core.specs.Steps.{Asked, IsNoJoin, JoinAnswered, SoundWith, Ran, acts_of, input_of};
 
@@ -25,6 +27,7 @@ use edi_base::{Items, MemoryFault, copied};
 use edi_envelope::{Interchange, Moment, OpenFault};
 use edi_tokens::TokenFault;
 use gs1_ids::Gln;
+use hub_law::{acts_keep_the_register, acts_stay_sound};
 use hub_register::Register;
 use hub_requests::{Input, Outcome, Reply, Request};
 use hub_store::{Store, StoreFault};
@@ -83,12 +86,16 @@ fn answer_opened<S: Store>(
         Asked S.content S.honest S.left store.old store.new
         (acts_of (upload_of register.now (input_of moment caller.now key.now (Upload bytes)))) (λ mark t.
         step_under register.now t (input_of moment caller.now key.now (Upload bytes)) mark) result }
+    ensures held { S.honest store.new → SoundWith register.now (S.content store.old) →
+        SoundWith register.now (S.content store.new) }
     ensures breaks { (bytes : List ℕ) → Opens upload (opened bytes) →
         BreaksAsked S.plain (does_input register.now (input_of moment caller.now key.now (Upload bytes)))
         (S.broken store.old) (S.broken store.new) result }
     ensures was_honest { S.honest store.new → S.honest store.old }
     ensures ran_out { RanOut upload → IsErr result × (store.new ≡ store.old) }
 {
+    acts_stay_sound();
+    acts_keep_the_register();
     let upload = with_code(upload)?;
     match caller_of(register, caller, key) {
         Some(caller) => take_opened(alloc, register, caller, store, moment, upload),
@@ -131,6 +138,8 @@ pub(crate) fn step<S: Store>(
     ensures stepped { StepsFrom S.content S.honest S.left (register.old, store.old) (register.new, store.new)
         (input_of moment caller.now key.now request.now) result }
     ensures held { StaysSound S.content S.honest (register.old, store.old) (register.new, store.new) }
+    ensures clean { KeepsClean S.content S.honest (register.old, store.old) (register.new, store.new)
+        (input_of moment caller.now key.now request.now) }
     ensures joined { JoinsBy register.old register.new
         (input_of moment caller.now key.now request.now) result }
     ensures keeps { KeepsRows register.old register.new }
@@ -162,8 +171,10 @@ pub(crate) fn step_opened<S: Store>(
     ensures stepped { (bytes : List ℕ) → Opens upload (opened bytes) →
         StepsFrom S.content S.honest S.left (register.now, store.old) (register.now, store.new)
         (input_of moment caller.now key.now (Upload bytes)) result }
-    ensures held { (bytes : List ℕ) → Opens upload (opened bytes) →
-        StaysSound S.content S.honest (register.now, store.old) (register.now, store.new) }
+    ensures held { StaysSound S.content S.honest (register.now, store.old) (register.now, store.new) }
+    ensures clean { (bytes : List ℕ) → Opens upload (opened bytes) →
+        KeepsClean S.content S.honest (register.now, store.old) (register.now, store.new)
+        (input_of moment caller.now key.now (Upload bytes)) }
     ensures breaks { (bytes : List ℕ) → Opens upload (opened bytes) →
         BreaksFrom S.plain S.broken (register.now, store.old) (register.now, store.new)
         (input_of moment caller.now key.now (Upload bytes)) result }
@@ -190,6 +201,9 @@ pub(crate) fn run<S: Store>(
         Ran (S.content store.old) (S.content store.new) (S.left store.old) (S.left store.new)
         inputs.now replies) }
     ensures held { StaysSound S.content S.honest (register.old, store.old) (register.new, store.new) }
+    ensures clean { S.honest store.new → SoundWith register.old (S.content store.old) →
+        are_clean (S.content store.old) ≡ true → AllByRecursion WithinInput inputs.now →
+        are_clean (S.content store.new) ≡ true }
     ensures keeps { KeepsRows register.old register.new }
     ensures same { AllByRecursion (λ input. IsNoJoin input.request) inputs.now → register.new ≡ register.old }
     ensures none { OnErr result ((store.new ≡ store.old) × (register.new ≡ register.old)) }

@@ -7,7 +7,7 @@ use Rattle.hub_tables.specs.Register.{HoldsRegister, register_of, register_chang
 use Rattle.hub_tables.specs.Tables.{Tables, empty}
 use Rattle.hub_tables.specs.declared.change.Change.{Change}
 use Rattle.hub_tables.specs.declared.change.Change.TheVariants.{AddHub, AddKey, AddPrefix}
-use Rattle.hub_tables.proofs.Founding.{holds_register, register_back}
+use Rattle.hub_tables.proofs.Founding.{OnlyParties, holds_register, register_back}
 use Rattle.hub_founding.specs.Fits.{founded_beside, KeepsOtherRows}
 
 -- the rows of tables, with the parties of others in the place of theirs
@@ -36,9 +36,12 @@ module _ (t : Tables) where
       suppliers_apart register.suppliers
       (apply (AddHub (record { hub = register.hub; retailer = register.retailer; key = register.retailer_key })) u)
 
+  pub only_parties : (register : RegisterRows) → OnlyParties t (founded_beside t register)
+  only_parties register = all_apart register t
+
   pub others_stay : (register : RegisterRows) → KeepsOtherRows t (founded_beside t register)
   others_stay register =
-      let is : founded_beside t register ≡ with_parties (founded_beside t register) t = all_apart register t in
+      let is = only_parties register in
       record {
         orders = ap (λ (u : Tables). u.orders) is;
         lines = ap (λ (u : Tables). u.lines) is;

@@ -1,5 +1,5 @@
 -- How much is read of a connection.
-use Rattle.std.proofs.Common.{◌≡◌, ℕ, ◌+◌, ◌≤◌, Bool, true, false, List, [], ◌∷◌, Option, Some, None, Result, Ok, Err}
+use Rattle.std.proofs.Common.{◌≡◌, ℕ, ◌+◌, ◌-◌, ◌≤◌, Bool, true, false, List, [], ◌∷◌, Option, Some, None, Result, Ok, Err}
 use Rattle.std.proofs.Common.{not, nat_lt, refl, arith}
 use Rattle.std.specs.Prelude.{if◌then◌else◌, IfOk, ◌==◌, length}
 use Rattle.std.specs.Str.{bytes_eq}
@@ -32,6 +32,10 @@ pub taken_within : (a b : Option (List ℕ)) (few many : ℕ) → few ≤ many �
 taken_within a b few many fits taken =
     let within = taken.within in
     record { front = taken.front; taken = taken.taken; within = omega (arith, within, fits) }
+
+-- nor than the whole of which a part was there before
+pub body_within : (size there : ℕ) (a b : Option (List ℕ)) → TakesAtMost a b (size - there) → TakesAtMost a b size
+body_within size there a b taken = taken_within a b (size - there) size (omega arith) taken
 
 -- a size within the limit, where there is one
 abbrev Short : Result ℕ Refusal → Type 0

@@ -46,9 +46,8 @@ flag_kept (Err (Token fault)) old new read flag = cause_kept fault old new (λ i
 flag_kept (Err (Envelope fault)) old new read flag = flag
 
 -- bytes that were taken, and no more than there is room for
-pub taken_of : (a b : Option (List ℕ)) (room left : ℕ) (front : List ℕ) (size : ℕ) → room ≡ size - length front → TakesOf a b room left
-    → TakesAtMost a b size
-taken_of a b room left front size is takes =
+pub taken_of : (a b : Option (List ℕ)) (room left limit : ℕ) → room ≡ limit → TakesOf a b room left → TakesAtMost a b limit
+taken_of a b room left limit is takes =
     let counted = takes.counted in
     record { front = takes.front; taken = takes.consumed; within = omega (arith, counted, is) }
 
@@ -89,10 +88,10 @@ away_takes before after l (Err e) away = away
 module _ {E : Type 0} (before between after : Option (List ℕ)) (old new : Lender) (size : ℕ) (front : List ℕ) (result : Result ℕ E)
     (begun : IsBegun old (size - length front)) (first : TakesOf before between (room_of old) (room_of new))
     (away : ReadsAway between after new result) where
-  pub read_at_most : TakesAtMost before after size
+  pub read_at_most : TakesAtMost before after (size - length front)
   read_at_most =
       let then = away_takes between after new result away in
-      taken_of before after (room_of old) then.0 front size begun.room_is
+      taken_of before after (room_of old) then.0 (size - length front) begun.room_is
       (takes_then before between after (room_of old) (room_of new) then.0 first then.1)
 
   away_so : (missing : ℕ) → result ≡ Ok missing → ReadsAway {E = E} between after new (Ok missing)

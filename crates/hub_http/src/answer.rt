@@ -1,5 +1,5 @@
 //! The one answer to a connection.
-ghost use Rattle.std.specs.Prelude.{◌≡◌, ◌≢◌, ◌+◌, ◌++◌, ◌≤◌, ℕ, List, true, Ok, Err, Some, IfOk, IfSome};
+ghost use Rattle.std.specs.Prelude.{◌≡◌, ◌≢◌, ◌+◌, ◌-◌, ◌++◌, ◌≤◌, ℕ, List, length, true, Ok, Err, Some, IfOk, IfSome};
 ghost use Rattle.std.specs.Prelude.{OnErr, IfErr};
 ghost use Rattle.edi_base.specs.Source.{TakesAtMost};
 ghost use Rattle.edi_envelope.specs.Opened.{opened, Opens};
@@ -154,7 +154,8 @@ fn answer_upload<R: Source, S: Store>(
     ensures or_fails { spec.AnswersOrFails (spec.Steps S.content S.honest S.left moment hub.old hub.new)
         (hub.new ≡ hub.old) (R.failed reader.old) (R.failed reader.new) result }
     ensures stays { spec.Stays S.content S.honest hub.old hub.new }
-    ensures front { TakesAtMost (R.remaining reader.old) (R.remaining reader.new) asked.now.size }
+    ensures front { TakesAtMost (R.remaining reader.old) (R.remaining reader.new)
+        (asked.now.size - length front.now) }
 {
     match open_body(alloc, reader, front, asked.size) {
         Ok(Some(upload)) => Ok(ask_opened(hub, moment, asked, upload)),
@@ -180,7 +181,8 @@ fn answer_asked<R: Source, S: Store>(
     ensures or_fails { spec.AnswersOrFails (spec.Steps S.content S.honest S.left moment hub.old hub.new)
         (hub.new ≡ hub.old) (R.failed reader.old) (R.failed reader.new) result }
     ensures stays { spec.Stays S.content S.honest hub.old hub.new }
-    ensures front { TakesAtMost (R.remaining reader.old) (R.remaining reader.new) asked.now.size }
+    ensures front { TakesAtMost (R.remaining reader.old) (R.remaining reader.new)
+        (asked.now.size - length front.now) }
 {
     if let Route::Interchanges = asked.route {
         return answer_upload(alloc, hub, moment, reader, front, asked);
@@ -208,7 +210,7 @@ fn answer_head<R: Source, S: Store>(
         (hub.new ≡ hub.old) (R.failed reader.old) (R.failed reader.new) result }
     ensures stays { spec.Stays S.content S.honest hub.old hub.new }
     ensures front { TakesAtMost (R.remaining reader.old) (R.remaining reader.new)
-        (spec.size_asked (asked_by hub.old.0 head.now)) }
+        (spec.size_asked (asked_by hub.old.0 head.now) - length head.now.rest) }
 {
     match asked_of(paths, hub, head) {
         Ok(asked) => answer_asked(alloc, hub, moment, reader, head.rest(), &asked),

@@ -1,5 +1,5 @@
 //! The body of an upload, which is opened as it is read.
-ghost use Rattle.std.specs.Prelude.{◌≡◌, ◌≢◌, ◌≤◌, ◌++◌, ◌↔◌, ℕ, List, true, Err, IfOk, IfSome};
+ghost use Rattle.std.specs.Prelude.{◌≡◌, ◌≢◌, ◌≤◌, ◌-◌, ◌++◌, ◌↔◌, ℕ, List, length, true, Err, IfOk, IfSome};
 ghost use Rattle.edi_base.specs.Source.{TakesAtMost};
 ghost use Rattle.edi_envelope.specs.Opened.{opened, Opens};
 ghost use Rattle.http_messages.specs.Body.{body_in};
@@ -42,7 +42,8 @@ pub(crate) fn open_body<R: Source>(
     ensures unread { IfOk result (λ upload.
         IfSome upload (λ upload. upload ≢ Err (OpenFault.Token TokenFault.Read))) }
 
-    ensures front { TakesAtMost (R.remaining reader.old) (R.remaining reader.new) size }
+    // Whatever is answered, no more than the front lacks was taken from the reader.
+    ensures front { TakesAtMost (R.remaining reader.old) (R.remaining reader.new) (size - length front.now) }
     ensures read { result ≡ Err ReadFault.Read → R.failed reader.new ≡ true }
     ensures kept { result ≢ Err ReadFault.Read → R.failed reader.new ≡ R.failed reader.old }
 {

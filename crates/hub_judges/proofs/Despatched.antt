@@ -1,12 +1,11 @@
 -- Despatches judged from facts are judged as from the state that the facts tell.
-use Rattle.std.proofs.Common.{◌≡◌, ℕ, ◌+◌, ◌-◌, nat_lt, Bool, true, false, not, ◌||◌, List, [], ◌∷◌, ◌++◌, map, Option}
-use Rattle.std.proofs.Common.{Some, None, option_map, length, drop, get_or, ◌<◌, arith, refl, sym, subst, ◌∙◌, ap, ap₂}
+use Rattle.std.proofs.Common.{◌≡◌, ℕ, ◌+◌, ◌-◌, nat_lt, Bool, true, false, not, ◌||◌, ◌⊎◌, inl, inr, List, [], ◌∷◌, ◌++◌, map, Option}
+use Rattle.std.proofs.Common.{Some, None, option_map, refl, sym, subst, ◌∙◌, ap, ap₂}
 use Rattle.std.specs.List.{AllByRecursion, list_any}
-use Rattle.std.specs.Str.{bytes_eq}
-use Rattle.std.proofs.lemmas.Bool.{or_parts}
-use Rattle.std.proofs.lemmas.List.{append_assoc, drop_more}
+use Rattle.std.proofs.lemmas.List.{append_assoc}
 use Rattle.std.proofs.Math.Bool.{or-true}
-use Rattle.edi_base.specs.Seen.{is_among, has_twice}
+use Rattle.edi_base.specs.Seen.{is_among}
+use Rattle.edi_base.proofs.Twice.{bytes_eq-sym}
 use Rattle.gs1_ids.specs.Sscc.{under_some}
 use Rattle.edi_goods.specs.declared.despatch.Despatch.{Despatch}
 use Rattle.edi_goods.specs.declared.despatch.DespatchLine.{DespatchLine}
@@ -33,7 +32,7 @@ use Rattle.hub_rules.specs.declared.code.Code.TheVariants.{NoOrder, NoLine, Othe
 use Rattle.hub_rules.specs.declared.verdict.Verdict.{Verdict}
 use Rattle.hub_rules.specs.declared.verdict.Verdict.TheVariants.{Accept, Refuse}
 use Rattle.hub_judges.specs.FromFacts.{after_despatch, new_content, despatch_checks, lines_from, new_pallet, unit_checks}
-use Rattle.hub_judges.specs.FromFacts.{units_from, despatch_from}
+use Rattle.hub_judges.specs.FromFacts.{no_sscc, and_sscc, units_from, despatch_from}
 use Rattle.hub_judges.specs.Known.{TellsOrder, TellsLines, names_order}
 use Rattle.hub_judges.specs.declared.known.Known.{Known}
 use Rattle.hub_judges.proofs.Facts.{line_told, lines_told_after}
@@ -152,27 +151,32 @@ module _ (named : List ℕ → Bool) (orders : List (List ℕ)) where
   after_pallet pallets state lines pallet t =
       record { pallets_are = refl; order = λ number is. t.order number is; lines_are = λ number is. t.lines_are number is }
 
-  -- whether an SSCC is used, with what earlier units have
-  abbrev Used : (List ℕ → Bool) → List PalletRow → Unit → Type 0
-  Used used pallets unit = (used unit.sscc || list_any (λ pallet. same pallet.sscc unit.sscc) pallets) ≡ used unit.sscc
+  -- an SSCC is used where it is told so, or a pallet or an earlier unit has it
+  abbrev Used : (List ℕ → Bool) → (List ℕ → Bool) → List PalletRow → Type 0
+  Used used came pallets =
+      (sscc : List ℕ) → (used sscc || list_any (λ pallet. same pallet.sscc sscc) pallets) ≡ (used sscc || came sscc)
 
-  used_after : (used : List ℕ → Bool) (pallet : PalletRow) (pallets : List PalletRow) (units : List Unit)
-      → list_any (bytes_eq pallet.sscc) (map (λ unit. unit.sscc) units) ≡ false
-      → AllByRecursion (Used used pallets) units
-      → AllByRecursion (Used used (put pallet_cmp pallet pallets)) units
-  used_after used pallet pallets [] new all = tt
-  used_after used pallet pallets (unit ∷ units) new all =
-      let parts = or_parts (bytes_eq pallet.sscc unit.sscc) (list_any (bytes_eq pallet.sscc) (map (λ unit. unit.sscc) units)) new in (
-        ap (λ v. used unit.sscc || v) (any_put pallet_cmp (λ pallet. same pallet.sscc unit.sscc) pallets pallet
-            ∙ ap (λ v. list_any (λ pallet. same pallet.sscc unit.sscc) pallets || (v || false)) parts.0
-            ∙ or_nothing (list_any (λ pallet. same pallet.sscc unit.sscc) pallets))
-            ∙ all.0,
-        used_after used pallet pallets units parts.1 all.1,
-      )
+  used_after : (used came : List ℕ → Bool) (pallet : PalletRow) (pallets : List PalletRow)
+      → Used used came pallets
+      → Used used (and_sscc came pallet.sscc) (put pallet_cmp pallet pallets)
+  used_after used came pallet pallets are sscc =
+      ap (λ v. used sscc || v) (any_put pallet_cmp (λ other. same other.sscc sscc) pallets pallet)
+      ∙ turned (used sscc) (list_any (λ other. same other.sscc sscc) pallets) (same pallet.sscc sscc)
+      ∙ ap₂ (λ one v. one || v) (bytes_eq-sym pallet.sscc sscc) (are sscc)
+      ∙ swapped (same sscc pallet.sscc) (used sscc) (came sscc)
     where
-      or_nothing : (v : Bool) → (v || (false || false)) ≡ v
-      or_nothing true = refl
-      or_nothing false = refl
+      turned : (u a one : Bool) → (u || (a || (one || false))) ≡ (one || (u || a))
+      turned true a true = refl
+      turned true a false = refl
+      turned false true true = refl
+      turned false true false = refl
+      turned false false true = refl
+      turned false false false = refl
+
+      swapped : (one u b : Bool) → (one || (u || b)) ≡ (u || (one || b))
+      swapped true true b = refl
+      swapped true false b = refl
+      swapped false u b = refl
 
   module _ (s : SupplierRow) (used : List ℕ → Bool) (advice : List ℕ) where
     abbrev pallet_of : Unit → PalletRow
@@ -184,35 +188,35 @@ module _ (named : List ℕ → Bool) (orders : List (List ℕ)) where
     checked false true unit third state w x h = refl
     checked false false unit third state w x h = h
 
-    units_alike : (units : List Unit) (state : Tables) (lines : List LineFacts) (pallets : List PalletRow)
+    units_alike : (came : List ℕ → Bool) (units : List Unit) (state : Tables) (lines : List LineFacts) (pallets : List PalletRow)
         → AllByRecursion (λ unit. AllByRecursion (λ line. named line.order ≡ true) unit.lines) units
-        → has_twice (map (λ unit. unit.sscc) units) ≡ false
-        → AllByRecursion (Used used pallets) units
+        → Used used came pallets
         → TellsNamed named orders pallets state lines
-        → in_order (judge_unit s used advice) units state ≡ units_from s advice orders units (map (λ unit. used unit.sscc) units) lines
-    units_alike [] state lines pallets all once flags t = refl
-    units_alike (unit ∷ units) state lines pallets all once flags t =
-        let apart = or_parts (list_any (bytes_eq unit.sscc) (map (λ unit. unit.sscc) units))
-        (has_twice (map (λ unit. unit.sscc) units)) once in
+        → in_order (judge_unit s used advice) units state
+        ≡ units_from s advice orders came units (map (λ unit. used unit.sscc) units) lines
+    units_alike came [] state lines pallets all flags t = refl
+    units_alike came (unit ∷ units) state lines pallets all flags t =
+        let also : List ℕ → Bool = and_sscc came unit.sscc in
         let first : List Change = AddPallet (pallet_of unit) ∷ [] in
         let third : Judge = in_order (judge_unit s used advice) units in
         let after : Tables = apply (AddPallet (pallet_of unit)) state in
-        let next : List LineFacts → Verdict = λ left. units_from s advice orders units (map (λ unit. used unit.sscc) units) left in
-        let flag : (used unit.sscc || has_pallet state unit.sscc) ≡ used unit.sscc =
-        ap (λ ps. used unit.sscc || list_any (λ pallet. same pallet.sscc unit.sscc) ps) t.pallets_are ∙ flags.0 in
-        let flags_after : AllByRecursion (Used used after.pallets) units =
-        subst (λ ps. AllByRecursion (Used used (put pallet_cmp (pallet_of unit) ps)) units) (sym t.pallets_are)
-        (used_after used (pallet_of unit) pallets units apart.0 flags.1) in
+        let next : List LineFacts → Verdict =
+        λ left. units_from s advice orders also units (map (λ unit. used unit.sscc) units) left in
+        let flag : (used unit.sscc || has_pallet state unit.sscc) ≡ (used unit.sscc || came unit.sscc) =
+        ap (λ ps. used unit.sscc || list_any (λ pallet. same pallet.sscc unit.sscc) ps) t.pallets_are ∙ flags unit.sscc in
+        let flags_after : Used used also after.pallets =
+        subst (λ ps. Used used also (put pallet_cmp (pallet_of unit) ps)) (sym t.pallets_are)
+        (used_after used came (pallet_of unit) pallets flags) in
         let whole : goes_on (joined first (in_order (judge_despatched unit.sscc) (placed 0 unit.lines) after)) third state
         ≡ joined first (lines_from unit.sscc orders 0 unit.lines lines next) =
         grouped first (in_order (judge_despatched unit.sscc) (placed 0 unit.lines) after) third state
         ∙ ap (joined first) (lines_alike unit.sscc after.pallets third next
-        (λ st ls told. units_alike units st ls after.pallets all.1 apart.1 flags_after told) 0 unit.lines after lines
+        (λ st ls told. units_alike also units st ls after.pallets all.1 flags_after told) 0 unit.lines after lines
         all.0 (after_pallet pallets state lines (pallet_of unit) t)) in
         ap (λ v. goes_on (refuse_if (not (under_some unit.sscc s.prefixes)) OtherPrefix
         (refuse_if v SsccUsed (joined first (in_order (judge_despatched unit.sscc) (placed 0 unit.lines) after)))) third
         state) flag
-        ∙ checked (not (under_some unit.sscc s.prefixes)) (used unit.sscc) unit third state _ _ whole
+        ∙ checked (not (under_some unit.sscc s.prefixes)) (used unit.sscc || came unit.sscc) unit third state _ _ whole
 
 -- each order of an advice's lines is named
 names_all : (units : List Unit) → AllByRecursion (λ unit. AllByRecursion (λ line. names_order units line.order ≡ true) unit.lines) units
@@ -230,34 +234,31 @@ names_all (unit ∷ units) = (
       ∙ or-true (list_any (λ one. same one.order line.order) unit.lines)) other.lines all) units (names_all units),
 )
 
-used_all : (used : List ℕ → Bool) (state : Tables)
+-- at first only what is told is used
+used_first : (used : List ℕ → Bool) (state : Tables)
     → ((sscc : List ℕ) → has_pallet state sscc ≡ true → used sscc ≡ true)
-    → (units : List Unit)
-    → AllByRecursion (λ unit. (used unit.sscc || has_pallet state unit.sscc) ≡ used unit.sscc) units
-used_all used state there [] = tt
-used_all used state there (unit ∷ units) = (one, used_all used state there units)
+    → (sscc : List ℕ)
+    → (used sscc || has_pallet state sscc) ≡ (used sscc || no_sscc sscc)
+used_first used state there sscc = by_case (used sscc) (has_pallet state sscc) (there sscc)
   where
-    by_case : (a b : Bool) → (b ≡ true → a ≡ true) → (a || b) ≡ a
+    by_case : (a b : Bool) → (b ≡ true → a ≡ true) → (a || b) ≡ (a || false)
     by_case true b h = refl
     by_case false true h = sym (h refl)
     by_case false false h = refl
-
-    one : (used unit.sscc || has_pallet state unit.sscc) ≡ used unit.sscc
-    one = by_case (used unit.sscc) (has_pallet state unit.sscc) (there unit.sscc)
 
 pub despatch_alike : (s : SupplierRow) (used : List ℕ → Bool) (known : Known) (despatch : Despatch) (state : Tables)
     → knows_advice state despatch.number ≡ known.number_known
     → map (λ unit. used unit.sscc) despatch.units ≡ known.used → ((sscc : List ℕ) → has_pallet state sscc ≡ true → used sscc ≡ true)
     → ((order : List ℕ) → names_order despatch.units order ≡ true → TellsOrder known state order)
     → ((order : List ℕ) → names_order despatch.units order ≡ true → TellsLines state known.lines order)
-    → has_twice (map (λ unit. unit.sscc) despatch.units) ≡ false → judge_new_despatch s used despatch state ≡ despatch_from s despatch known
-despatch_alike s used known despatch state number flags there orders lines once =
+    → judge_new_despatch s used despatch state ≡ despatch_from s despatch known
+despatch_alike s used known despatch state number flags there orders lines =
     let advice : List Change = AddAdvice (record { supplier = s.gln; number = despatch.number }) ∷ [] in
     ap₂ (λ v rest. refuse_if v AdviceKnown (joined advice rest)) number
-    (units_alike (names_order despatch.units) known.orders s used despatch.number despatch.units (apply_all advice state)
-    known.lines state.pallets (names_all despatch.units) once (used_all used state there despatch.units)
+    (units_alike (names_order despatch.units) known.orders s used despatch.number no_sscc despatch.units
+    (apply_all advice state) known.lines state.pallets (names_all despatch.units) (used_first used state there)
     (record { pallets_are = refl; order = orders; lines_are = lines })
-    ∙ ap (λ us. units_from s despatch.number known.orders despatch.units us known.lines) flags)
+    ∙ ap (λ us. units_from s despatch.number known.orders no_sscc despatch.units us known.lines) flags)
 
 -- one line judged by the code, and the rest on what it left
 pub despatched_next :
@@ -296,45 +297,42 @@ despatched_next sscc orders n said rest before lines after line row number next 
     ++ AddContent (record { sscc = sscc; place = n + 1; number = name; line = r.line; quantity = said.quantity }) ∷ [])
     tail) (sym is) (sym named)
 
--- one unit judged by the code, up to its lines
-pub unit_next : (s : SupplierRow) (advice : List ℕ) (orders : List (List ℕ)) (unit : Unit) (units : List Unit) (used : Bool)
-    (rest : List Bool) (before : List Change) (lines : List LineFacts)
-    → ((verdict : Verdict) → unit_checks s unit.sscc used verdict ≡ verdict)
-    → joined before (units_from s advice orders (unit ∷ units) (used ∷ rest) lines)
-    ≡ joined (before ++ new_pallet s advice unit.sscc ∷ [])
-    (lines_from unit.sscc orders 0 unit.lines lines (λ left. units_from s advice orders units rest left))
-unit_next s advice orders unit units used rest before lines pass =
-    ap (joined before) (pass (joined (new_pallet s advice unit.sscc ∷ [])
-    (lines_from unit.sscc orders 0 unit.lines lines (λ left. units_from s advice orders units rest left))))
-    ∙ sym (joined_grouped before (new_pallet s advice unit.sscc ∷ [])
-    (lines_from unit.sscc orders 0 unit.lines lines (λ left. units_from s advice orders units rest left)))
-
--- the unit at a place judged by the code, up to its lines
-pub unit_at : (s : SupplierRow) (advice : List ℕ) (orders : List (List ℕ)) (all units : List Unit) (used : List Bool) (i : ℕ)
-    (unit : Unit) (number : List ℕ) (pallet : Change) (before pushed : List Change) (lines : List LineFacts)
-    → all ≡ units
-    → length used ≡ length units
-    → i < length all
-    → unit ≡ get_or all i unit
-    → ((verdict : Verdict) → unit_checks s unit.sscc (get_or used i false) verdict ≡ verdict)
+-- the next unit judged by the code, up to its lines
+pub unit_next : (s : SupplierRow) (advice : List ℕ) (orders : List (List ℕ)) (came later : List ℕ → Bool)
+    (ahead units : List Unit) (flags rest : List Bool) (lines : List LineFacts) (unit : Unit) (flag taken : Bool)
+    (number : List ℕ) (pallet : Change) (before pushed : List Change)
+    → ahead ≡ unit ∷ units
+    → flags ≡ flag ∷ rest
+    → taken ≡ (flag || came unit.sscc)
+    → ((sscc : List ℕ) → later sscc ≡ and_sscc came unit.sscc sscc)
+    → ((verdict : Verdict) → unit_checks s unit.sscc taken verdict ≡ verdict)
     → number ≡ advice
     → pallet ≡ new_pallet s number unit.sscc
     → pushed ≡ before ++ pallet ∷ []
-    → joined before (units_from s advice orders (drop i units) (drop i used) lines)
-    ≡ joined pushed (lines_from unit.sscc orders 0 unit.lines lines
-    (λ left. units_from s advice orders (drop (i + 1) units) (drop (i + 1) used) left))
-unit_at s advice orders all units used i unit number pallet before pushed lines same_units lengths there is pass named made put_on =
-    let ahead : drop i units ≡ unit ∷ drop (i + 1) units =
-    ap (drop i) (sym same_units)
-    ∙ drop_more all i unit there
-    ∙ ap₂ (λ one xs. one ∷ drop (i + 1) xs) (sym is) same_units in
-    let flags : drop i used ≡ get_or used i false ∷ drop (i + 1) used =
-    drop_more used i false (omega (arith, ap length same_units, lengths, there)) in
-    ap₂ (λ us flags. joined before (units_from s advice orders us flags lines)) ahead flags
-    ∙ unit_next s advice orders unit (drop (i + 1) units) (get_or used i false) (drop (i + 1) used) before lines pass
-    ∙ ap (λ changes. joined changes (lines_from unit.sscc orders 0 unit.lines lines
-    (λ left. units_from s advice orders (drop (i + 1) units) (drop (i + 1) used) left)))
+    → joined before (units_from s advice orders came ahead flags lines)
+    ≡ joined pushed (lines_from unit.sscc orders 0 unit.lines lines (λ left. units_from s advice orders later units rest left))
+unit_next s advice orders came later ahead units flags rest lines unit flag taken number pallet before pushed is is_flag
+    is_taken more pass named made put_on =
+    let of : (List ℕ → Bool) → Verdict =
+    λ among. lines_from unit.sscc orders 0 unit.lines lines (λ left. units_from s advice orders among units rest left) in
+    let behind : Verdict = joined (new_pallet s advice unit.sscc ∷ []) (of (and_sscc came unit.sscc)) in
+    let same_came : and_sscc came unit.sscc ≡ later = λ i sscc. sym (more sscc) i in
+    ap₂ (λ us flags. joined before (units_from s advice orders came us flags lines)) is is_flag
+    ∙ ap (λ v. joined before (unit_checks s unit.sscc v behind)) (sym is_taken)
+    ∙ ap (joined before) (pass behind)
+    ∙ sym (joined_grouped before (new_pallet s advice unit.sscc ∷ []) (of (and_sscc came unit.sscc)))
+    ∙ ap₂ (λ changes among. joined changes (of among))
     (sym (put_on ∙ ap (λ change. before ++ change ∷ []) (made ∙ ap (λ number. new_pallet s number unit.sscc) named)))
+    same_came
+
+-- after the last unit
+pub units_end : (s : SupplierRow) (advice : List ℕ) (orders : List (List ℕ)) (came : List ℕ → Bool) (units : List Unit)
+    (flags : List Bool) (lines : List LineFacts)
+    → (units ≡ []) ⊎ (flags ≡ [])
+    → units_from s advice orders came units flags lines ≡ Accept []
+units_end s advice orders came [] flags lines ended = refl
+units_end s advice orders came (unit ∷ units) [] lines ended = refl
+units_end s advice orders came (unit ∷ units) (flag ∷ flags) lines ended = elim ended [ inl e ↦ cc | inr e ↦ cc ]
 
 -- the orders matter only by which are among them
 module _ (a b : List (List ℕ)) (same_orders : (order : List ℕ) → is_among order a ≡ is_among order b) where
@@ -357,12 +355,14 @@ module _ (a b : List (List ℕ)) (same_orders : (order : List ℕ) → is_among 
             (lines_by_orders sscc f g alike (n + 1) said (with_row (after_despatch x line) lines))
       ])
 
-  pub units_by_orders : (s : SupplierRow) (advice : List ℕ) (units : List Unit) (used : List Bool) (lines : List LineFacts)
-      → units_from s advice a units used lines ≡ units_from s advice b units used lines
-  units_by_orders s advice [] used lines = refl
-  units_by_orders s advice (unit ∷ units) [] lines = refl
-  units_by_orders s advice (unit ∷ units) (flag ∷ used) lines =
-      ap (λ rest. unit_checks s unit.sscc flag (joined (new_pallet s advice unit.sscc ∷ []) rest))
-      (lines_by_orders unit.sscc (λ left. units_from s advice a units used left)
-      (λ left. units_from s advice b units used left) (λ left. units_by_orders s advice units used left) 0 unit.lines
-      lines)
+  pub units_by_orders : (s : SupplierRow) (advice : List ℕ) (came : List ℕ → Bool) (units : List Unit) (used : List Bool)
+      (lines : List LineFacts)
+      → units_from s advice a came units used lines ≡ units_from s advice b came units used lines
+  units_by_orders s advice came [] used lines = refl
+  units_by_orders s advice came (unit ∷ units) [] lines = refl
+  units_by_orders s advice came (unit ∷ units) (flag ∷ used) lines =
+      let also : List ℕ → Bool = and_sscc came unit.sscc in
+      ap (λ rest. unit_checks s unit.sscc (flag || came unit.sscc) (joined (new_pallet s advice unit.sscc ∷ []) rest))
+      (lines_by_orders unit.sscc (λ left. units_from s advice a also units used left)
+      (λ left. units_from s advice b also units used left) (λ left. units_by_orders s advice also units used left) 0
+      unit.lines lines)

@@ -3,6 +3,7 @@ pub mod Cancelled
 pub mod Despatched
 pub mod Facts
 pub mod Given
+pub mod Holding
 pub mod Messages
 pub mod Once
 pub mod Received

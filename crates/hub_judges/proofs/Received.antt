@@ -1,8 +1,7 @@
 -- Units judged from their pallets are judged as from the state that has them.
-use Rattle.std.proofs.Common.{◌≡◌, ℕ, ◌+◌, Bool, true, false, not, ◌&&◌, inl, inr, List, [], ◌∷◌, ◌++◌, length, map, find, Option}
-use Rattle.std.proofs.Common.{Some, None, refl, sym, ◌∙◌, ap, ap₂, append_assoc, arith}
-use Rattle.std.proofs.lemmas.Bool.{or_parts}
-use Rattle.edi_base.specs.Seen.{is_among, has_twice}
+use Rattle.std.proofs.Common.{◌≡◌, ℕ, ◌+◌, Bool, true, false, cond, not, ◌&&◌, ◌||◌, ◌⊎◌, inl, inr, List, [], ◌∷◌, ◌++◌, length, map}
+use Rattle.std.proofs.Common.{find, Option, Some, None, option_map, refl, sym, ◌∙◌, ap, ap₂, append_assoc, arith}
+use Rattle.edi_base.proofs.Twice.{bytes_eq-sym}
 use Rattle.edi_goods.specs.declared.receipt.Receipt.{Receipt}
 use Rattle.edi_goods.specs.declared.receipt.ReceiptLine.{ReceiptLine}
 use Rattle.edi_goods.specs.declared.receipt.ReceiptUnit.{ReceiptUnit}
@@ -16,15 +15,15 @@ use Rattle.hub_tables.specs.declared.cases.MailKind.TheVariants as kinds
 use Rattle.hub_tables.specs.declared.change.Change.{Change}
 use Rattle.hub_tables.specs.declared.change.Change.TheVariants.{SetPallet, ClearReceipts}
 use Rattle.hub_tables.specs.declared.rows.PalletRow.{PalletRow}
-use Rattle.hub_tables.proofs.Lists.{decide, same_is, all_always, all_found}
-use Rattle.hub_rules.specs.Judging.{refuse_if, given, joined, goes_on, in_order}
+use Rattle.hub_tables.proofs.Lists.{decide, same_is, same_if, all_always, all_found}
+use Rattle.hub_rules.specs.Judging.{Judge, refuse_if, given, joined, goes_on, in_order}
 use Rattle.hub_rules.specs.MailboxRules.{is_full, mail_entry}
 use Rattle.hub_rules.specs.ReceiptRules.{gtins, new_receipt, arrival_by, cleared, judge_received, judge_new_receipt}
 use Rattle.hub_rules.specs.declared.code.Code.TheVariants.{NoPallet, PalletReceived, MailboxFull}
 use Rattle.hub_rules.specs.declared.incoming.IncomingMessage.{IncomingMessage}
 use Rattle.hub_rules.specs.declared.verdict.Verdict.{Verdict}
 use Rattle.hub_rules.specs.declared.verdict.Verdict.TheVariants.{Accept, Refuse}
-use Rattle.hub_judges.specs.FromFacts.{received, receipts_from}
+use Rattle.hub_judges.specs.FromFacts.{no_sscc, and_sscc, received, receipts_from}
 
 -- a row that is set is not found, and neither is the one in whose place it is
 find_replace_out : {X : Type 0} (p at : X → Bool) (r : X) (xs : List X)
@@ -39,9 +38,22 @@ find_replace_out p at r (y ∷ ys) out all =
       | inr e ↦ elim (decide (p y)) [ inl py ↦ grind (arith, e, py, ih) | inr py ↦ grind (arith, e, py, ih) ]
     ]
 
--- the pallets of the units
-abbrev pallets_of : Tables → List ReceiptUnit → List (Option PalletRow)
-pallets_of state units = map (λ unit. pallet_of state unit.sscc) units
+-- one that is found is found as it is set
+find_replace_in : {X : Type 0} (p at : X → Bool) (r : X) (xs : List X) (x : X)
+    → p r ≡ true
+    → ((y : X) → at y ≡ p y)
+    → find p xs ≡ Some x
+    → find p (replace at r xs) ≡ Some r
+find_replace_in p at r [] x out all found = cc
+find_replace_in p at r (y ∷ ys) x out all found =
+    elim (decide (p y)) [
+      | inl e ↦ let ay : at y ≡ true = all y ∙ e in grind (arith, e, ay, out)
+      | inr e ↦
+          let ay : at y ≡ false = all y ∙ e in
+          let later : find p ys ≡ Some x = sym (ap (λ v. cond v (Some y) (find p ys)) e) ∙ found in
+          let ih = find_replace_in p at r ys x out all later in
+          grind (arith, e, ay, ih)
+    ]
 
 receipts_keep : (sscc : List ℕ) (lines : List ReceiptLine) (gtins : List (List ℕ)) (state : Tables)
     → (apply_all (map (new_receipt sscc lines) gtins) state).pallets ≡ state.pallets
@@ -53,67 +65,180 @@ sums_keep : (replaces : Bool) (sscc : List ℕ) (lines : List ReceiptLine) (gtin
 sums_keep true sscc lines gtins state = receipts_keep sscc lines gtins (apply (ClearReceipts sscc) state)
 sums_keep false sscc lines gtins state = receipts_keep sscc lines gtins state
 
--- a unit that is received, and what stays of the pallets of others
+-- a pallet that is received
+abbrev set_by : Bool → PalletRow → PalletRow
+set_by replaces row = record row { received = arrival_number (arrival_by replaces) }
+
+-- a unit that is received: its pallet, and what stays of those of others
 module _ (replaces : Bool) (unit : ReceiptUnit) (state : Tables) (row : PalletRow) (found : pallet_of state unit.sscc ≡ Some row) where
+  abbrev set : PalletRow
+  set = set_by replaces row
+
+  which : row.sscc ≡ unit.sscc
+  which =
+      same_is row.sscc unit.sscc (all_found (λ _. Unit {0}) (λ pallet. same pallet.sscc unit.sscc) state.pallets row
+      (all_always (λ _. Unit {0}) (λ _. tt) state.pallets) found).1
+
+  pallet_set : pallet_of (apply_all (received replaces row unit) state) unit.sscc ≡ Some set
+  pallet_set =
+      ap (find (λ pallet. same pallet.sscc unit.sscc))
+      (sums_keep replaces unit.sscc unit.lines (gtins unit.lines) (apply (SetPallet set) state))
+      ∙ find_replace_in (λ pallet. same pallet.sscc unit.sscc) (same_pallet set) set state.pallets row
+      (same_if row.sscc unit.sscc which) (λ y. ap (same y.sscc) which) found
+
   pallet_kept : (sscc : List ℕ) → same unit.sscc sscc ≡ false →
       pallet_of (apply_all (received replaces row unit) state) sscc ≡ pallet_of state sscc
   pallet_kept sscc apart =
-      let set : PalletRow = record row { received = arrival_number (arrival_by replaces) } in
-      let which : row.sscc ≡ unit.sscc =
-      same_is row.sscc unit.sscc (all_found (λ _. Unit {0}) (λ pallet. same pallet.sscc unit.sscc) state.pallets row
-      (all_always (λ _. Unit {0}) (λ _. tt) state.pallets) found).1 in
       ap (find (λ pallet. same pallet.sscc sscc)) (sums_keep replaces unit.sscc unit.lines (gtins unit.lines) (apply (SetPallet set) state))
       ∙ find_replace_out (λ pallet. same pallet.sscc sscc) (same_pallet set) set state.pallets
       (ap (λ v. same v sscc) which ∙ apart) (λ y at. ap (λ v. same v sscc) (same_is y.sscc row.sscc at ∙ which) ∙ apart)
 
-  pallets_kept : (units : List ReceiptUnit)
-      → is_among unit.sscc (map (λ unit. unit.sscc) units) ≡ false
-      → pallets_of (apply_all (received replaces row unit) state) units ≡ pallets_of state units
-  pallets_kept [] apart = refl
-  pallets_kept (other ∷ units) apart =
-      let parts = or_parts (same unit.sscc other.sscc) (is_among unit.sscc (map (λ unit. unit.sscc) units)) apart in
-      ap₂ (λ pallet rest. pallet ∷ rest) (pallet_kept other.sscc parts.0) (pallets_kept units parts.1)
+-- a pallet after units, of which one has its SSCC or none
+abbrev after_units : Bool → Bool → PalletRow → PalletRow
+after_units replaces true row = set_by replaces row
+after_units replaces false row = row
 
--- the first unit, and then the rest as it is judged
-module _ (replaces : Bool) (unit : ReceiptUnit) (rest : List ReceiptUnit)
-    (state : Tables) (apart : is_among unit.sscc (map (λ unit. unit.sscc) rest) ≡ false)
-    (ih : (st : Tables) → in_order (judge_received replaces) rest st ≡ receipts_from replaces rest (pallets_of st rest)) where
-  through : (row : PalletRow) (was_received : Bool) → pallet_of state unit.sscc ≡ Some row
-      → goes_on (refuse_if was_received PalletReceived (Accept (received replaces row unit)))
-      (in_order (judge_received replaces) rest) state
-      ≡ refuse_if was_received PalletReceived (joined (received replaces row unit) (receipts_from replaces rest (pallets_of state rest)))
-  through row true found = refl
-  through row false found =
-      ap (joined (received replaces row unit))
-      (ih (apply_all (received replaces row unit) state)
-      ∙ ap (receipts_from replaces rest) (pallets_kept replaces unit state row found rest apart))
+set_alike : (replaces came : Bool) (first : PalletRow)
+    → set_by replaces (after_units replaces came first) ≡ set_by replaces first
+set_alike replaces true first = refl
+set_alike replaces false first = refl
 
-  one : (pallet : Option PalletRow) → pallet_of state unit.sscc ≡ pallet
-      → goes_on
-      (given pallet NoPallet
-      (λ row. refuse_if (not replaces && not (is_announced row)) PalletReceived (Accept (received replaces row unit))))
-      (in_order (judge_received replaces) rest) state
-      ≡ receipts_from replaces (unit ∷ rest) (pallet ∷ pallets_of state rest)
-  one None found = refl
-  one (Some row) found = through row (not replaces && not (is_announced row)) found
+-- where the advice does not replace, it is received once
+taken_alike : (replaces came : Bool) (first : PalletRow)
+    → (not replaces && not (is_announced (after_units replaces came first))) ≡ (not replaces && (came || not (is_announced first)))
+taken_alike true came first = refl
+taken_alike false true first = refl
+taken_alike false false first = refl
 
-units_alike : (replaces : Bool) (units : List ReceiptUnit) (state : Tables)
-    → has_twice (map (λ unit. unit.sscc) units) ≡ false
-    → in_order (judge_received replaces) units state ≡ receipts_from replaces units (pallets_of state units)
-units_alike replaces [] state apart = refl
-units_alike replaces (unit ∷ rest) state apart =
-    let parts = or_parts (is_among unit.sscc (map (λ unit. unit.sscc) rest)) (has_twice (map (λ unit. unit.sscc) rest)) apart in
-    one replaces unit rest state parts.0 (λ st. units_alike replaces rest st parts.1) (pallet_of state unit.sscc) refl
+-- a state after units of these SSCC, from the pallets before them
+abbrev IsAfter : Bool → (List ℕ → Option PalletRow) → (List ℕ → Bool) → Tables → Type 0
+IsAfter replaces start came state =
+    (sscc : List ℕ) → pallet_of state sscc ≡ option_map (after_units replaces (came sscc)) (start sscc)
+
+module _ (replaces : Bool) (start : List ℕ → Option PalletRow) where
+  -- one more unit, on a pallet as the earlier units left it
+  after_one : (came : List ℕ → Bool) (unit : ReceiptUnit) (state : Tables) (first row : PalletRow)
+      → IsAfter replaces start came state
+      → start unit.sscc ≡ Some first
+      → pallet_of state unit.sscc ≡ Some row
+      → set_by replaces row ≡ set_by replaces first
+      → IsAfter replaces start (and_sscc came unit.sscc) (apply_all (received replaces row unit) state)
+  after_one came unit state first row is begun found alike sscc =
+      let after : Tables = apply_all (received replaces row unit) state in
+      let there : Bool → Option PalletRow → Option PalletRow = λ v pallet. option_map (after_units replaces v) pallet in
+      elim (decide (same sscc unit.sscc)) [
+        | inl e ↦
+            ap (pallet_of after) (same_is sscc unit.sscc e)
+            ∙ pallet_set replaces unit state row found
+            ∙ ap Some alike
+            ∙ sym (ap₂ there (ap (λ v. v || came sscc) e) (ap start (same_is sscc unit.sscc e) ∙ begun))
+        | inr e ↦
+            pallet_kept replaces unit state row found sscc (bytes_eq-sym unit.sscc sscc ∙ e)
+            ∙ is sscc
+            ∙ ap (λ v. there v (start sscc)) (sym (ap (λ v. v || came sscc) e))
+      ]
+
+  settled : (taken : Bool) (changes : List Change) (third : Judge) (state : Tables) (next : Verdict)
+      → third (apply_all changes state) ≡ next
+      → goes_on (refuse_if taken PalletReceived (Accept changes)) third state ≡ refuse_if taken PalletReceived (joined changes next)
+  settled true changes third state next h = refl
+  settled false changes third state next h = ap (joined changes) h
+
+  -- a unit, and then the rest as it is judged
+  module _ (came : List ℕ → Bool) (unit : ReceiptUnit) (rest : List ReceiptUnit) (state : Tables)
+      (is : IsAfter replaces start came state)
+      (ih : (later : List ℕ → Bool) (st : Tables) → IsAfter replaces start later st → in_order (judge_received replaces) rest st
+      ≡ receipts_from replaces later rest (map (λ unit. start unit.sscc) rest)) where
+    abbrev third : Judge
+    third = in_order (judge_received replaces) rest
+
+    abbrev next : Verdict
+    next = receipts_from replaces (and_sscc came unit.sscc) rest (map (λ unit. start unit.sscc) rest)
+
+    on_pallet : (first row : PalletRow) (taken : Bool)
+        → start unit.sscc ≡ Some first
+        → pallet_of state unit.sscc ≡ Some row
+        → set_by replaces row ≡ set_by replaces first
+        → goes_on (refuse_if taken PalletReceived (Accept (received replaces row unit))) third state
+        ≡ refuse_if taken PalletReceived (joined (received replaces first unit) next)
+    on_pallet first row taken begun found alike =
+        let sums : List Change = cleared replaces unit.sscc ++ map (new_receipt unit.sscc unit.lines) (gtins unit.lines) in
+        settled taken (received replaces row unit) third state next
+        (ih (and_sscc came unit.sscc) (apply_all (received replaces row unit) state)
+        (after_one came unit state first row is begun found alike))
+        ∙ ap (λ pallet. refuse_if taken PalletReceived (joined (SetPallet pallet ∷ sums) next)) alike
+
+    one : (first : Option PalletRow)
+        → start unit.sscc ≡ first
+        → pallet_of state unit.sscc ≡ option_map (after_units replaces (came unit.sscc)) first
+        → goes_on
+        (given (pallet_of state unit.sscc) NoPallet
+        (λ row. refuse_if (not replaces && not (is_announced row)) PalletReceived (Accept (received replaces row unit))))
+        third state
+        ≡ receipts_from replaces came (unit ∷ rest) (first ∷ map (λ unit. start unit.sscc) rest)
+    one None begun found =
+        ap (λ pallet. goes_on
+        (given pallet NoPallet
+        (λ row. refuse_if (not replaces && not (is_announced row)) PalletReceived (Accept (received replaces row unit))))
+        third state) found
+    one (Some first) begun found =
+        let row : PalletRow = after_units replaces (came unit.sscc) first in
+        ap (λ pallet. goes_on
+        (given pallet NoPallet
+        (λ row. refuse_if (not replaces && not (is_announced row)) PalletReceived (Accept (received replaces row unit))))
+        third state) found
+        ∙ ap (λ taken. goes_on (refuse_if taken PalletReceived (Accept (received replaces row unit))) third state)
+        (taken_alike replaces (came unit.sscc) first)
+        ∙ on_pallet first row (not replaces && (came unit.sscc || not (is_announced first))) begun found
+        (set_alike replaces (came unit.sscc) first)
+
+  units_alike : (came : List ℕ → Bool) (units : List ReceiptUnit) (state : Tables)
+      → IsAfter replaces start came state
+      → in_order (judge_received replaces) units state ≡ receipts_from replaces came units (map (λ unit. start unit.sscc) units)
+  units_alike came [] state is = refl
+  units_alike came (unit ∷ rest) state is =
+      one came unit rest state is (λ later st told. units_alike later rest st told) (start unit.sscc) refl (is unit.sscc)
+
+-- at first each pallet is as it is
+as_it_is : (replaces : Bool) (pallet : Option PalletRow) → pallet ≡ option_map (after_units replaces false) pallet
+as_it_is replaces None = refl
+as_it_is replaces (Some row) = refl
 
 pub received_alike : (replaces : Bool) (units : List ReceiptUnit) (state : Tables) (pallets : List (Option PalletRow))
     → map (λ unit. pallet_of state unit.sscc) units ≡ pallets
-    → has_twice (map (λ unit. unit.sscc) units) ≡ false
-    → in_order (judge_received replaces) units state ≡ receipts_from replaces units pallets
-received_alike replaces units state pallets told apart = units_alike replaces units state apart ∙ ap (receipts_from replaces units) told
+    → in_order (judge_received replaces) units state ≡ receipts_from replaces no_sscc units pallets
+received_alike replaces units state pallets told =
+    units_alike replaces (pallet_of state) no_sscc units state (λ sscc. as_it_is replaces (pallet_of state sscc))
+    ∙ ap (receipts_from replaces no_sscc units) told
 
 joined_joined : (first second : List Change) (rest : Verdict) → joined first (joined second rest) ≡ joined (first ++ second) rest
 joined_joined first second (Refuse code) = refl
 joined_joined first second (Accept rest) = ap Accept (sym (append_assoc first second rest))
+
+-- the next unit received by the code
+pub unit_received : (replaces : Bool) (came later : List ℕ → Bool) (ahead units : List ReceiptUnit)
+    (pallets rest : List (Option PalletRow)) (unit : ReceiptUnit) (row : PalletRow) (before after : List Change)
+    → ahead ≡ unit ∷ units
+    → pallets ≡ Some row ∷ rest
+    → (not replaces && (came unit.sscc || not (is_announced row))) ≡ false
+    → ((sscc : List ℕ) → later sscc ≡ and_sscc came unit.sscc sscc)
+    → after ≡ before ++ received replaces row unit
+    → joined before (receipts_from replaces came ahead pallets) ≡ joined after (receipts_from replaces later units rest)
+unit_received replaces came later ahead units pallets rest unit row before after is is_row passes more put_on =
+    let same_came : and_sscc came unit.sscc ≡ later = λ i sscc. sym (more sscc) i in
+    let behind : Verdict = receipts_from replaces (and_sscc came unit.sscc) units rest in
+    ap₂ (λ us pallets. joined before (receipts_from replaces came us pallets)) is is_row
+    ∙ ap (λ taken. joined before (refuse_if taken PalletReceived (joined (received replaces row unit) behind))) passes
+    ∙ joined_joined before (received replaces row unit) behind
+    ∙ ap₂ (λ changes among. joined changes (receipts_from replaces among units rest)) (sym put_on) same_came
+
+-- after the last unit
+pub receipts_end : (replaces : Bool) (came : List ℕ → Bool) (units : List ReceiptUnit) (pallets : List (Option PalletRow))
+    → (units ≡ []) ⊎ (pallets ≡ [])
+    → receipts_from replaces came units pallets ≡ Accept []
+receipts_end replaces came [] pallets ended = refl
+receipts_end replaces came (unit ∷ units) [] ended = refl
+receipts_end replaces came (unit ∷ units) (pallet ∷ pallets) ended = elim ended [ inl e ↦ cc | inr e ↦ cc ]
 
 -- what comes of a RECADV that is new, after a first change, where the mailbox has a number left
 pub new_receipt_alike :
@@ -122,16 +247,15 @@ pub new_receipt_alike :
     → is_full mails ≡ false
     → length state.mail ≡ mails
     → map (λ unit. pallet_of state unit.sscc) receipt.units ≡ pallets
-    → has_twice (map (λ unit. unit.sscc) receipt.units) ≡ false
     → joined (first ∷ []) (judge_new_receipt supplier incoming body receipt state)
     ≡ joined (first ∷ mail_entry supplier (mails + 1) incoming kinds.Receipt receipt.number body ∷ [])
-    (receipts_from receipt.replaces receipt.units pallets)
-new_receipt_alike first supplier incoming body receipt state mails pallets room counted told apart =
+    (receipts_from receipt.replaces no_sscc receipt.units pallets)
+new_receipt_alike first supplier incoming body receipt state mails pallets room counted told =
     let entry : ℕ → Change = λ n. mail_entry supplier (n + 1) incoming kinds.Receipt receipt.number body in
     let behind : ℕ → Verdict =
     λ n. joined (entry n ∷ []) (in_order (judge_received receipt.replaces) receipt.units (apply (entry n) state)) in
     ap (λ n. joined (first ∷ []) (refuse_if (is_full n) MailboxFull (behind n))) counted
     ∙ ap (λ full. joined (first ∷ []) (refuse_if full MailboxFull (behind mails))) room
     ∙ ap (λ rest. joined (first ∷ []) (joined (entry mails ∷ []) rest))
-    (received_alike receipt.replaces receipt.units (apply (entry mails) state) pallets told apart)
-    ∙ joined_joined (first ∷ []) (entry mails ∷ []) (receipts_from receipt.replaces receipt.units pallets)
+    (received_alike receipt.replaces receipt.units (apply (entry mails) state) pallets told)
+    ∙ joined_joined (first ∷ []) (entry mails ∷ []) (receipts_from receipt.replaces no_sscc receipt.units pallets)

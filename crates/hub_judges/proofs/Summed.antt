@@ -1,21 +1,14 @@
 -- Totals line by line, and over all lines.
-use Rattle.std.proofs.Common.{◌≡◌, ℕ, ◌+◌, ◌<◌, ◌≤◌, Bool, true, false, cond, nat_le, ◌⊎◌, inl, inr, List, [], ◌∷◌}
-use Rattle.std.proofs.Common.{length}
-use Rattle.std.proofs.Common.{get_or, drop, map, filter, sum_by, Option, Some, None, refl, sym, ◌∙◌, ap, arith}
-use Rattle.std.specs.List.{list_all}
+use Rattle.std.proofs.Common.{◌≡◌, ℕ, ◌+◌, ◌^◌, ◌<◌, true, false, cond, ◌⊎◌, inl, inr, List, [], ◌∷◌, length}
+use Rattle.std.proofs.Common.{get_or, drop, filter, sum_by, Option, Some, None, refl, sym, ◌∙◌, ap, arith}
 use Rattle.std.specs.Option.{unwrap_or}
-use Rattle.std.proofs.lemmas.Bool.{and_parts, leb-true}
 use Rattle.std.proofs.lemmas.List.{drop_more}
-use Rattle.std.proofs.lemmas.List.Folds.{list_all-map}
 use Rattle.std.proofs.lemmas.List.Sums.{sum_by-cons}
-use Rattle.edi_base.specs.Limits.{greatest}
-use Rattle.edi_goods.specs.Receipt.{has_sums}
-use Rattle.edi_goods.specs.Sums.{sum_of, sums_within}
 use Rattle.edi_goods.specs.declared.receipt.ReceiptLine.{ReceiptLine}
 use Rattle.hub_tables.specs.Rows.{same}
 use Rattle.hub_tables.proofs.Lists.{decide, same_is, same_if}
 use Rattle.hub_rules.specs.ReceiptRules.{total}
-use Rattle.hub_judges.specs.Totals.{nothing, with_line, total_from}
+use Rattle.hub_judges.specs.Totals.{RowHolds, nothing, with_line, total_from}
 use Rattle.hub_judges.specs.declared.totals.Total.{Total}
 
 -- a total, and what lines say of an article
@@ -34,7 +27,7 @@ alike a b accepted returned destroyed =
     ∙ ap (made b.accepted b.returned) destroyed
 
 module _ (article : List ℕ) (line : ReceiptLine) (lines : List ReceiptLine) where
-  total_with : (kind : ReceiptLine → ℕ) → same line.gtin article ≡ true → total kind article
+  pub total_with : (kind : ReceiptLine → ℕ) → same line.gtin article ≡ true → total kind article
       (line ∷ lines) ≡ kind line + total kind article lines
   total_with kind e =
       ap (λ v.
@@ -42,7 +35,7 @@ module _ (article : List ℕ) (line : ReceiptLine) (lines : List ReceiptLine) wh
       (filter (λ line. same line.gtin article) lines))) e
       ∙ sum_by-cons kind line (filter (λ line. same line.gtin article) lines)
 
-  total_without : (kind : ReceiptLine → ℕ) → same line.gtin article ≡ false → total kind article
+  pub total_without : (kind : ReceiptLine → ℕ) → same line.gtin article ≡ false → total kind article
       (line ∷ lines) ≡ total kind article lines
   total_without kind e =
       ap (λ v.
@@ -103,54 +96,11 @@ over_lines article (line ∷ lines) sum h =
           ∙ lines_without article line lines nothing e
     ]
 
--- what holds of the article of each line holds of an article that comes in lines
-of_article : (p : List ℕ → Bool) (article : List ℕ) (lines : List ReceiptLine) (sum : Total)
-    → total_from None article lines ≡ Some sum
-    → list_all (λ line. p line.gtin) lines ≡ true
-    → p article ≡ true
-of_article p article [] sum h all = cc
-of_article p article (line ∷ lines) sum h all =
-    let parts = and_parts (p line.gtin) (list_all (λ line. p line.gtin) lines) all in
-    elim (decide (same line.gtin article)) [
-      | inl e ↦ ap p (sym (same_is line.gtin article e)) ∙ parts.0
-      | inr e ↦ of_article p article lines sum
-          (sym (ap (λ v. total_from (cond v (Some (with_line nothing line)) None) article lines) e) ∙ h) parts.1
-    ]
-
--- amounts of one kind
-module _ (kind : ReceiptLine → ℕ) where
-  abbrev sum_by_kind : List ℕ → List ReceiptLine → ℕ
-  sum_by_kind article lines =
-      sum_of article (map (λ (line : ReceiptLine). record { gtin = line.gtin; quantity = kind line }) lines)
-
-  sum_total : (article : List ℕ) (lines : List ReceiptLine) → sum_by_kind article lines ≡ total kind article lines
-  sum_total article [] = refl
-  sum_total article (line ∷ lines) =
-      let ih = sum_total article lines in
-      elim (decide (same line.gtin article)) [
-        | inl e ↦ let t = total_with article line lines kind e in
-            ap (λ v. cond v (kind line) 0 + sum_by_kind article lines) e ∙ omega (arith, t, ih)
-        | inr e ↦ let t = total_without article line lines kind e in
-            ap (λ v. cond v (kind line) 0 + sum_by_kind article lines) e ∙ omega (arith, t, ih)
-      ]
-
-  within : (article : List ℕ) (lines : List ReceiptLine) (sum : Total)
-      → total_from None article lines ≡ Some sum
-      → sums_within (map (λ (line : ReceiptLine). record { gtin = line.gtin; quantity = kind line }) lines) ≡ true
-      → total kind article lines ≤ greatest
-  within article lines sum h all =
-      let each : list_all (λ line. nat_le (sum_by_kind line.gtin lines) greatest) lines ≡ true =
-      sym (list_all-map _ _ lines) ∙ all in
-      let t = sum_total article lines in
-      let l = leb-true (sum_by_kind article lines) greatest
-      (of_article (λ gtin. nat_le (sum_by_kind gtin lines) greatest) article lines sum h each) in
-      omega (arith, t, l)
-
--- a total and a line are within the limit
+-- a row can hold a total and a line
 pub record Fits (before : Total) (line : ReceiptLine) : Type 0 where
-  pub accepted : before.accepted + line.accepted ≤ greatest
-  pub returned : before.returned + line.returned ≤ greatest
-  pub destroyed : before.destroyed + line.destroyed ≤ greatest
+  pub accepted : before.accepted + line.accepted < 2 ^ 32
+  pub returned : before.returned + line.returned < 2 ^ 32
+  pub destroyed : before.destroyed + line.destroyed < 2 ^ 32
 
 -- the line at a place, before the rest
 module _ (lines : List ReceiptLine) (i : ℕ) (line : ReceiptLine) (inside : i < length lines)
@@ -159,10 +109,10 @@ module _ (lines : List ReceiptLine) (i : ℕ) (line : ReceiptLine) (inside : i <
   rest_from = drop_more lines i line inside ∙ ap (λ one. one ∷ drop (i + 1) lines) (sym at)
 
   pub fits : (before : Option Total)
-      → has_sums lines ≡ true
+      → RowHolds lines line.gtin
       → total_from None line.gtin lines ≡ total_from before line.gtin (drop i lines)
       → Fits (unwrap_or before nothing) line
-  fits before sums so_far =
+  fits before holds so_far =
       let next : Total = with_line (unwrap_or before nothing) line in
       let rest = drop (i + 1) lines in
       let whole : total_from None line.gtin lines ≡ Some (with_lines next line.gtin rest) =
@@ -171,20 +121,13 @@ module _ (lines : List ReceiptLine) (i : ℕ) (line : ReceiptLine) (inside : i <
       ∙ ap (λ v. total_from (cond v (Some next) before) line.gtin rest) (same_if line.gtin line.gtin refl)
       ∙ from_some next line.gtin rest in
       let over = over_lines line.gtin lines (with_lines next line.gtin rest) whole in
-      let right = and_parts _ _ sums in
-      let first = and_parts _ _ right.0 in
-      let a = within (λ line. line.accepted) line.gtin lines (with_lines next line.gtin rest) whole first.0 in
-      let r = within (λ line. line.returned) line.gtin lines (with_lines next line.gtin rest) whole first.1 in
-      let d = within (λ line. line.destroyed) line.gtin lines (with_lines next line.gtin rest) whole right.1 in
+      let a = holds.0 in
+      let r = holds.1 in
+      let d = holds.2 in
       let of_a = ap (λ (t : Total). t.accepted) over in
       let of_r = ap (λ (t : Total). t.returned) over in
       let of_d = ap (λ (t : Total). t.destroyed) over in
-      record {
-        accepted = omega (arith, a, of_a);
-        returned = omega (arith, r, of_r);
-        destroyed = omega
-            (arith, d, of_d);
-      }
+      record { accepted = omega (arith, a, of_a); returned = omega (arith, r, of_r); destroyed = omega (arith, d, of_d) }
 
   -- the totals with one more line
   pub totals_next : (old new : List ℕ → Option Total) (sum : Total)

@@ -1,7 +1,8 @@
 -- The rules of lines and units once more, without a state: what comes of what is known. The loops of the judges meet
 -- these by their invariants, and a lemma for each says that they are the rules' cases. They are steps of those
 -- proofs; no public clause rests on them.
-use Rattle.std.specs.Prelude.{ℕ, Bool, ◌+◌, ◌-◌, nat_lt, not, ◌&&◌, List, [], ◌∷◌, ◌++◌, map, filter, Option, Some, Result, Ok, Err}
+use Rattle.std.specs.Prelude.{ℕ, Bool, false, ◌+◌, ◌-◌, nat_lt, not, ◌&&◌, ◌||◌, List, [], ◌∷◌, ◌++◌, map, filter, Option, Some}
+use Rattle.std.specs.Prelude.{Result, Ok, Err}
 use Rattle.edi_base.specs.Seen.{is_among}
 use Rattle.gs1_ids.specs.Sscc.{under_some}
 use Rattle.edi_orders.specs.declared.response.Answer.{Answer}
@@ -94,20 +95,28 @@ cancelled_from cancel known =
       cancelled = line.row.cancelled + cancel.quantity;
     }) ∷ []))))
 
+-- the SSCC of the units so far: none at first, and one more with each unit
+abbrev pub no_sscc : List ℕ → Bool
+no_sscc sscc = false
+
+abbrev pub and_sscc : (List ℕ → Bool) → List ℕ → List ℕ → Bool
+and_sscc came one sscc = same sscc one || came sscc
+
 -- what comes of a unit on a pallet: the pallet is received, what was received of it goes where the advice replaces, and
 -- the sums of each article come
 abbrev pub received : Bool → PalletRow → ReceiptUnit → List Change
 received replaces pallet unit = SetPallet (record pallet { received = arrival_number (arrival_by replaces) })
     ∷ cleared replaces unit.sscc ++ map (new_receipt unit.sscc unit.lines) (gtins unit.lines)
 
--- the units of a RECADV, each with its pallet; both lists have one length
-abbrev pub receipts_from : Bool → List ReceiptUnit → List (Option PalletRow) → Verdict
-receipts_from replaces [] pallets = Accept []
-receipts_from replaces (unit ∷ units) [] = Accept []
-receipts_from replaces (unit ∷ units) (pallet ∷ pallets) =
+-- the units of a RECADV, each with its pallet as it was before the first of them; an earlier unit of the same SSCC has
+-- received it
+abbrev pub receipts_from : Bool → (List ℕ → Bool) → List ReceiptUnit → List (Option PalletRow) → Verdict
+receipts_from replaces came [] pallets = Accept []
+receipts_from replaces came (unit ∷ units) [] = Accept []
+receipts_from replaces came (unit ∷ units) (pallet ∷ pallets) =
     given pallet NoPallet (λ row.
-    refuse_if (not replaces && not (is_announced row)) PalletReceived (
-    joined (received replaces row unit) (receipts_from replaces units pallets)))
+    refuse_if (not replaces && (came unit.sscc || not (is_announced row))) PalletReceived (
+    joined (received replaces row unit) (receipts_from replaces (and_sscc came unit.sscc) units pallets)))
 
 -- a line after so much of it is despatched
 abbrev pub after_despatch : DespatchLine → LineFacts → LineRow
@@ -151,18 +160,21 @@ unit_checks s sscc used rest =
     refuse_if (not (under_some sscc s.prefixes)) OtherPrefix (
     refuse_if used SsccUsed rest)
 
--- the units of a DESADV, each with whether its SSCC is used; both lists have one length
-abbrev pub units_from : SupplierRow → List ℕ → List (List ℕ) → List Unit → List Bool → List LineFacts → Verdict
-units_from s advice orders [] used lines = Accept []
-units_from s advice orders (unit ∷ units) [] lines = Accept []
-units_from s advice orders (unit ∷ units) (used ∷ rest) lines =
-    unit_checks s unit.sscc used (
+-- the units of a DESADV, each with whether its SSCC was used before the first of them; an earlier unit of the same SSCC
+-- uses it
+abbrev pub units_from : SupplierRow → List ℕ → List (List ℕ) → (List ℕ → Bool) → List Unit → List Bool → List LineFacts
+    → Verdict
+units_from s advice orders came [] used lines = Accept []
+units_from s advice orders came (unit ∷ units) [] lines = Accept []
+units_from s advice orders came (unit ∷ units) (used ∷ rest) lines =
+    unit_checks s unit.sscc (used || came unit.sscc) (
     joined (new_pallet s advice unit.sscc ∷ [])
-    (lines_from unit.sscc orders 0 unit.lines lines (λ left. units_from s advice orders units rest left)))
+    (lines_from unit.sscc orders 0 unit.lines lines (λ left.
+    units_from s advice orders (and_sscc came unit.sscc) units rest left)))
 
 -- what a DESADV changes of what is known, or the first of B13, B11, B12, B05, B06, B09 and B10 that it is against
 abbrev pub despatch_from : SupplierRow → Despatch → Known → Verdict
 despatch_from s despatch known =
     refuse_if known.number_known AdviceKnown (
     joined (AddAdvice (record { supplier = s.gln; number = despatch.number }) ∷ [])
-    (units_from s despatch.number known.orders despatch.units known.used known.lines))
+    (units_from s despatch.number known.orders no_sscc despatch.units known.used known.lines))

@@ -1,9 +1,21 @@
 -- What is received of an article, line by line.
-use Rattle.std.specs.Prelude.{ℕ, ◌+◌, List, [], ◌∷◌, if◌then◌else◌, Option, Some}
+use Rattle.std.specs.Prelude.{ℕ, ◌+◌, ◌<◌, ◌^◌, List, [], ◌∷◌, if◌then◌else◌, Option, Some}
 use Rattle.std.specs.Option.{unwrap_or}
 use Rattle.edi_goods.specs.declared.receipt.ReceiptLine.{ReceiptLine}
 use Rattle.hub_tables.specs.Rows.{same}
+use Rattle.hub_rules.specs.ReceiptRules.{total}
 use Rattle.hub_judges.specs.declared.totals.Total.{Total}
+
+-- a row can hold what is received of an article: each sum is a number of 32 bits
+abbrev pub RowHolds : List ReceiptLine → List ℕ → Type 0
+RowHolds lines gtin =
+    (total (λ line. line.accepted) gtin lines < 2 ^ 32)
+    × (total (λ line. line.returned) gtin lines < 2 ^ 32)
+    × (total (λ line. line.destroyed) gtin lines < 2 ^ 32)
+
+-- a row for each article can
+abbrev pub RowsHold : List ReceiptLine → Type 0
+RowsHold lines = (gtin : List ℕ) → RowHolds lines gtin
 
 abbrev pub nothing : Total
 nothing = record { accepted = 0; returned = 0; destroyed = 0 }

@@ -1,7 +1,6 @@
 //! The rules of DESADV.
-ghost use Rattle.std.specs.Prelude.{◌≡◌, ◌≤◌, ℕ, Bool, List, [], ◌∷◌, false, length, map, IfOk, option_copied};
+ghost use Rattle.std.specs.Prelude.{◌≡◌, ◌≤◌, ℕ, Bool, List, [], ◌∷◌, false, IfOk, option_copied};
 ghost use Rattle.std.specs.Option.{IfSome, IfNone};
-ghost use Rattle.edi_base.specs.Seen.{has_twice};
 ghost use Rattle.gs1_ids.specs.Sscc.{under_some};
 ghost use Rattle.hub_tables.specs.Tables.{Tables};
 ghost use Rattle.hub_tables.specs.declared.cases.Side.TheVariants.{Supplier};
@@ -12,13 +11,14 @@ ghost use Rattle.hub_rules.specs.RepeatRules.{remembered};
 ghost use Rattle.hub_rules.specs.Rules as rules;
 ghost use Rattle.hub_rules.specs.declared.verdict.Verdict.{Verdict};
 ghost use Rattle.hub_rules.specs.declared.verdict.Verdict.TheVariants.{Refuse};
-ghost use Rattle.hub_judges.specs.FromFacts.{despatch_checks, despatch_from, lines_from, new_pallet, unit_checks, units_from};
+ghost use Rattle.hub_judges.specs.FromFacts.{despatch_checks, despatch_from, lines_from, new_pallet, no_sscc, unit_checks, units_from};
 ghost use Rattle.hub_judges.specs.Known.{TellsForDespatch};
 
+use crate::earlier::has_come;
 use crate::known::Known;
 use crate::party::admitted;
 use crate::remembering::{remember, repeats};
-use edi_base::{Items, MemoryFault, copied};
+use edi_base::{Items, MemoryFault, Seen, copied};
 use edi_goods::{Despatch, DespatchLine, Unit};
 use gs1_ids::{Gln, Sscc};
 use hub_order_lines::{Book, LineFacts, OrderNumbers, copied_row};
@@ -137,7 +137,7 @@ fn announced_pallet(
 }
 
 // What comes of the units after these changes: of each B11 and B12 are asked, and then its lines, on what the earlier ones
-// left.
+// left. An SSCC is used if the hub or an earlier unit has it.
 fn judge_units<'a>(
     alloc: Global,
     row: &SupplierRow,
@@ -147,16 +147,17 @@ fn judge_units<'a>(
     book: Book,
     changes: Items<Change>,
 ) -> Result<Verdict, MemoryFault>
-    requires { length used.now ≡ length despatch.now.units }
     ensures { IfOk result (λ verdict. verdict ≡ joined changes
-        (units_from row.now despatch.now.number orders.now despatch.now.units used.now book)) }
+        (units_from row.now despatch.now.number orders.now no_sscc despatch.now.units used.now book)) }
 {
     let mut book = book;
     let mut changes = changes;
+    let mut seen = Seen::new(alloc);
     let number = despatch.number.as_slice();
-    for (index, unit) in despatch.units.as_slice().iter().enumerate() {
-        let is_used = used[index];
-        if let Some(code) = unit_fault(row, &unit.sscc, is_used) {
+    let units = despatch.units.as_slice();
+    for (unit, is_used) in units.iter().zip(used) {
+        let came = has_come(&mut seen, &unit.sscc)?;
+        if let Some(code) = unit_fault(row, &unit.sscc, *is_used || came) {
             return Ok(Verdict::Refuse(code));
         }
         let pallet = announced_pallet(alloc, row, number, unit.sscc)?;
@@ -198,9 +199,7 @@ fn judge_new(
     incoming: IncomingMessage,
     despatch: &Despatch,
 ) -> Result<Verdict, MemoryFault>
-    requires each_unit { length known.used ≡ length despatch.now.units }
-    requires apart { has_twice (map (λ unit. unit.sscc) despatch.now.units) ≡ false }
-    requires new { known.number_known ≡ false }
+    requires { known.number_known ≡ false }
     ensures { IfOk result (λ verdict.
         verdict ≡ joined (Remember (remembered (rules.referred_by row.now Supplier incoming) incoming.content)
         ∷ []) (despatch_from row.now despatch.now known)) }
@@ -221,8 +220,8 @@ fn judge_new(
 }
 
 /// What comes of a DESADV: B01, B02, B03 and B13 are asked in this order; then of each unit B11 and B12, and of each of its
-/// lines B05, B06, B09 and B10, on what the earlier lines left. Asks that it is known of each unit whether its SSCC is used, and
-/// that no SSCC stands in two units. `MemoryFault` where memory ran out.
+/// lines B05, B06, B09 and B10, on what the earlier lines left. If two units have one SSCC, the second is against B12.
+/// `MemoryFault` where memory ran out.
 pub fn judge_despatch(
     alloc: Global,
     retailer: &Gln,
@@ -231,8 +230,6 @@ pub fn judge_despatch(
     incoming: IncomingMessage,
     despatch: &Despatch,
 ) -> Result<Verdict, MemoryFault>
-    requires each_unit { length known.used ≡ length despatch.now.units }
-    requires apart { has_twice (map (λ unit. unit.sscc) despatch.now.units) ≡ false }
     ensures { IfOk result (λ verdict. (used : List ℕ → Bool) (state : Tables) →
         TellsForDespatch known used incoming despatch.now state →
         verdict ≡ rules.judge_despatch retailer.now

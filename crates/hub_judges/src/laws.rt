@@ -1,11 +1,8 @@
 //! What judges ask of their callers is there: laws, each the contract of a function without a body.
-ghost use Rattle.std.specs.Prelude.{◌≡◌, ℕ, Bool, true, false, List, filter, map, None, Ok};
+ghost use Rattle.std.specs.Prelude.{◌≡◌, ℕ, Bool, true, List, filter, None, Ok};
 ghost use Rattle.std.specs.List.{AllByRecursion, list_all};
-ghost use Rattle.edi_base.specs.Seen.{has_twice};
 ghost use Rattle.edi_envelope.specs.declared.interchange.RawMessage.{RawMessage};
-ghost use Rattle.edi_goods.specs.Despatch.{despatch_of};
-ghost use Rattle.edi_goods.specs.Receipt.{receipt_of, has_sums};
-ghost use Rattle.edi_goods.specs.declared.despatch.Despatch.{Despatch};
+ghost use Rattle.edi_goods.specs.Receipt.{receipt_of};
 ghost use Rattle.edi_goods.specs.declared.receipt.Receipt.{Receipt};
 ghost use Rattle.hub_parties.specs.declared.row.SupplierRow.{SupplierRow};
 ghost use Rattle.hub_tables.specs.Tables.{Tables, view};
@@ -15,10 +12,11 @@ ghost use Rattle.hub_order_lines.specs.Book.{facts_cmp, IsCovered};
 ghost use Rattle.hub_order_lines.specs.KnownLines.{is_covered, steps_up};
 ghost use Rattle.hub_rules.specs.Sound.{Sound};
 ghost use Rattle.hub_judges.specs.Facts.{facts_in};
+ghost use Rattle.hub_judges.specs.Totals.{RowsHold};
 
 /// Of sound tables, the lines that a supplier sees, all or those of some orders, rise by order number and line number,
-/// and of each no more is open, refused and cancelled than is ordered: `KnownLines` are made of their rows. Of what is
-/// read, no SSCC stands in two units, and no sum of a receiving advice is past its limit.
+/// and of each no more is open, refused and cancelled than is ordered: `KnownLines` are made of their rows. Of a receiving
+/// advice that is read, a row can hold the sums of each article in a unit.
 pub fn judges_are_given_what_they_ask()
     ensures rise { (suppliers : List SupplierRow) (gln : List ℕ) (t : Tables) (test : LineRow → Bool) →
         Sound suppliers t → Rises facts_cmp (facts_in (view gln t) (filter test (view gln t).lines)) }
@@ -30,10 +28,6 @@ pub fn judges_are_given_what_they_ask()
     ensures rows_covered { (suppliers : List SupplierRow) (gln : List ℕ) (t : Tables)
         (test : LineRow → Bool) →
         Sound suppliers t → list_all is_covered (filter test (view gln t).lines) ≡ true }
-    ensures despatch { (message : RawMessage) (despatch : Despatch) →
-        despatch_of message ≡ Ok despatch → has_twice (map (λ unit. unit.sscc) despatch.units) ≡ false }
-    ensures receipt { (message : RawMessage) (receipt : Receipt) →
-        receipt_of message ≡ Ok receipt → has_twice (map (λ unit. unit.sscc) receipt.units) ≡ false }
     ensures sums { (message : RawMessage) (receipt : Receipt) →
-        receipt_of message ≡ Ok receipt → list_all (λ unit. has_sums unit.lines) receipt.units ≡ true }
+        receipt_of message ≡ Ok receipt → AllByRecursion (λ unit. RowsHold unit.lines) receipt.units }
 {}

@@ -5,6 +5,7 @@
 mod answers;
 mod cancel;
 mod despatch;
+mod earlier;
 mod join;
 mod known;
 mod laws;

@@ -1,22 +1,22 @@
 //! The rules of RECADV.
-ghost use Rattle.std.specs.Prelude.{◌≡◌, ◌++◌, true, false, not, length, map, IfOk, option_copied};
-ghost use Rattle.std.specs.List.{list_all};
-ghost use Rattle.edi_base.specs.Seen.{has_twice};
-ghost use Rattle.edi_goods.specs.Receipt.{has_sums};
+ghost use Rattle.std.specs.Prelude.{◌≡◌, ◌&&◌, ◌||◌, ◌++◌, not, map, IfOk, option_copied};
+ghost use Rattle.std.specs.List.{AllByRecursion};
 ghost use Rattle.hub_tables.specs.State.{is_announced};
 ghost use Rattle.hub_tables.specs.Tables.{Tables};
 ghost use Rattle.hub_rules.specs.Judging.{joined};
 ghost use Rattle.hub_rules.specs.ReceiptRules.{gtins, new_receipt};
 ghost use Rattle.hub_rules.specs.Rules as rules;
-ghost use Rattle.hub_judges.specs.FromFacts.{received, receipts_from};
+ghost use Rattle.hub_judges.specs.FromFacts.{no_sscc, received, receipts_from};
 ghost use Rattle.hub_judges.specs.Known.{TellsForReceipt};
+ghost use Rattle.hub_judges.specs.Totals.{RowsHold};
 
+use crate::earlier::has_come;
 use crate::known::Known;
 use crate::mail::{is_full, remembered_and_mailed};
 use crate::party::admitted;
 use crate::remembering::repeats;
 use crate::totals::totals_of;
-use edi_base::{Items, MemoryFault, copied};
+use edi_base::{Items, MemoryFault, Seen, copied};
 use edi_goods::{Receipt, ReceiptUnit};
 use gs1_ids::Gln;
 use hub_parties::SupplierRow;
@@ -30,7 +30,7 @@ fn add_receipts(
     unit: &ReceiptUnit,
     changes: &mut Items<Change>,
 ) -> Result<(), MemoryFault>
-    requires { has_sums unit.now.lines ≡ true }
+    requires { RowsHold unit.now.lines }
     ensures { IfOk result (λ _.
         changes.new ≡ changes.old ++ map (new_receipt unit.now.sscc unit.now.lines) (gtins unit.now.lines)) }
 {
@@ -60,6 +60,13 @@ fn is_received(pallet: &PalletRow) -> bool
     }
 }
 
+// Whether a unit is against B15: an earlier advice or an earlier unit received its pallet, and this advice does not replace.
+fn is_received_twice(replaces: bool, came: bool, pallet: &PalletRow) -> bool
+    ensures { result ≡ (not replaces && (came || not (is_announced pallet.now))) }
+{
+    !replaces && (came || is_received(pallet))
+}
+
 // Puts what comes of a unit on a pallet after the changes; where the advice replaces, what was received of it goes first.
 fn receive(
     alloc: Global,
@@ -68,7 +75,7 @@ fn receive(
     unit: &ReceiptUnit,
     changes: &mut Items<Change>,
 ) -> Result<(), MemoryFault>
-    requires { has_sums unit.now.lines ≡ true }
+    requires { RowsHold unit.now.lines }
     ensures { IfOk result (λ _. changes.new ≡ changes.old ++ received replaces pallet.now unit.now) }
 {
     let arrival = if replaces {
@@ -96,16 +103,17 @@ fn judge_units(
     pallets: &[Option<PalletRow>],
     mut changes: Items<Change>,
 ) -> Result<Verdict, MemoryFault>
-    requires each_unit { length pallets.now ≡ length units.now }
-    requires sums { list_all (λ unit. has_sums unit.lines) units.now ≡ true }
+    requires { AllByRecursion (λ unit. RowsHold unit.lines) units.now }
     ensures { IfOk result (λ verdict.
-        verdict ≡ joined changes (receipts_from replaces units.now pallets.now)) }
+        verdict ≡ joined changes (receipts_from replaces no_sscc units.now pallets.now)) }
 {
-    for (place, unit) in units.iter().enumerate() {
-        let Some(pallet) = &pallets[place] else {
+    let mut seen = Seen::new(alloc);
+    for (unit, pallet) in units.iter().zip(pallets) {
+        let came = has_come(&mut seen, &unit.sscc)?;
+        let Some(pallet) = pallet else {
             return Ok(Verdict::Refuse(Code::NoPallet));
         };
-        if !replaces && is_received(pallet) {
+        if is_received_twice(replaces, came, pallet) {
             return Ok(Verdict::Refuse(Code::PalletReceived));
         }
         receive(alloc, replaces, pallet, unit, &mut changes)?;
@@ -114,10 +122,11 @@ fn judge_units(
 }
 
 /// What comes of a RECADV: B01, B02, B03 and B16 are asked in this order, and then of each unit B14, and B15 where it does
-/// not replace; where it does, all that was received of the pallets of its units goes. Asks that the pallet of each unit is
-/// known, or that there is none; and that no SSCC stands in two units, and no sum of an article in a unit is past its limit,
-/// as `Receipt::read` promises. `body` is the canonical text of the message's segments, UNH to UNT, with `1` for its
-/// reference, as the mailbox entry keeps it. `MemoryFault` where memory ran out.
+/// not replace; where it does, all that was received of the pallets of its units goes. If two units have one SSCC, the second
+/// finds the pallet received: it is against B15, or its sums replace those of the first. Asks that each sum of an article in a
+/// unit is below 2 ^ 32, since a row holds no more; a receipt that was read has none above 999,999,999. `body` is the
+/// canonical text of the message's segments, UNH to UNT, with `1` for its reference, as the mailbox entry keeps it.
+/// `MemoryFault` where memory ran out.
 pub fn judge_receipt(
     alloc: Global,
     retailer: &Gln,
@@ -127,9 +136,7 @@ pub fn judge_receipt(
     body: Items<u8>,
     receipt: &Receipt,
 ) -> Result<Verdict, MemoryFault>
-    requires each_unit { length known.now.pallets ≡ length receipt.now.units }
-    requires apart { has_twice (map (λ unit. unit.sscc) receipt.now.units) ≡ false }
-    requires sums { list_all (λ unit. has_sums unit.lines) receipt.now.units ≡ true }
+    requires { AllByRecursion (λ unit. RowsHold unit.lines) receipt.now.units }
     ensures { IfOk result (λ verdict.
         (state : Tables) → TellsForReceipt known.now incoming receipt.now state →
         verdict ≡ rules.judge_receipt retailer.now

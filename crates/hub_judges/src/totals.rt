@@ -1,11 +1,9 @@
 //! What is received of the articles of a unit.
-ghost use Rattle.std.specs.Prelude.{◌≡◌, ◌+◌, ◌≤◌, ℕ, List, true, None, IfOk};
+ghost use Rattle.std.specs.Prelude.{◌≡◌, ◌+◌, ◌<◌, ◌^◌, ℕ, List, None, IfOk};
 ghost use Rattle.std.specs.BTreeMap.{get};
 ghost use Rattle.std.specs.Cmp.Lexicographic.{slice_cmp};
 ghost use Rattle.std.specs.Option.{unwrap_or};
 ghost use Rattle.std.specs.Ordering.{nat_cmp};
-ghost use Rattle.edi_base.specs.Limits.{greatest};
-ghost use Rattle.edi_goods.specs.Receipt.{has_sums};
 ghost use Rattle.hub_judges.specs.Totals as spec;
 
 use edi_base::MemoryFault;
@@ -28,9 +26,9 @@ pub(crate) struct Total {
 impl Total {
     // With what one more line says.
     fn with_line(self, line: &ReceiptLine) -> Self
-        requires accepted { self.accepted + line.now.accepted ≤ greatest }
-        requires returned { self.returned + line.now.returned ≤ greatest }
-        requires destroyed { self.destroyed + line.now.destroyed ≤ greatest }
+        requires accepted { self.accepted + line.now.accepted < 2 ^ 32 }
+        requires returned { self.returned + line.now.returned < 2 ^ 32 }
+        requires destroyed { self.destroyed + line.now.destroyed < 2 ^ 32 }
         ensures { result ≡ spec.with_line self line.now }
     {
         Total {
@@ -60,7 +58,7 @@ pub(crate) fn totals_of(
     alloc: Global,
     lines: &[ReceiptLine],
 ) -> Result<BTreeMap<Gtin, Total>, MemoryFault>
-    requires { has_sums lines.now ≡ true }
+    requires { spec.RowsHold lines.now }
     ensures { IfOk result (λ totals. (article : List ℕ) →
         get (slice_cmp nat_cmp) totals article ≡ spec.total_from None article lines.now) }
 {

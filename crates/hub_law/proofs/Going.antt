@@ -49,7 +49,7 @@ goes_on t u v one next = record {
   stays = λ gln s known. next.stays gln s (one.stays gln s known);
 }
 
-holds_on : (t after : Tables) → PartiesStay t after → HoldsRegister t → HoldsRegister after
+pub holds_on : (t after : Tables) → PartiesStay t after → HoldsRegister t → HoldsRegister after
 holds_on t after stay holds = record {
   hub = holds.hub;
   one_hub = stay.hubs ∙ holds.one_hub;

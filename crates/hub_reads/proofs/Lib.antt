@@ -2,6 +2,7 @@ pub mod Asking
 pub mod Selecting
 pub mod Finding
 pub mod Looking
+pub mod Causes
 pub mod Numbering
 pub mod Texts
 pub mod Counting

@@ -1,6 +1,6 @@
 -- The number of the schema, from the answer.
 use Rattle.std.proofs.Common.{Vec, ◌≡◌, ◌↔◌, ℕ, pos, Bool, IsTrue, List, [], ◌∷◌, map, filter, codes}
-use Rattle.std.proofs.Common.{◌⊎◌, inl, inr, Ok, Err, refl, sym, ap, subst, ◌∙◌}
+use Rattle.std.proofs.Common.{◌⊎◌, inl, inr, Result, Ok, Err, refl, sym, ap, subst, ◌∙◌}
 use Rattle.std.specs.List.Sorted.{IsPermutation}
 use Rattle.std.specs.declared.alloc.Global.{Global}
 use Rattle.std.proofs.lemmas.List.Sorted.{IsPermutation-map, IsPermutation-sym}
@@ -20,6 +20,7 @@ use Rattle.hub_schema.specs.State.{HasNumber}
 use Rattle.hub_reads.specs.Asks.{OnlyReads, Asks}
 use Rattle.hub_reads.specs.Numbered.{TellsNumber}
 use Rattle.hub_reads.proofs.Asking.{reads_no_commit}
+use Rattle.hub_reads.proofs.Causes.{IsBare, disk_has_cause, one_table}
 use Rattle.hub_reads.proofs.Finding.{all_of, no_limit, passes, Finds, finds}
 use Rattle.hub_reads.proofs.Looking.{SelectsFrom}
 use Rattle.hub_reads.proofs.Selecting.{only_reads}
@@ -37,6 +38,14 @@ number_selects = record { first = refl; plain = (refl, refl); unlisted = refl; i
 old_number_selects : SelectsNumber old_schema
 unfolding understood everything
 old_number_selects = record { first = refl; plain = (refl, refl); unlisted = refl; is = refl }
+
+number_bare : IsBare hub_schema number_text (all_of 0 [] (col 1 1 ∷ []) [])
+unfolding understood everything
+number_bare = record { unnamed = refl; whole = refl; typed = refl; steady = one_table 0 [] (col 1 1 ∷ []) [] }
+
+old_number_bare : IsBare old_schema number_text (all_of 0 [] (col 1 1 ∷ []) [])
+unfolding understood everything
+old_number_bare = record { unnamed = refl; whole = refl; typed = refl; steady = one_table 0 [] (col 1 1 ∷ []) [] }
 
 -- each row passes no test
 pub all_pass : (rows : List Row) → filter (passes [] []) rows ≡ rows
@@ -107,6 +116,7 @@ tells n old new rows is asks one = record {
   same = λ clean. let it = asks.same clean number_reads in
       (it.0, it.1, it.2, asks.kept clean number_reads);
   fault = tt;
+  disk = λ has clean told. absurd cc;
   leaves = λ clean. let left = asks.leaves clean number_reads in record { done = left.done; fault = left.fault };
   mode = asks.mode;
   crash = reads_no_commit number_text [] old new number_reads asks.survives;
@@ -119,7 +129,14 @@ tells_none n old new fault which asks = record {
   number = λ clean has. tt;
   same = λ clean. tt;
   fault = which;
+  disk = λ has clean told. elim has [
+    | inl hub ↦ disk_has_cause number_selects number_bare _ _ old new _ asks clean (λ up. hub) (same_fault told)
+    | inr before ↦ disk_has_cause old_number_selects old_number_bare _ _ old new _ asks clean (λ up. before) (same_fault told)
+  ];
   leaves = λ clean. let left = asks.leaves clean number_reads in record { done = left.done; fault = left.fault };
   mode = asks.mode;
   crash = reads_no_commit number_text [] old new number_reads asks.survives;
 }
+  where
+    same_fault : ◌≡◌ {A = Result Bool StoreFault} (Err fault) (Err Disk) → ◌≡◌ {A = Result (Vec Row Global) StoreFault} (Err fault) (Err Disk)
+    same_fault e = cc

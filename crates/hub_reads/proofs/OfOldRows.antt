@@ -37,6 +37,7 @@ use Rattle.hub_schema.specs.State.{IsOldHub}
 use Rattle.hub_reads.specs.Asks.{Asks}
 use Rattle.hub_reads.specs.Fitting.{registered_in, pallet_fits, orders_fit, lines_fit, advices_fit, pallets_fit, remembered_fit, mail_fits}
 use Rattle.hub_reads.specs.Fitting.{TellsOld}
+use Rattle.hub_reads.proofs.Causes.{IsBare, disk_has_cause, one_table}
 use Rattle.hub_reads.proofs.Finding.{all_of, no_limit, Finds, finds}
 use Rattle.hub_reads.proofs.Listing.{all_clean, clean_all}
 use Rattle.hub_reads.proofs.Looking.{SelectsFrom, looks_among}
@@ -110,18 +111,21 @@ suppliers_in tree = all_of tree [] (col 1 1 ∷ []) []
 module _ {X : Type 0} (cmp : X → X → Ordering) (f : Row → X) (q : X → Bool) (p : Row → Bool) (tree : ℕ) (columns : List Term)
     (says : (row : Row) → p (eval_all columns ([] ∷ row ∷ [])) ≡ q (f row))
     {text : List ℕ} {names : List (List ℕ)} (it : SelectsFrom old_schema text (all_of tree [] columns []) names)
-    (fit : Tables → Bool) (whole : (db : Trees) → overlay db [] tree ≡ db tree)
+    (bare : IsBare old_schema text (all_of tree [] columns [])) (fit : Tables → Bool) (whole : (db : Trees) → overlay db [] tree ≡ db tree)
     (is : (s : State) → list_all q (in_key_order cmp (map f (s.now.trees tree))) ≡ fit (tables_in s.now.trees)) where
   tells_kind : (old new : State) (result : Result Bool StoreFault)
       → Asks (λ rows is. is ≡ list_all p rows) (λ _. ⊥) text [] old new result
       → TellsOld fit old new result
-  tells_kind old new =
-      looks_among (λ s (hub : IsOldHub s). hub.schema) it _ _ _ _ [] old new
-      (λ hub rows answer x told. told
-      ∙ all_shown cmp f columns (old.now.trees tree) rows
-      (finds old.now.trees tree [] columns [] no_limit [] rows (whole old.now.trees) answer) p q says
-      ∙ is old)
-      (λ hub rows answer never. absurd never)
+  tells_kind old new result asks = record {
+    looks =
+        looks_among (λ s (hub : IsOldHub s). hub.schema) it _ _ _ _ [] old new
+        (λ hub rows answer x told. told
+        ∙ all_shown cmp f columns (old.now.trees tree) rows
+        (finds old.now.trees tree [] columns [] no_limit [] rows (whole old.now.trees) answer) p q says
+        ∙ is old)
+        (λ hub rows answer never. absurd never) result asks;
+    disk = disk_has_cause it bare _ _ old new result asks;
+  }
 
 abbrev orders_text : List ℕ
 orders_text = codes "SELECT supplier FROM \"order\""
@@ -130,12 +134,16 @@ orders_select : SelectsFrom old_schema orders_text (suppliers_in 1) supplier_nam
 unfolding understood everything
 orders_select = record { first = refl; plain = (refl, refl); unlisted = refl; is = refl }
 
+orders_bare : IsBare old_schema orders_text (suppliers_in 1)
+unfolding understood everything
+orders_bare = record { unnamed = refl; whole = refl; typed = refl; steady = one_table 1 [] (col 1 1 ∷ []) [] }
+
 pub orders_tell : (register : RegisterRows) (old new : State) (result : Result Bool StoreFault)
     → Asks (λ rows is. is ≡ list_all (registered_in register) rows) (λ _. ⊥) orders_text [] old new result
     → TellsOld (orders_fit register) old new result
 orders_tell register =
     tells_kind order_cmp order_in (λ (row : OrderRow). is_registered register row.supplier) (registered_in register) 1 (col 1 1 ∷ [])
-    (λ row. refl) orders_select (orders_fit register) (λ db. refl) (λ s. refl)
+    (λ row. refl) orders_select orders_bare (orders_fit register) (λ db. refl) (λ s. refl)
 
 abbrev lines_text : List ℕ
 lines_text = codes "SELECT supplier FROM line"
@@ -144,12 +152,16 @@ lines_select : SelectsFrom old_schema lines_text (suppliers_in 3) supplier_name
 unfolding understood everything
 lines_select = record { first = refl; plain = (refl, refl); unlisted = refl; is = refl }
 
+lines_bare : IsBare old_schema lines_text (suppliers_in 3)
+unfolding understood everything
+lines_bare = record { unnamed = refl; whole = refl; typed = refl; steady = one_table 3 [] (col 1 1 ∷ []) [] }
+
 pub lines_tell : (register : RegisterRows) (old new : State) (result : Result Bool StoreFault)
     → Asks (λ rows is. is ≡ list_all (registered_in register) rows) (λ _. ⊥) lines_text [] old new result
     → TellsOld (lines_fit register) old new result
 lines_tell register =
     tells_kind line_cmp line_in (λ (row : LineRow). is_registered register row.supplier) (registered_in register) 3 (col 1 1 ∷ [])
-    (λ row. refl) lines_select (lines_fit register) (λ db. refl) (λ s. refl)
+    (λ row. refl) lines_select lines_bare (lines_fit register) (λ db. refl) (λ s. refl)
 
 abbrev advices_text : List ℕ
 advices_text = codes "SELECT supplier FROM advice"
@@ -158,12 +170,16 @@ advices_select : SelectsFrom old_schema advices_text (suppliers_in 5) supplier_n
 unfolding understood everything
 advices_select = record { first = refl; plain = (refl, refl); unlisted = refl; is = refl }
 
+advices_bare : IsBare old_schema advices_text (suppliers_in 5)
+unfolding understood everything
+advices_bare = record { unnamed = refl; whole = refl; typed = refl; steady = one_table 5 [] (col 1 1 ∷ []) [] }
+
 pub advices_tell : (register : RegisterRows) (old new : State) (result : Result Bool StoreFault)
     → Asks (λ rows is. is ≡ list_all (registered_in register) rows) (λ _. ⊥) advices_text [] old new result
     → TellsOld (advices_fit register) old new result
 advices_tell register =
     tells_kind advice_cmp advice_in (λ (row : AdviceRow). is_registered register row.supplier) (registered_in register) 5 (col 1 1 ∷ [])
-    (λ row. refl) advices_select (advices_fit register) (λ db. refl) (λ s. refl)
+    (λ row. refl) advices_select advices_bare (advices_fit register) (λ db. refl) (λ s. refl)
 
 abbrev pallets_text : List ℕ
 pallets_text = codes "SELECT sscc, supplier FROM pallet"
@@ -172,12 +188,16 @@ pallets_select : SelectsFrom old_schema pallets_text (all_of 7 [] (col 1 1 ∷ c
 unfolding understood everything
 pallets_select = record { first = refl; plain = (refl, refl); unlisted = refl; is = refl }
 
+pallets_bare : IsBare old_schema pallets_text (all_of 7 [] (col 1 1 ∷ col 1 2 ∷ []) [])
+unfolding understood everything
+pallets_bare = record { unnamed = refl; whole = refl; typed = refl; steady = one_table 7 [] (col 1 1 ∷ col 1 2 ∷ []) [] }
+
 pub pallets_tell : (register : RegisterRows) (old new : State) (result : Result Bool StoreFault)
     → Asks (λ rows is. is ≡ list_all (pallet_fits register) rows) (λ _. ⊥) pallets_text [] old new result
     → TellsOld (pallets_fit register) old new result
 pallets_tell register =
     tells_kind pallet_cmp pallet_in (fits_pallet register) (pallet_fits register) 7 (col 1 1 ∷ col 1 2 ∷ [])
-    (λ row. refl) pallets_select (pallets_fit register) (λ db. refl) (λ s. refl)
+    (λ row. refl) pallets_select pallets_bare (pallets_fit register) (λ db. refl) (λ s. refl)
 
 abbrev remembered_text : List ℕ
 remembered_text = codes "SELECT supplier FROM remembered"
@@ -186,12 +206,16 @@ remembered_select : SelectsFrom old_schema remembered_text (suppliers_in 14) sup
 unfolding understood everything
 remembered_select = record { first = refl; plain = (refl, refl); unlisted = refl; is = refl }
 
+remembered_bare : IsBare old_schema remembered_text (suppliers_in 14)
+unfolding understood everything
+remembered_bare = record { unnamed = refl; whole = refl; typed = refl; steady = one_table 14 [] (col 1 1 ∷ []) [] }
+
 pub remembered_tell : (register : RegisterRows) (old new : State) (result : Result Bool StoreFault)
     → Asks (λ rows is. is ≡ list_all (registered_in register) rows) (λ _. ⊥) remembered_text [] old new result
     → TellsOld (remembered_fit register) old new result
 remembered_tell register =
     tells_kind remembered_cmp remembered_in (λ (row : RememberedRow). is_registered register row.supplier) (registered_in register) 14
-    (col 1 1 ∷ []) (λ row. refl) remembered_select (remembered_fit register) (λ db. refl) (λ s. refl)
+    (col 1 1 ∷ []) (λ row. refl) remembered_select remembered_bare (remembered_fit register) (λ db. refl) (λ s. refl)
 
 abbrev mail_text : List ℕ
 mail_text = codes "SELECT supplier FROM mail"
@@ -200,9 +224,13 @@ mail_select : SelectsFrom old_schema mail_text (suppliers_in 16) supplier_name
 unfolding understood everything
 mail_select = record { first = refl; plain = (refl, refl); unlisted = refl; is = refl }
 
+mail_bare : IsBare old_schema mail_text (suppliers_in 16)
+unfolding understood everything
+mail_bare = record { unnamed = refl; whole = refl; typed = refl; steady = one_table 16 [] (col 1 1 ∷ []) [] }
+
 pub mail_tells : (register : RegisterRows) (old new : State) (result : Result Bool StoreFault)
     → Asks (λ rows is. is ≡ list_all (registered_in register) rows) (λ _. ⊥) mail_text [] old new result
     → TellsOld (mail_fits register) old new result
 mail_tells register =
     tells_kind mail_cmp mail_in (λ (row : MailRow). is_registered register row.supplier) (registered_in register) 16 (col 1 1 ∷ [])
-    (λ row. refl) mail_select (mail_fits register) (λ db. refl) (λ s. refl)
+    (λ row. refl) mail_select mail_bare (mail_fits register) (λ db. refl) (λ s. refl)

@@ -1,5 +1,6 @@
 -- What asking a connection by one text does.
-use Rattle.std.specs.Prelude.{◌≡◌, ℕ, false, IsTrue, List, Result, Ok, Err, None, IfOk, OnOk}
+use Rattle.std.specs.Prelude.{◌≡◌, ◌⊎◌, ℕ, false, IsTrue, IsSome, List, Result, Ok, Err, None, IfOk, OnOk}
+use Rattle.sqlite_disk.specs.Disk.{MoreFaults}
 use Rattle.sqlite_value.specs.Order.{Row}
 use Rattle.sqlite_schema.specs.declared.schema.Schema.{Schema}
 use Rattle.sqlite_resolve.specs.declared.compiled.Compiled.{Compiled}
@@ -32,3 +33,12 @@ pub record Asks {X : Type 0} (Reads : List Row → X → Type 0) (Spoil : List R
   pub leaves : HasCleanDisk new → OnlyReads text → Spares old new result
   pub mode : old.in_transaction ≡ false → new.in_transaction ≡ false
   pub survives : Survives old new (CommitsShowing text params old)
+
+-- the disk has failed or refused meanwhile, the connection was shut, or the steps of its queries are limited
+abbrev pub HasDiskCause : State → State → Type 0
+HasDiskCause old new = MoreFaults old.faults new.faults ⊎ ((old.is_open ≡ false) ⊎ IsSome old.step_limit)
+
+-- in tables of this schema a fault of the disk has a cause
+abbrev pub DiskHasCause : {X : Type 0} → Schema → State → State → Result X StoreFault → Type 0
+DiskHasCause schema old new result =
+    HasCleanDisk new → (IsTrue old.is_open → old.now.schema ≡ schema) → result ≡ Err Disk → HasDiskCause old new

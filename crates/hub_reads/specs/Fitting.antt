@@ -8,7 +8,9 @@ use Rattle.hub_tables.specs.Tables.{Tables}
 use Rattle.hub_founding.specs.Fits.{is_registered, is_under, fits_pallet}
 use Rattle.hub_store.specs.declared.fault.StoreFault.{StoreFault}
 use Rattle.hub_schema.specs.Cells.{bytes_in}
+use Rattle.hub_schema.specs.Schema.{old_schema}
 use Rattle.hub_schema.specs.State.{LooksForOld, Never}
+use Rattle.hub_reads.specs.Asks.{DiskHasCause}
 
 -- what a query shows: the supplier of a row, or the SSCC and the supplier of a pallet
 abbrev pub registered_in : RegisterRows → Row → Bool
@@ -49,6 +51,7 @@ from_advices register t = advices_fit register t && from_pallets register t
 abbrev pub from_lines : RegisterRows → Tables → Bool
 from_lines register t = lines_fit register t && from_advices register t
 
--- a look-up in schema 1 that tells this, and is never `Unclean`
-abbrev pub TellsOld : (Tables → Bool) → State → State → Result Bool StoreFault → Type 0
-TellsOld fit = LooksForOld (λ t is. is ≡ fit t) Never
+-- a look-up in schema 1 that tells this, is never `Unclean`, and fails of the disk only with a cause
+pub record TellsOld (fit : Tables → Bool) (old new : State) (result : Result Bool StoreFault) : Type 0 where
+  pub looks : LooksForOld (λ t is. is ≡ fit t) Never old new result
+  pub disk : DiskHasCause old_schema old new result

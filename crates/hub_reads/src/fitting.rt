@@ -7,7 +7,7 @@ ghost use Rattle.gs1_ids.specs.Sscc.{under_some};
 ghost use Rattle.hub_founding.specs.Fits as founding;
 ghost use Rattle.hub_parties.specs.Rows.{row_of};
 ghost use Rattle.hub_schema.specs.Cells.{bytes_in};
-ghost use Rattle.hub_schema.specs.State.{LooksForOld, Never};
+ghost use Rattle.hub_schema.specs.State.{Never};
 ghost use Rattle.hub_reads.specs.Asks.{Asks};
 ghost use Rattle.hub_reads.specs.Fitting as spec;
 
@@ -169,8 +169,8 @@ fn from_pallets<S: Alter>(conn: &mut Connection<S>, register: &Register) -> Resu
 /// Whether the register fits to the rows of schema 1: each supplier of a row is registered, and each pallet's SSCC is under
 /// one of its company prefixes. Cells that are no GLN or no SSCC fit to no register.
 pub fn fits<S: Alter>(conn: &mut Connection<S>, register: &Register) -> Result<bool, StoreFault>
-    ensures looks { LooksForOld (λ t is. is ≡ founding.fits register.now t)
-        Never (state S.Store conn.old) (state S.Store conn.new) result }
+    ensures looks { spec.TellsOld (founding.fits register.now)
+        (state S.Store conn.old) (state S.Store conn.new) result }
     ensures fails { IfErr result (λ fault. (fault ≡ StoreFault.Memory) ⊎ (fault ≡ StoreFault.Disk)) }
 {
     let orders = orders_fit(conn, register)?;

@@ -163,7 +163,7 @@ module _ (hub retailer key : List ℕ) (suppliers : List SupplierRow) (row : Sup
   }
 
 -- The rows of the parties alone are others.
-kept_beside : (t after : Tables) → OnlyParties t after → (gln : List ℕ) → Kept (view gln t) → Kept (view gln after)
+pub kept_beside : (t after : Tables) → OnlyParties t after → (gln : List ℕ) → Kept (view gln t) → Kept (view gln after)
 kept_beside t after only gln kept =
     subst (λ u. Kept (view gln u)) (sym only)
     (kept_others (view gln t) kept refl kept.advices kept.remembered kept.mail)

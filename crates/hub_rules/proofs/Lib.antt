@@ -6,6 +6,7 @@ pub mod Fitting
 pub mod GoodRows
 mod JoinExamples
 pub mod Joining
+pub mod Migrating
 pub mod Keeping
 pub mod KeptByCancels
 pub mod KeptByDespatches

@@ -1,5 +1,5 @@
 //! Laws of the rules, each the contract of a function without a body.
-ghost use Rattle.std.specs.Prelude.{◌≡◌, ℕ, Bool, true, false, List, map, Some};
+ghost use Rattle.std.specs.Prelude.{◌≡◌, ℕ, Bool, true, false, List, [], map, Some};
 ghost use Rattle.edi_base.specs.Seen.{has_number_twice};
 ghost use Rattle.gs1_ids.specs.Sscc.{under_some};
 ghost use Rattle.gs1_ids.specs.Overlap.{PrefixFree};
@@ -7,6 +7,7 @@ ghost use Rattle.edi_orders.specs.declared.order.Order.{Order};
 ghost use Rattle.edi_orders.specs.declared.response.Response.{Response};
 ghost use Rattle.edi_goods.specs.declared.despatch.Despatch.{Despatch};
 ghost use Rattle.edi_goods.specs.declared.receipt.Receipt.{Receipt};
+ghost use Rattle.hub_founding.specs.Fits.{fits, founded_beside};
 ghost use Rattle.hub_parties.specs.Rows.{RegisterRows, IsRegister, company_prefixes, supplier_row};
 ghost use Rattle.hub_parties.specs.declared.row.SupplierRow.{SupplierRow};
 ghost use Rattle.hub_tables.specs.Change.{apply_all};
@@ -20,7 +21,7 @@ ghost use Rattle.hub_rules.specs.Laws.{KeptOwn, SoundHub, Registered, PartiesRis
 ghost use Rattle.hub_rules.specs.PartyRules.{is_other_buyer};
 ghost use Rattle.hub_rules.specs.Rules.{referred_by, cancelled_by, judge_order, judge_response, judge_despatch};
 ghost use Rattle.hub_rules.specs.Rules.{judge_receipt, judge_cancel};
-ghost use Rattle.hub_rules.specs.Sound.{Rooted};
+ghost use Rattle.hub_rules.specs.Sound.{Rooted, Sound};
 ghost use Rattle.hub_rules.specs.declared.cancel.Cancel.{Cancel};
 ghost use Rattle.hub_rules.specs.declared.incoming.IncomingMessage.{IncomingMessage};
 ghost use Rattle.hub_rules.specs.declared.verdict.Verdict.TheVariants.{Accept};
@@ -135,6 +136,14 @@ pub fn joins_keep_suppliers_apart()
 /// Tables with the rows of a register alone are sound.
 pub fn founded_tables_are_sound()
     ensures { (register : RegisterRows) → IsRegister register → SoundHub (founded register) }
+{}
+
+/// Rows of schema 1 that are sound for some suppliers are a sound start once a register is founded beside them that fits to
+/// them: what the premise of the hub asks is there after a migration.
+pub fn migrated_tables_are_sound()
+    ensures { (register : RegisterRows) (suppliers : List SupplierRow) (t : Tables) → IsRegister register →
+        t.hubs ≡ [] → t.keys ≡ [] → t.prefixes ≡ [] → Sound suppliers t → fits register t ≡ true →
+        SoundHub (founded_beside t register) }
 {}
 
 /// What the rules accept with changes is remembered, by the first of these. They accept without any change exactly what

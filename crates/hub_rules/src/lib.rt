@@ -15,7 +15,7 @@ pub use incoming::IncomingMessage;
 pub use join::Join;
 pub use laws::{
     accepted_changes_fit, accepted_is_remembered, empty_tables_are_rooted,
-    founded_tables_are_sound, joins_keep_suppliers_apart, pallet_is_its_prefixes_suppliers,
-    rules_keep_rows, rules_keep_suppliers_apart,
+    founded_tables_are_sound, joins_keep_suppliers_apart, migrated_tables_are_sound,
+    pallet_is_its_prefixes_suppliers, rules_keep_rows, rules_keep_suppliers_apart,
 };
 pub use verdict::Verdict;

@@ -1,5 +1,5 @@
 -- What the code's definitions of tables say.
-use Rattle.std.specs.Prelude.{◌≡◌, ℕ, suc, ◌+◌, true, if◌then◌else◌, List, [], ◌∷◌, ◌++◌, map, ⊤}
+use Rattle.std.specs.Prelude.{◌≡◌, ℕ, suc, ◌+◌, true, if◌then◌else◌, List, [], ◌∷◌, ◌++◌, length, map, ⊤}
 use Rattle.std.specs.Borrow.{Bor}
 use Rattle.std.specs.Str.{bytes_eq}
 use Rattle.sqlite.specs.Table.{Table}
@@ -47,6 +47,11 @@ defined_at tree d =
 abbrev pub numbered : ℕ → List Definition → List Table
 numbered tree [] = []
 numbered tree (d ∷ definitions) = defined_at tree d ∷ numbered (next_to (defined_at tree d)) definitions
+
+-- how many numbers the tables and their keys take
+abbrev pub trees_of : List Definition → ℕ
+trees_of [] = 0
+trees_of (d ∷ definitions) = 1 + length d.keys.now + trees_of definitions
 
 -- the index of a key of a table
 abbrev pub index_of : ℕ → ℕ → List Column → Key → Index

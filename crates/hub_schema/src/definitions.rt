@@ -1,6 +1,6 @@
 //! The definitions of the tables: from them tables are made, and a schema is compared with them.
-ghost use Rattle.std.specs.Prelude.{◌≡◌, []};
-ghost use Rattle.hub_schema.specs.Definitions.{Make, all_indexes, numbered};
+ghost use Rattle.std.specs.Prelude.{◌≡◌, ◌<◌, ◌^◌, []};
+ghost use Rattle.hub_schema.specs.Definitions.{Make, all_indexes, numbered, trees_of};
 ghost use Rattle.hub_schema.specs.Schema.{hub_tables, indexes_of, party_tables, traffic_tables};
 
 use sqlite_schema::schema::Kind;
@@ -157,6 +157,7 @@ pub(crate) fn all() -> &'static [Definition]
     ensures tables { numbered 0 result.now ≡ hub_tables }
     ensures indexes { all_indexes hub_tables result.now ≡ indexes_of hub_tables }
     ensures texts { Make [] result.now hub_tables }
+    ensures trees { trees_of result.now < 2 ^ 32 }
 {
     &TABLES
 }
@@ -165,6 +166,7 @@ pub(crate) fn all() -> &'static [Definition]
 pub(crate) fn traffic() -> &'static [Definition]
     ensures tables { numbered 0 result.now ≡ traffic_tables }
     ensures indexes { all_indexes traffic_tables result.now ≡ indexes_of traffic_tables }
+    ensures trees { trees_of result.now < 2 ^ 32 }
 {
     &TABLES[..TRAFFIC]
 }

@@ -2,3 +2,4 @@ mod Endings
 mod Passing
 mod Running
 mod SoFar
+mod Using

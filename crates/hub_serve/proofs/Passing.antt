@@ -1,14 +1,11 @@
 -- Connections that pass: what of those that come is taken, and what is added to those that were ended.
 use Rattle.std.proofs.Common.{◌≡◌, ◌||◌, Bool, true, false, IsTrue, List, [], ◌∷◌, ◌++◌, Option, Some, None, refl, sym}
 use Rattle.std.proofs.Common.{ap, ◌∙◌, append_assoc}
-use Rattle.std.specs.Option.{unwrap_or}
 use Rattle.std.proofs.lemmas.Grind.{flat_map-append}
 use Rattle.std.proofs.lemmas.List.{append-nil, map-append}
+use Rattle.hub_serve.proofs.Using.{adds_then, some_is}
 use Rattle.hub_serve.specs.Connections.{Adds, Closed, Known, TakesFirst}
 use Rattle.hub_serve.specs.Serve.{AreFirst, Connection, Passes, ends_in, listed, moments_in, sent_in}
-
-some_is : {A : Type 0} {x y : List A} → Some x ≡ Some y → x ≡ y
-some_is {A} {x} {y} e = ap (λ (o : Option (List A)). unwrap_or o x) e
 
 pub takes_none : {A : Type 0} (known rest : Option (List A)) → rest ≡ known → TakesFirst known rest []
 takes_none None rest e = tt
@@ -45,13 +42,6 @@ pub adds_none : (old new : Option (List Closed)) → new ≡ old → Adds old ne
 adds_none None new e = tt
 adds_none (Some all) new e = e ∙ ap (λ (l : List Closed). Some l) (sym (append-nil all))
 
-adds_both : (old between new : Option (List Closed)) (xs ys : List Closed) → Adds old between xs → Adds between new ys
-    → Adds old new (xs ++ ys)
-adds_both None between new xs ys first second = tt
-adds_both (Some all) None new xs ys first second = absurd cc
-adds_both (Some all) (Some more) new xs ys first second =
-    second ∙ ap (λ (l : List Closed). Some (l ++ ys)) (some_is first) ∙ ap (λ (l : List Closed). Some l) (append_assoc all xs ys)
-
 -- those that were ended stay
 pub adds_still : (old between new : Option (List Closed)) (xs : List Closed) → Adds old between xs → new ≡ between → Adds old new xs
 adds_still None between new xs adds e = tt
@@ -77,5 +67,5 @@ passes_more old between new served one first second = record {
       (takes_both old.moments between.moments new.moments (moments_in served) (moments_in (one ∷ [])) first.moments second.moments);
   closed =
       rw (flat_map-append (λ (c : Connection). listed c.closed) served (one ∷ []))
-      (adds_both old.closed between.closed new.closed (ends_in served) (ends_in (one ∷ [])) first.closed second.closed);
+      (adds_then old.closed between.closed new.closed (ends_in served) (ends_in (one ∷ [])) first.closed second.closed);
 }

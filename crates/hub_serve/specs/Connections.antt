@@ -53,8 +53,8 @@ closed left sent read_failed write_failed ending =
     record { left = left; sent = sent; read_failed = read_failed; write_failed = write_failed; ending = ending }
 
 -- where it is known how connections ended, these did after the others
-abbrev pub Adds : Option (List Closed) → Option (List Closed) → List Closed → Type 0
-Adds old new last = IfSome old (λ all. new ≡ Some (all ++ last))
+abbrev pub Adds : {A : Type 0} → Option (List A) → Option (List A) → List A → Type 0
+Adds {A} old new last = IfSome old (λ all. new ≡ Some (all ++ last))
 
 -- what is known of connections: which still come, how those that were ended did, and the moments of those that come
 pub record Known : Type 0 where

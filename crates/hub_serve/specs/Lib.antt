@@ -1,7 +1,9 @@
 pub mod Connections
 pub mod Line
 pub mod Listening
+pub mod Moments
 pub mod One
 pub mod Output
 pub mod Serve
 pub mod Timed
+pub mod Uses

@@ -1,9 +1,19 @@
--- The two sides of a connection from the network.
-use Rattle.std.specs.Prelude.{◌≡◌, ℕ, Bool, false, None}
+-- Connections from the network: how they are taken from a listener, timed, and closed.
+use Rattle.std.specs.Prelude.{◌≡◌, ◌⊎◌, ℕ, Bool, false, [], ◌∷◌, Some, None, IfSome, Result, Ok, Err}
 use Rattle.std.specs.Duration.{as_nanos}
-use Rattle.hub_serve.specs.Timed.{HasBegun, Time}
+use Rattle.std.specs.Time.{instant_nanos}
+use Rattle.std.specs.declared.io.ErrorKind.{ErrorKind}
+use Rattle.std.specs.declared.io.ErrorKind.TheVariants.{ConnectionAborted, ConnectionReset}
+use Rattle.std.specs.declared.time.Instant.{Instant}
+use Rattle.hub_serve.specs.Connections.{Adds}
+use Rattle.hub_serve.specs.Timed.{HasBegun, Lingers, Time}
+use Rattle.hub_serve.specs.Uses.{Deeds, Uses, came, closed, failed, told}
+use Rattle.hub_serve.specs.declared.connections.NoConnection.{NoConnection}
+use Rattle.hub_serve.specs.declared.connections.NoConnection.TheVariants.{Gone, Over}
+use Rattle.hub_serve.specs.declared.line.Ending.{Ending}
+use Rattle.hub_serve.specs.declared.line.Ending.TheVariants.{Answered}
 
--- a side: its stream, its time, and whether a read or a write has failed
+-- a side: its socket, its time, and whether a read or a write has failed
 abbrev pub Side : Type 0 → Type 0
 Side T = (T × Time) × Bool
 
@@ -16,3 +26,33 @@ pub record AtBegin {T : Type 0} (nanos : ℕ) (reader writer : Side T) : Type 0 
   pub writer_waits : writer.0.1.0 ≡ None
   pub read : reader.1 ≡ false
   pub write : writer.1 ≡ false
+
+-- the time of a side runs from what its clock told, and nothing else was done with its socket
+pub record BeginsNow {T : Type 0} (uses : T → Uses) (side : Side T) : Type 0 where
+  pub begun : Instant
+  pub begun_is : side.0.1.0 ≡ Some begun
+  pub asked : IfSome (uses side.0.0) (λ all. all ≡ told (instant_nanos begun) ∷ [])
+
+-- what an error of `accept` means: one client disconnected before it was taken, or no more can be taken
+abbrev pub no_connection : ErrorKind → NoConnection
+no_connection ConnectionAborted = Gone
+no_connection ConnectionReset = Gone
+no_connection _ = Over
+
+-- A connection came; or none, and the error says whether others may come; or one that had to be closed at once.
+abbrev pub Accepts : {S : Type 0} → Deeds → Deeds → Result S NoConnection → Type 0
+Accepts before after (Ok sides) = Adds before after (came ∷ [])
+Accepts before after (Err none) =
+    ((kind : ErrorKind) × (none ≡ no_connection kind) × Adds before after (failed kind ∷ []))
+    ⊎ ((uses : Uses) × (none ≡ Gone) × Adds before after (came ∷ closed uses ∷ []))
+
+-- a socket lingers for a second after an answer, and else stays as it is
+abbrev pub LingersAfter : Ending → Uses → Uses → Type 0
+LingersAfter (Answered status) before after = Lingers 1_000_000_000 before after
+LingersAfter _ before after = after ≡ before
+
+-- both sockets of a connection were closed
+pub record Closes (ending : Ending) (reader writer : Uses) (before after : Deeds) : Type 0 where
+  pub last : Uses
+  pub lingered : LingersAfter ending reader last
+  pub both : Adds before after (closed writer ∷ closed last ∷ [])

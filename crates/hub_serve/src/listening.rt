@@ -1,18 +1,24 @@
 //! Connections over the network.
-ghost use Rattle.std.specs.Prelude.{◌≡◌, ◌⊎◌, ◌↔◌, false, IfOk, IsTrue};
+ghost use Rattle.std.specs.Prelude.{◌≡◌, ◌∷◌, [], false, IfOk, Some, None};
+ghost use Rattle.std.specs.Duration.{as_nanos};
 ghost use Rattle.std.specs.IoError.{error_kind};
-ghost use Rattle.hub_serve.specs.Listening.{AtBegin};
+ghost use Rattle.std.specs.Time.{instant_nanos};
+ghost use Rattle.edi_base.specs.Source.{TakesAtMost};
+ghost use Rattle.hub_serve.specs.Connections.{Adds};
+ghost use Rattle.hub_serve.specs.Listening as spec;
+ghost use Rattle.hub_serve.specs.Listening.{AtBegin, LingersAfter};
+ghost use Rattle.hub_serve.specs.Timed.{Lingers, ReadsOn};
+ghost use Rattle.hub_serve.specs.Uses.{told};
 
 use crate::connections::{Connections, NoConnection, Sides};
 use crate::line::Ending;
+use crate::sockets::{Listener, NetListener, Socket};
 use crate::timed::Timed;
 use edi_base::{OfRead, OfWrite};
 use std::io;
-use std::io::{ErrorKind, Read, Write};
+use std::io::{ErrorKind, Read};
 use std::marker::Model;
-use std::net::{
-    Ipv4Addr, Net, OpenListener, OpenStream, Shutdown, SocketAddr, SocketAddrV4, TcpListener,
-};
+use std::net::{Ipv4Addr, Net, SocketAddr, SocketAddrV4, TcpListener};
 use std::time::{Clock, Duration, Instant};
 
 /// How many seconds a client has to send its request, and as many again to take the response.
@@ -31,13 +37,12 @@ const PIECE: usize = 4096;
 /// when it was taken, and 10 seconds to take the response, from when that is begun to be written. What the hub does in
 /// between is not its time.
 #[derive(Drop)]
-pub struct Listening<'c, C, L> {
-    clock: &'c C,
+pub struct Listening<L> {
     listener: L,
     failed: bool,
 }
 
-impl<'c, C, L> Model for Listening<'c, C, L> {
+impl<L> Model for Listening<L> {
     ghost use Rattle.std.specs.Prelude.{Bool};
 
     ghost Value = { L × Bool };
@@ -45,21 +50,20 @@ impl<'c, C, L> Model for Listening<'c, C, L> {
     ghost view = { λ l. (l.listener, l.failed) };
 }
 
-impl<'c, N: Net + Clock> Listening<'c, N, N::Listener> {
+impl<'c, N: Net + Clock> Listening<NetListener<'c, N, N::Listener>> {
     /// Listens on a port of 127.0.0.1.
     pub fn on(net: &'c N, port: u16) -> io::Result<Self>
         ensures { IfOk result (λ listening. listening.1 ≡ false) }
     {
         let address = SocketAddr::V4(SocketAddrV4::new(Ipv4Addr::new(127, 0, 0, 1), port));
         Ok(Listening {
-            clock: net,
-            listener: TcpListener::bind(net, address)?,
+            listener: NetListener::of(net, TcpListener::bind(net, address)?),
             failed: false,
         })
     }
 }
 
-impl<'c, C, L> Listening<'c, C, L> {
+impl<L> Listening<L> {
     /// Whether connections ended because no more could be taken.
     pub fn has_failed(&self) -> bool
         ensures { result ≡ self.now.1 }
@@ -68,87 +72,130 @@ impl<'c, C, L> Listening<'c, C, L> {
     }
 }
 
-// Whether an error of `accept` speaks of the one connection alone, whose client went away before it was taken.
-fn is_gone(error: &io::Error) -> bool
-    ensures { IsTrue result ↔ ((error_kind error.now ≡ ErrorKind.ConnectionAborted)
-        ⊎ (error_kind error.now ≡ ErrorKind.ConnectionReset)) }
+// Tells an error of `accept` that concerns one client, which disconnected, from one after which none can be taken.
+fn no_connection(error: &io::Error) -> NoConnection
+    ensures { result ≡ spec.no_connection (error_kind error.now) }
 {
-    matches!(
-        error.kind(),
-        ErrorKind::ConnectionAborted | ErrorKind::ConnectionReset
-    )
+    match error.kind() {
+        ErrorKind::ConnectionAborted | ErrorKind::ConnectionReset => NoConnection::Gone,
+        _ => NoConnection::Over,
+    }
 }
 
-// The two sides of a connection whose client begins to send now.
-fn sides_of<'c, C: Clock, T: OpenStream + Read + Write + Drop>(
-    clock: &'c C,
-    stream: T,
-) -> io::Result<Sides<OfRead<Timed<'c, C, T>>, OfWrite<Timed<'c, C, T>>>>
-    ensures { IfOk result (λ sides. AtBegin 10_000_000_000 sides.reader sides.writer) }
+// Asks the clock when the client begins to send, and opens a second socket to write to.
+fn begin<T: Socket>(socket: &mut T) -> io::Result<(Instant, T)>
+    ensures told { IfOk result (λ begun.
+        Adds (T.uses socket.old) (T.uses socket.new) (told (instant_nanos begun.0) ∷ [])) }
+    ensures unknown { T.uses socket.old ≡ None → T.uses socket.new ≡ None }
 {
-    let begun = Instant::now(clock)?;
+    let begun = socket.instant()?;
+    let second = socket.second()?;
+    Ok((begun, second))
+}
+
+// Makes the two sides of a connection whose client begins to send at this moment.
+fn sides_of<T: Socket>(
+    socket: T,
+    second: T,
+    begun: Instant,
+) -> Sides<OfRead<Timed<T>>, OfWrite<Timed<T>>>
+    ensures begin { AtBegin 10_000_000_000 result.reader result.writer }
+    ensures reader { result.reader.0.0 ≡ socket }
+    ensures begun { result.reader.0.1.0 ≡ Some begun }
+{
     let whole = Duration::from_secs(WHOLE);
-    let other = stream.try_clone()?;
-    Ok(Sides {
-        reader: OfRead::new(Timed::since(clock, stream, begun, whole)),
-        writer: OfWrite::new(Timed::from_first_use(clock, other, whole)),
-    })
+    Sides {
+        reader: OfRead::new(Timed::since(socket, begun, whole)),
+        writer: OfWrite::new(Timed::from_first_use(second, whole)),
+    }
 }
 
-// Says that nothing more is sent, and reads on until the client ends or a limit is met.
-fn linger<C: Clock, T: OpenStream + Read + Drop>(clock: &C, stream: T) -> io::Result<()> {
-    stream.shutdown(Shutdown::Write)?;
-    let whole = Duration::from_secs(LINGER);
-    let mut timed = Timed::from_first_use(clock, stream, whole);
+// Reads and drops what comes until the client ends, or so many bytes came, or the time is over, which begins with the
+// first read.
+fn read_away<T: Socket>(timed: &mut Timed<T>, limit: usize) -> io::Result<()>
+    requires { timed.old.1.0 ≡ None }
+    ensures bytes { TakesAtMost (T.remaining timed.old.0) (T.remaining timed.new.0) limit }
+    ensures reads { ReadsOn (as_nanos timed.old.1.1) [] (T.uses timed.old.0) (T.uses timed.new.0) }
+{
     let mut piece = [0u8; PIECE];
-    let mut left = LINGER_BYTES;
+    let mut left = limit;
     while left > 0 {
-        let count = timed.read(&mut piece)?;
+        let count = timed.read(&mut piece[..left.min(PIECE)])?;
         if count == 0 {
             return Ok(());
         }
-        left = left.saturating_sub(count);
+        left -= count;
     }
     Ok(())
 }
 
-impl<'c, C: Clock, L: OpenListener> Connections for Listening<'c, C, L>
-where
-    L::Stream: OpenStream + Read + Write,
+// Says that nothing more is sent, and reads on until the client ends or a limit is met.
+fn linger<T: Socket>(mut socket: T) -> T
+    ensures bytes { TakesAtMost (T.remaining socket) (T.remaining result) 1_048_576 }
+    ensures uses { Lingers 1_000_000_000 (T.uses socket) (T.uses result) }
 {
+    if socket.end_sending().is_err() {
+        return socket;
+    }
+    let mut timed = Timed::from_first_use(socket, Duration::from_secs(LINGER));
+    let _ = read_away(&mut timed, LINGER_BYTES);
+    timed.into_inner()
+}
+
+// Reads on if a response was written. Gives back the socket, to be closed.
+fn last_of<T: Socket>(socket: T, ending: Ending) -> T
+    ensures { LingersAfter ending (T.uses socket) (T.uses result) }
+{
+    match ending {
+        Ending::Answered(_) => linger(socket),
+        Ending::Gone | Ending::ReadFailed | Ending::WriteFailed => socket,
+    }
+}
+
+impl<L: Listener> Connections for Listening<L> {
     ghost use Rattle.std.specs.Prelude.{◌≡◌, ◌||◌, None, IfOk};
     ghost use Rattle.hub_serve.specs.Connections.{IsNew, Takes, is_over};
-    ghost use Rattle.hub_serve.specs.Listening.{AtBegin};
+    ghost use Rattle.hub_serve.specs.Listening.{Accepts, AtBegin, BeginsNow, Closes};
 
     ghost failed = { λ l. l.1 };
 
-    type Reader = OfRead<Timed<'c, C, L::Stream>>;
+    type Reader = OfRead<Timed<L::Socket>>;
 
-    type Writer = OfWrite<Timed<'c, C, L::Stream>>;
+    type Writer = OfWrite<Timed<L::Socket>>;
 
     fn next(&mut self) -> Result<Sides<Self::Reader, Self::Writer>, NoConnection>
-        ensures takes { Takes (λ reader. L.Stream.remaining reader.0.0) None None result }
+        ensures takes { Takes (λ reader. L.Socket.remaining reader.0.0) None None result }
         ensures is_new { IfOk result (λ sides. IsNew None sides.reader.1 sides.writer.1) }
         ensures begins { IfOk result (λ sides. AtBegin 10_000_000_000 sides.reader sides.writer) }
-        ensures listener { self.new.0 ≡ self.old.0 }
+        ensures begins_now { IfOk result (λ sides. BeginsNow L.Socket.uses sides.reader) }
+        ensures accepts { Accepts (L.deeds self.old.0) (L.deeds self.new.0) result }
         ensures flag { self.new.1 ≡ (self.old.1 || is_over result) }
     {
-        match self.listener.accept() {
-            Ok((stream, _)) => sides_of(self.clock, stream).map_err(|_| NoConnection::Gone),
-            Err(error) if is_gone(&error) => Err(NoConnection::Gone),
+        let mut socket = match self.listener.accept() {
+            Ok(socket) => socket,
+            Err(error) => {
+                let none = no_connection(&error);
+                self.failed = self.failed || none == NoConnection::Over;
+                return Err(none);
+            }
+        };
+        match begin(&mut socket) {
+            Ok((begun, second)) => Ok(sides_of(socket, second, begun)),
             Err(_) => {
-                self.failed = true;
-                Err(NoConnection::Over)
+                self.listener.close(socket);
+                Err(NoConnection::Gone)
             }
         }
     }
 
     fn end(&mut self, sides: Sides<Self::Reader, Self::Writer>, ending: Ending)
-        ensures same { self.new ≡ self.old }
+        ensures failed { self.new.1 ≡ self.old.1 }
+        ensures closes { Closes ending (L.Socket.uses sides.reader.0.0) (L.Socket.uses sides.writer.0.0)
+            (L.deeds self.old.0) (L.deeds self.new.0) }
     {
-        let Sides { reader, writer: _ } = sides;
-        if let Ending::Answered(_) = ending {
-            let _ = linger(self.clock, reader.into_inner().into_inner());
-        }
+        let Sides { reader, writer } = sides;
+        self.listener.close(writer.into_inner().into_inner());
+        let last = last_of(reader.into_inner().into_inner(), ending);
+        self.listener.close(last);
     }
 }

@@ -1,82 +1,84 @@
 //! A side of a connection that takes so long as a whole, and no longer.
-ghost use Rattle.std.specs.Prelude.{◌≡◌, ◌<◌, ◌≤◌, IfOk, Some, None};
+ghost use Rattle.std.specs.Prelude.{◌≡◌, IfOk, OnErr, Some, None};
 ghost use Rattle.std.specs.Duration.{as_nanos};
-ghost use Rattle.hub_serve.specs.Timed.{GoesOn, HasBegun};
+ghost use Rattle.hub_serve.specs.Timed.{AsksOnly, GoesOn, IsLeft};
 
+use crate::sockets::Socket;
 use std::io;
 use std::io::{Error, ErrorKind, Read, Write};
 use std::marker::Model;
-use std::net::OpenStream;
-use std::time::{Clock, Duration, Instant};
+use std::time::{Duration, Instant};
 
 /// One side of a connection, whose reads and writes fail once so much time has passed since it began: no call waits
 /// longer than to that moment. So a client that sends or takes nothing, or a byte now and then, is cut off. A side
 /// begins with the connection, or with its own first read or write.
 #[derive(Drop)]
-pub struct Timed<'c, C, T> {
-    clock: &'c C,
-    stream: T,
+pub struct Timed<T> {
+    socket: T,
     begun: Option<Instant>,
     whole: Duration,
 }
 
-impl<'c, C, T> Model for Timed<'c, C, T> {
+impl<T> Model for Timed<T> {
     ghost use Rattle.std.specs.Prelude.{Option};
     ghost use Rattle.std.specs.declared.time.Duration.{Duration};
     ghost use Rattle.std.specs.declared.time.Instant.{Instant};
 
     ghost Value = { T × (Option Instant × Duration) };
 
-    ghost view = { λ t. (t.stream, (t.begun, t.whole)) };
+    ghost view = { λ t. (t.socket, (t.begun, t.whole)) };
 }
 
-impl<'c, C: Clock, T> Timed<'c, C, T> {
-    /// A side of this stream, which began at a moment of this clock, and lasts so long.
-    pub fn since(clock: &'c C, stream: T, begun: Instant, whole: Duration) -> Self
-        ensures { result ≡ (stream, (Some begun, whole)) }
+impl<T: Socket> Timed<T> {
+    /// A side of this socket, which began at a moment of its clock, and lasts so long.
+    pub fn since(socket: T, begun: Instant, whole: Duration) -> Self
+        ensures { result ≡ (socket, (Some begun, whole)) }
     {
         Timed {
-            clock,
-            stream,
+            socket,
             begun: Some(begun),
             whole,
         }
     }
 
-    /// A side of this stream, which begins with its first read or write, and lasts so long.
-    pub fn from_first_use(clock: &'c C, stream: T, whole: Duration) -> Self
-        ensures { result ≡ (stream, (None, whole)) }
+    /// A side of this socket, which begins with its first read or write, and lasts so long.
+    pub fn from_first_use(socket: T, whole: Duration) -> Self
+        ensures { result ≡ (socket, (None, whole)) }
     {
+        let begun = None;
         Timed {
-            clock,
-            stream,
-            begun: None,
+            socket,
+            begun,
             whole,
         }
     }
 
-    /// The stream.
+    /// The socket.
     pub fn into_inner(self) -> T
-        ensures { result ≡ self.entry.0 }
+        ensures { result ≡ self.0 }
     {
-        self.stream
+        let Timed {
+            socket,
+            begun: _,
+            whole: _,
+        } = self;
+        socket
     }
 
-    // What is left of the time, which begins now where it has not. None is an error, as a socket takes a timeout of none
-    // for a wait without end.
+    // Asks the clock what is left of the time, which begins now if it has not. Nothing left is an error, since a socket
+    // takes a timeout of zero for a wait without end.
     fn left(&mut self) -> io::Result<Duration>
-        ensures some { IfOk result (λ left. 0 < as_nanos left) }
-        ensures within { IfOk result (λ left. as_nanos left ≤ as_nanos self.old.1.1) }
+        ensures left { IfOk result (λ left.
+            IsLeft (as_nanos left) self.old.1 self.new.1 (T.uses self.old.0) (T.uses self.new.0)) }
+        ensures asks { OnErr result (AsksOnly (T.uses self.old.0) (T.uses self.new.0)) }
         ensures time { GoesOn self.old.1 self.new.1 }
-        ensures begun { IfOk result (λ _. HasBegun self.new.1) }
-        ensures stream { self.new.0 ≡ self.old.0 }
+        ensures remaining { T.remaining self.new.0 ≡ T.remaining self.old.0 }
+        ensures contents { T.contents self.new.0 ≡ T.contents self.old.0 }
     {
-        let begun = match self.begun {
-            Some(begun) => begun,
-            None => Instant::now(self.clock)?,
-        };
+        let now = self.socket.instant()?;
+        let begun = self.begun.unwrap_or(now);
         self.begun = Some(begun);
-        let passed = begun.elapsed(self.clock)?;
+        let passed = now.duration_since(begun);
         match self.whole.checked_sub(passed) {
             Some(left) if !left.is_zero() => Ok(left),
             _ => Err(Error::from(ErrorKind::TimedOut)),
@@ -84,46 +86,50 @@ impl<'c, C: Clock, T> Timed<'c, C, T> {
     }
 }
 
-impl<'c, C: Clock, T: OpenStream + Read> Read for Timed<'c, C, T> {
+impl<T: Socket> Read for Timed<T> {
     ghost use Rattle.std.specs.Prelude.{IfOk};
     ghost use Rattle.std.specs.Io.{ReadsAtMost};
     ghost use Rattle.std.specs.Io.KnownBytes.{ReadConsumes};
-    ghost use Rattle.hub_serve.specs.Timed.{GoesOn, HasBegun};
+    ghost use Rattle.hub_serve.specs.Timed.{GoesOn, HasBegun, IsTimed};
+    ghost use Rattle.hub_serve.specs.Uses as uses;
 
-    ghost remaining = { λ t. T.Read.remaining t.0 };
+    ghost remaining = { λ t. T.remaining t.0 };
 
-    // Gives what the stream gives. The time goes on, or begins.
+    // Gives what the socket gives. The time goes on, or begins.
     fn read(&mut self, buffer: &mut [u8]) -> io::Result<usize>
         ensures bound { ReadsAtMost result buffer.new }
-        ensures bytes { ReadConsumes (T.Read.remaining self.old.0) (T.Read.remaining self.new.0)
-            result buffer.new }
+        ensures bytes { ReadConsumes (T.remaining self.old.0) (T.remaining self.new.0) result buffer.new }
         ensures time { GoesOn self.old.1 self.new.1 }
         ensures begun { IfOk result (λ _. HasBegun self.new.1) }
+        ensures timed { IsTimed uses.read_wait uses.read self.old.1 self.new.1
+            (T.uses self.old.0) (T.uses self.new.0) result }
     {
         let left = self.left()?;
-        self.stream.set_read_timeout(Some(left))?;
-        self.stream.read(buffer)
+        self.socket.set_read_wait(left)?;
+        self.socket.read(buffer)
     }
 }
 
-impl<'c, C: Clock, T: OpenStream + Write> Write for Timed<'c, C, T> {
+impl<T: Socket> Write for Timed<T> {
     ghost use Rattle.std.specs.Prelude.{◌≡◌, None, IfOk};
     ghost use Rattle.std.specs.Io.{WritesAtMost};
     ghost use Rattle.std.specs.Io.KnownBytes.{Keeps, WriteAppends};
-    ghost use Rattle.hub_serve.specs.Timed.{GoesOn, HasBegun};
+    ghost use Rattle.hub_serve.specs.Timed.{GoesOn, HasBegun, IsTimed};
+    ghost use Rattle.hub_serve.specs.Uses as uses;
 
-    // Hands these bytes to the stream. The time goes on, or begins.
+    // Hands these bytes to the socket. The time goes on, or begins.
     fn write(&mut self, bytes: &[u8]) -> io::Result<usize>
         ensures bound { WritesAtMost result bytes.now }
         ensures bytes { WriteAppends None None result bytes.now }
-        ensures handed { WriteAppends (T.Write.contents self.old.0) (T.Write.contents self.new.0)
-            result bytes.now }
+        ensures handed { WriteAppends (T.contents self.old.0) (T.contents self.new.0) result bytes.now }
         ensures time { GoesOn self.old.1 self.new.1 }
         ensures begun { IfOk result (λ _. HasBegun self.new.1) }
+        ensures timed { IsTimed uses.write_wait uses.write self.old.1 self.new.1
+            (T.uses self.old.0) (T.uses self.new.0) result }
     {
         let left = self.left()?;
-        self.stream.set_write_timeout(Some(left))?;
-        self.stream.write(bytes)
+        self.socket.set_write_wait(left)?;
+        self.socket.write(bytes)
     }
 
     fn flush(&mut self) -> io::Result<()>

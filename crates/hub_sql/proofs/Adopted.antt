@@ -1,6 +1,6 @@
 -- A store that takes over a connection with tables.
-use Rattle.std.proofs.Common.{◌≡◌, ◌≢◌, inl, inr, true, IsTrue, [], ◌∷◌, None, Result, Ok, Err, IfOk, refl, sym, ap, subst}
-use Rattle.std.proofs.Common.{◌∙◌}
+use Rattle.std.proofs.Common.{◌≡◌, ◌≢◌, ◌⊎◌, inl, inr, true, IsTrue, IsSome, [], ◌∷◌, None, Result, Ok, Err, IfOk, refl, sym, ap, subst}
+use Rattle.std.proofs.Common.{◌∙◌, ◌≤◌, arith}
 use Rattle.sqlite.specs.Effect.{Database}
 use Rattle.sqlite.specs.Held.{Held, state}
 use Rattle.sqlite.specs.Schema.{Schema}
@@ -14,11 +14,13 @@ use Rattle.hub_schema.specs.Rows.{tables_in}
 use Rattle.hub_schema.specs.Schema.{hub_schema}
 use Rattle.hub_schema.specs.State.{AreOrdered, HasNumber, IsFounded, LooksAmong}
 use Rattle.hub_store.specs.declared.fault.StoreFault.{StoreFault}
-use Rattle.hub_store.specs.declared.fault.StoreFault.TheVariants.{Unclean, Version}
-use Rattle.hub_sql.specs.Opening.{Adopts, ComesBack, Refuses, IsAsBefore, IsSpared, MayBeRaised, MayBeRenumbered}
-use Rattle.hub_sql.specs.Opening.{SparesConnection}
+use Rattle.hub_store.specs.declared.fault.StoreFault.TheVariants.{Memory, Disk, Unclean, Version}
+use Rattle.hub_reads.specs.Asks.{HasDiskCause}
+use Rattle.hub_reads.proofs.Causes.{more_faults}
+use Rattle.hub_sql.specs.Opening.{Adopts, CountsOn, ComesBack, ComesOpen, ComesWith, Refuses, IsAsBefore, IsKnown, IsSpared, MayBeRaised, MayBeRenumbered}
+use Rattle.hub_sql.specs.Opening.{SparesConnection, StaysShut}
 use Rattle.hub_sql.specs.declared.returned.Returned.{Returned}
-use Rattle.hub_sql.specs.declared.returned.Returned.TheVariants.{Connection}
+use Rattle.hub_sql.specs.declared.returned.Returned.TheVariants.{Connection, Store}
 use Rattle.hub_sql.specs.Stored.{Stored, HoldsRows, content, left, honest}
 use Rattle.hub_sql.specs.Version.{AreRising, AreShaped, HoldsHub, HoldsTables, number_of, schema_of}
 use Rattle.hub_sql.specs.declared.version.Version.{Version as Stage}
@@ -111,29 +113,80 @@ held_neither was mid now one two = (
   as_before_then was mid now one.1 two.1,
 )
 
+-- a fault that is none of the others
+pub of_disk : (fault : StoreFault) → fault ≢ Version → fault ≢ Memory → fault ≢ Unclean → fault ≡ Disk
+of_disk Memory known memory unclean = absurd (memory refl)
+of_disk Disk known memory unclean = refl
+of_disk Unclean known memory unclean = absurd (unclean refl)
+of_disk Version known memory unclean = absurd (known refl)
+
+-- where nothing comes back so, all is so of what does
+pub never_comes : {S : Type 0} (g : Ghosts S) (so : State → Type 0) (back : Returned S) → ComesWith g back (λ _. ⊥)
+    → ComesWith g back so
+never_comes g so (Connection conn) none = λ clean. absurd (none clean)
+never_comes g so (Store store) none = none
+
+-- of two looks, one after another
+pub counted_on : (was mid now : State) → CountsOn was mid → CountsOn mid now → CountsOn was now
+counted_on was mid now one two = record {
+  faults = omega (arith, one.faults, two.faults);
+  opened = two.opened ∙ one.opened;
+  limit = two.limit ∙ one.limit;
+}
+
+-- what stays shut after the connection was looked at does so for the connection as it was
+pub stays_shut : {S : Type 0} (g : Ghosts S) (was mid : State) (version : Stage) (store : S) (fault : StoreFault)
+    → mid.committed ≡ was.committed → was.faults ≤ mid.faults
+    → StaysShut g mid version store fault → StaysShut g was version store fault
+stays_shut g was mid version store fault same counts (inl broken) = inl broken
+stays_shut g was mid version store fault same counts (inr (inl lacks)) = inr (inl lacks)
+stays_shut g was mid version store fault same counts (inr (inr it)) = inr (inr (
+  it.0,
+  record {
+    error = it.1.error;
+    rows = it.1.rows ∙ ap (λ d. d.trees) same;
+    counted = omega (arith, counts, it.1.counted);
+    fails = it.1.fails;
+    is = it.1.is;
+  },
+))
+
+-- a cause that came after the connection was looked at is one from before
+pub cause_passed : (was mid now : State) → CountsOn was mid → HasDiskCause mid now → HasDiskCause was now
+cause_passed was mid now counts (inl more) = inl (more_faults counts.faults more)
+cause_passed was mid now counts (inr (inl shut)) = inr (inl (sym counts.opened ∙ shut))
+cause_passed was mid now counts (inr (inr limited)) = inr (inr (subst IsSome counts.limit limited))
+
 -- the tables are not a hub's
 pub refused_version : {S : Type 0} {g : Ghosts S} {was : State} {conn : Held S} {fault : StoreFault}
     → (fault ≡ Version → HasCleanDisk (state g conn) → ¬ HoldsHub was.now × IsAsBefore was (state g conn))
     → (was.now.schema ≢ hub_schema → fault ≡ Version) → fault ≢ Unclean
-    → SparesConnection g (λ _. ⊥) was conn
+    → (fault ≡ Disk → HasCleanDisk (state g conn) → HasDiskCause was (state g conn))
+    → SparesConnection g ⊥ (λ _. ⊥) was conn
     → Refuses g was (Connection conn) fault
-refused_version {conn = conn} refuses other unclean spared = record {
+refused_version {conn = conn} {fault = fault} refuses other unclean disk spared = record {
   version = λ is. (conn, refl, refuses is);
   other = other;
+  number = λ none known memory clean. let is = of_disk fault known memory unclean in (is, disk is clean);
   unclean = λ is. absurd (unclean is);
+  usable = (Third, (λ is. cc, tt));
   spared = spared_ever spared;
 }
 
 -- once the tables are known to be a hub's, `Version` does not come any more
 pub refused_later : {S : Type 0} {g : Ghosts S} {was : State} {back : Returned S} {fault : StoreFault}
     → was.now.schema ≡ hub_schema → fault ≢ Version
-    → (fault ≡ Unclean → ComesBack g back (λ now. HoldsNone (tables_in was.committed.trees)) × IsSpared g (λ _. ⊥) was back)
-    → IsSpared g (MayBeRaised was) was back
+    → ((¬ HoldsHub was.now) → ComesWith g back (λ _. ⊥))
+    → (fault ≡ Unclean → ComesBack g back (λ now. HoldsNone (tables_in was.committed.trees)) × IsSpared g ⊥ (λ _. ⊥) was back)
+    → ((version : Stage) × ((version ≢ First) × ComesOpen g was version back fault))
+    → IsSpared g ((fault ≡ Disk) × IsKnown was) (MayBeRaised was) was back
     → Refuses g was back fault
-refused_later has opened unclean spared = record {
+refused_later {g = g} {back = back} has opened holds unclean usable spared = record {
   version = λ is. absurd (opened is);
   other = λ hub. absurd (hub has);
+  number = λ none known memory. never_comes g _ back (holds none);
   unclean = unclean;
+  usable = usable;
   spared = spared;
 }
 
@@ -166,15 +219,24 @@ module _ {S : Type 0} {g : Ghosts S} {was : State} {version : Stage} {mid conn :
     subst (λ (rows : Trees). IsFounded (tables_in rows) db) (same_trees anew clean) made.1,
   )
 
-  pub refused_anew : {back : Held S} {fault : StoreFault} → fault ≢ Version
+  -- another schema than the version's may have been read at a fault of the disk alone
+  reread : (fault : StoreFault) → (conn.schema ≡ hub_schema) ⊎ (fault ≡ Disk)
+      → (conn.schema ≡ schema_of version) ⊎ ((fault ≡ Disk) × IsKnown was)
+  reread fault (inl same) = inl (same ∙ sym (later_hub version later))
+  reread fault (inr disk) = inr (disk, (version, anew.known))
+
+  pub refused_anew : {back : Held S} {fault : StoreFault} → fault ≢ Version → (conn.schema ≡ hub_schema) ⊎ (fault ≡ Disk)
       → (fault ≡ Unclean → (HasCleanDisk (state g back) → HoldsNone (tables_in (state g conn).now.trees))
-      × SparesConnection g (λ _. ⊥) (state g conn) back)
-      → SparesConnection g (MayBeRenumbered version (tables_in (state g conn).now.trees)) (state g conn) back
+      × SparesConnection g ⊥ (λ _. ⊥) (state g conn) back)
+      → SparesConnection g ⊥ (MayBeRenumbered version (tables_in (state g conn).now.trees)) (state g conn) back
       → Refuses g was (Connection back) fault
-  refused_anew {back = back} opened unclean spared =
+  refused_anew {back = back} {fault = fault} opened read unclean spared =
       refused_later (anew.known ∙ later_hub version later) opened
+      (λ none clean. none (holds_hub version was.now later (anew.holds (anew.early (spared.clean clean))).0))
       (λ is. let none = unclean is in (
         (back, refl, λ clean. none_was (spared.clean clean) (none.0 clean)),
-        spared_anew anew (λ clean trees never. never) none.1,
+        spared_anew anew (elim read [ inl same ↦ inl (same ∙ sym (later_hub version later)) | inr disk ↦ absurd (let bad = sym is ∙ disk in cc) ])
+            (λ clean trees never. never) none.1,
       ))
-      (spared_anew anew (λ clean. may_be_raised (spared.clean clean)) spared)
+      (version, (later, tt))
+      (spared_anew anew (reread fault read) (λ clean. may_be_raised (spared.clean clean)) spared)

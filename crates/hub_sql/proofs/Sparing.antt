@@ -36,7 +36,7 @@ module _ {S : Type 0} (g : Ghosts S) where
         → (HasCleanDisk (state g new) → (trees : Trees) → P trees → LeftAfter MayBe (state g was) trees)
         → (HasCleanDisk (state g new) → IsTrue (state g new).is_open
         → ShowsTheSame (state g was) (state g new) ⊎ IsUndone (state g was) (state g new))
-        → SparesConnection g MayBe (state g was) new
+        → SparesConnection g ⊥ MayBe (state g was) new
     spared_so {P} MayBe survives more shows = record {
       idle = idle;
       limit = survives.limit;
@@ -56,7 +56,7 @@ module _ {S : Type 0} (g : Ghosts S) where
   -- the schema's number was read, or was not
   pub spared_number : (number : ℕ) (was new : Held S) (r : Result Bool StoreFault) → IsSettled was
       → was.in_transaction ≡ false
-      → TellsNumber number (state g was) (state g new) r → SparesConnection g (λ _. ⊥) (state g was) new
+      → TellsNumber number (state g was) (state g new) r → SparesConnection g ⊥ (λ _. ⊥) (state g was) new
   spared_number number was new r settled idle it =
       spared_so was new settled (it.mode idle) (λ _. ⊥) it.crash (λ _ trees none. absurd none)
       (λ clean up. either_way (state g was) (state g new) r (it.leaves clean))
@@ -64,14 +64,14 @@ module _ {S : Type 0} (g : Ghosts S) where
   -- its rows were looked up
   pub spared_looked : {X : Type 0} (schema : Schema) (Are : State → Type 0) (says : Tables → X → Type 0)
       (spoilt : Tables → Type 0) (was new : Held S) (r : Result X StoreFault) → IsSettled was → was.in_transaction ≡ false
-      → LooksAmong schema Are says spoilt (state g was) (state g new) r → SparesConnection g (λ _. ⊥) (state g was) new
+      → LooksAmong schema Are says spoilt (state g was) (state g new) r → SparesConnection g ⊥ (λ _. ⊥) (state g was) new
   spared_looked schema Are says spoilt was new r settled idle it =
       spared_so was new settled (it.mode idle) (λ _. ⊥) it.crash (λ _ trees none. absurd none)
       (λ clean up. either_way (state g was) (state g new) r (it.leaves clean))
 
   -- it is the connection that it was
   pub spared_itself : (MayBe : Trees → Type 0) (h : Held S) → IsSettled h → h.in_transaction ≡ false
-      → SparesConnection g MayBe (state g h) h
+      → SparesConnection g ⊥ MayBe (state g h) h
   spared_itself MayBe h settled idle = record {
     idle = idle;
     limit = refl;
@@ -82,15 +82,16 @@ module _ {S : Type 0} (g : Ghosts S) where
   }
 
   -- what else may be left
-  pub spared_more : (MayBe May : Trees → Type 0) (was : State) (conn : Held S)
+  pub spared_more : {A B : Type 0} (MayBe May : Trees → Type 0) (was : State) (conn : Held S)
+      → (A → B)
       → ((trees : Trees) → MayBe trees → May trees)
-      → SparesConnection g MayBe was conn → SparesConnection g May was conn
-  spared_more MayBe May was conn may it = record {
+      → SparesConnection g A MayBe was conn → SparesConnection g B May was conn
+  spared_more MayBe May was conn other may it = record {
     idle = it.idle;
     limit = it.limit;
     clean = it.clean;
     rows = it.rows;
-    schema = it.schema;
+    schema = λ clean up. elim (it.schema clean up) [ inl same ↦ inl same | inr another ↦ inr (other another) ];
     crash = λ clean trees left. elim (it.crash clean trees left) [
       | inl before ↦ inl before
       | inr (inl committed) ↦ inr (inl committed)
@@ -103,7 +104,7 @@ module _ {S : Type 0} (g : Ghosts S) where
       → IsSettled was → (HasCleanDisk (state g was) → asked)
       → (HasCleanDisk (state g was) → fits register before ≡ true)
       → FoundsTo asked (founded_beside before register) (state g was) (state g new) (Err fault)
-      → SparesConnection g (MayBeBeside before register) (state g was) new
+      → SparesConnection g ⊥ (MayBeBeside before register) (state g was) new
   spared_founding asked before register was new fault settled so fit it =
       let early = clean_before (state g was) (state g new) _ it.crash in
       spared_so was new settled it.mode (MayBeBeside before register) it.crash
@@ -113,7 +114,7 @@ module _ {S : Type 0} (g : Ghosts S) where
   -- the number of schema 2 was not set
   pub spared_number_set : (asked : Type 0) (rows : Tables) (was new : Held S) (fault : StoreFault) → IsSettled was
       → (HasCleanDisk (state g was) → asked) → FoundsTo asked rows (state g was) (state g new) (Err fault)
-      → SparesConnection g (MayBeRenumbered Second rows) (state g was) new
+      → SparesConnection g ⊥ (MayBeRenumbered Second rows) (state g was) new
   spared_number_set asked rows was new fault settled so it =
       let early = clean_before (state g was) (state g new) _ it.crash in
       spared_so was new settled it.mode (MayBeRenumbered Second rows) it.crash
@@ -153,10 +154,10 @@ module _ {S : Type 0} (g : Ghosts S) where
   }
 
   -- the connection comes back after it was looked at
-  pub spared_through : (MayBe : Trees → Type 0) (was mid back : Held S)
+  pub spared_through : {Another : Type 0} (MayBe : Trees → Type 0) (was mid back : Held S)
       → (HasCleanDisk (state g mid) → IsAsBefore (state g was) (state g mid))
       → (HasCleanDisk (state g mid) → HasCleanDisk (state g was)) → mid.step_limit ≡ was.step_limit
-      → SparesConnection g MayBe (state g mid) back → SparesConnection g MayBe (state g was) back
+      → SparesConnection g Another MayBe (state g mid) back → SparesConnection g Another MayBe (state g was) back
   spared_through MayBe was mid back before early limit it = record {
     idle = it.idle;
     limit = it.limit ∙ limit;
@@ -166,7 +167,7 @@ module _ {S : Type 0} (g : Ghosts S) where
         let shown = ap (λ d. d.schema) (before (it.clean clean)).shown in
         elim (it.schema clean up) [
           | inl same ↦ inl (same ∙ shown)
-          | inr known ↦ inr (known.0, sym shown ∙ known.1)
+          | inr another ↦ inr another
         ];
     crash = λ clean trees left. elim (it.crash clean trees left) [
       | inl now ↦ inl ((before (it.clean clean)).crash trees now)
@@ -176,10 +177,10 @@ module _ {S : Type 0} (g : Ghosts S) where
   }
 
 -- nothing else may be left, whatever might be
-pub spared_ever : {S : Type 0} {g : Ghosts S} {May : Trees → Type 0} {was : State} {conn : Held S}
-    → SparesConnection g (λ _. ⊥) was conn → SparesConnection g May was conn
+pub spared_ever : {S : Type 0} {g : Ghosts S} {Another : Type 0} {May : Trees → Type 0} {was : State} {conn : Held S}
+    → SparesConnection g ⊥ (λ _. ⊥) was conn → SparesConnection g Another May was conn
 spared_ever {g = g} {May = May} {was = was} {conn = conn} it =
-    spared_more g (λ _. ⊥) May was conn (λ trees never. absurd never) it
+    spared_more g (λ _. ⊥) May was conn (λ never. absurd never) (λ trees never. absurd never) it
 
 -- The tables of a connection were found to be of a version, and nothing changed as they were looked at. It was opened
 -- anew after that, and has the rows that were committed.
@@ -219,10 +220,11 @@ module _ {S : Type 0} {g : Ghosts S} {version : Version} {was : State} {mid conn
   same_trees clean = anew.rows clean ∙ ap (λ d. d.trees) (anew.holds (anew.early clean)).1.committed
 
   -- the connection comes back after it was opened anew
-  pub spared_anew : {MayBe May : Trees → Type 0} {back : Held S}
+  pub spared_anew : {Another : Type 0} {MayBe May : Trees → Type 0} {back : Held S}
+      → (conn.schema ≡ schema_of version) ⊎ Another
       → (HasCleanDisk (state g back) → (trees : Trees) → MayBe trees → May trees)
-      → SparesConnection g MayBe (state g conn) back → SparesConnection g May was back
-  spared_anew may it =
+      → SparesConnection g ⊥ MayBe (state g conn) back → SparesConnection g Another May was back
+  spared_anew read may it =
       let same : HasCleanDisk (state g conn) → (state g conn).committed.trees ≡ was.committed.trees =
       λ (clean : HasCleanDisk (state g conn)). ap (λ d. d.trees) (sym (anew.ready clean).shown) ∙ same_trees clean in
       record {
@@ -230,7 +232,10 @@ module _ {S : Type 0} {g : Ghosts S} {version : Version} {was : State} {mid conn
         limit = it.limit ∙ anew.limit;
         clean = λ clean. anew.clean (anew.early (it.clean clean));
         rows = λ clean up. it.rows clean up ∙ same (it.clean clean);
-        schema = λ clean up. inr (version, anew.known);
+        schema = λ clean up. elim read [
+          | inl same ↦ elim (it.schema clean up) [ inl stays ↦ inl (stays ∙ same ∙ sym anew.known) | inr never ↦ absurd never ]
+          | inr another ↦ inr another
+        ];
         crash = λ clean trees left. elim (it.crash clean trees left) [
           | inl before ↦ inr (inl (anew.settled trees (anew.ready (it.clean clean)).up before ∙ same (it.clean clean)))
           | inr (inl committed) ↦ inr (inl (committed ∙ same (it.clean clean)))

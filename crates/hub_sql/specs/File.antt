@@ -1,6 +1,8 @@
 -- What comes of opening a file, by what it held and the log beside it.
 use Rattle.std.specs.Prelude.{◌≡◌, ◌⊎◌}
-use Rattle.sqlite.specs.Files.{file_state, over_files, IsOpened, IsCleanLeft, LeavesFiles}
+use Rattle.sqlite.specs.Files.{file_state, over_files, IsOpened, IsCleanLeft, FailsToOpenFiles, LeavesFiles}
+use Rattle.sqlite.specs.declared.error.Error.{Error}
+use Rattle.hub_schema.specs.Faults.{fault_of}
 use Rattle.sqlite.specs.Held.{Held}
 use Rattle.sqlite.specs.Start.{FindsIn}
 use Rattle.sqlite.specs.State.{HasCleanDisk}
@@ -36,12 +38,13 @@ module _ {D : Type 0} {g : disk.Ghosts D} where
       (conn : Held (FileStore D g)) × IsOver image conn × Founds over_files register (file_state conn) store
 
   -- Where no database was opened: nothing comes back, and only which fault it may be is said; or the files come back,
-  -- which could not be read, and what is left of them is what they held, as the kit has it.
+  -- which could not be read. What is left of them is what they held, and the fault is that of an error by which the
+  -- opening of such files fails, as the kit has it.
   abbrev pub LeavesUnopened : (Pair D → Type 0) → StoreFault → LeftOfFile D g → Type 0
   LeavesUnopened IsFresh fault Nothing = (fault ≡ Memory) ⊎ (fault ≡ Disk)
   LeavesUnopened IsFresh fault (Files left) =
-      ((fault ≡ Memory) ⊎ (fault ≡ Disk))
-      × ((files : Pair D) × IsFresh files × (IsCleanLeft left → LeavesFiles files left))
+      (e : Error) × (fault ≡ fault_of e)
+      × ((files : Pair D) × IsFresh files × (IsCleanLeft left → FailsToOpenFiles files left e × LeavesFiles files left))
   LeavesUnopened IsFresh fault (Returned back) = ⊥
 
   -- with a fault: the same; or a connection of such files, as `adopt` gives it

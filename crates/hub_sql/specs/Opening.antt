@@ -1,5 +1,8 @@
 -- What a store is that takes over a connection, and when none does.
-use Rattle.std.specs.Prelude.{◌≡◌, ◌≢◌, ◌⊎◌, IsTrue, false, None}
+use Rattle.std.specs.Prelude.{◌≡◌, ◌≢◌, ◌≤◌, ◌⊎◌, ⊤, IsTrue, true, false, None}
+use Rattle.sqlite_disk.specs.Disk.{MoreFaults}
+use Rattle.sqlite.specs.Steps.{FailsToOpen}
+use Rattle.sqlite.specs.declared.error.Error.{Error}
 use Rattle.sqlite.specs.Held.{Held, state}
 use Rattle.sqlite.specs.Effect.{IsDatabase}
 use Rattle.sqlite.specs.State.{State, HasCleanDisk}
@@ -10,16 +13,18 @@ use Rattle.hub_founding.specs.Founding.{HoldsNone}
 use Rattle.hub_tables.specs.Register.{HoldsRegister}
 use Rattle.hub_tables.specs.Tables.{Tables}
 use Rattle.hub_store.specs.declared.fault.StoreFault.{StoreFault}
-use Rattle.hub_store.specs.declared.fault.StoreFault.TheVariants.{Unclean, Version}
+use Rattle.hub_store.specs.declared.fault.StoreFault.TheVariants.{Memory, Disk, Unclean, Version}
+use Rattle.hub_schema.specs.Faults.{fault_of}
 use Rattle.hub_schema.specs.Rows.{tables_in}
 use Rattle.hub_schema.specs.Schema.{hub_schema}
-use Rattle.hub_schema.specs.State.{IsFounded, Never}
+use Rattle.hub_schema.specs.State.{AreTables, IsFounded, Never}
+use Rattle.hub_reads.specs.Asks.{HasDiskCause}
 use Rattle.hub_sql.specs.Stored.{Stored, content, left, honest}
-use Rattle.hub_sql.specs.Version.{HoldsHub, HoldsTables, schema_of}
+use Rattle.hub_sql.specs.Version.{HoldsHub, HoldsTables, schema_of, tables_of}
 use Rattle.hub_sql.specs.declared.returned.Returned.{Returned}
 use Rattle.hub_sql.specs.declared.returned.Returned.TheVariants.{Connection, Store}
 use Rattle.hub_sql.specs.declared.version.Version.{Version as Stage}
-use Rattle.hub_sql.specs.declared.version.Version.TheVariants.{Second}
+use Rattle.hub_sql.specs.declared.version.Version.TheVariants.{First, Second}
 
 -- it is open, shows what was committed, and obeys its schema
 pub record IsReady (s : State) : Type 0 where
@@ -59,9 +64,9 @@ abbrev pub IsKnown : State → Type 0
 IsKnown was = (version : Stage) × (was.now.schema ≡ schema_of version)
 
 -- a connection that comes back is as usable as it was: where it is not shut it shows the rows that were committed, and
--- its schema is as it was, but perhaps where it was that of a version
-pub record SparesConnection {S : Type 0} (g : Ghosts S) (MayBe : Trees → Type 0) (was : State) (conn : Held S)
-    : Type 0 where
+-- has the schema that it had, unless another may have been read
+pub record SparesConnection {S : Type 0} (g : Ghosts S) (Another : Type 0) (MayBe : Trees → Type 0) (was : State)
+    (conn : Held S) : Type 0 where
   pub idle : conn.in_transaction ≡ false
   pub limit : conn.step_limit ≡ was.step_limit
   pub clean : HasCleanDisk (state g conn) → HasCleanDisk was
@@ -69,7 +74,7 @@ pub record SparesConnection {S : Type 0} (g : Ghosts S) (MayBe : Trees → Type 
       HasCleanDisk (state g conn) → IsTrue (state g conn).is_open → (state g conn).now.trees ≡ was.committed.trees
   pub schema :
       HasCleanDisk (state g conn) → IsTrue (state g conn).is_open →
-      (conn.schema ≡ was.now.schema) ⊎ IsKnown was
+      (conn.schema ≡ was.now.schema) ⊎ Another
   pub crash : HasCleanDisk (state g conn) → (trees : Trees) → (state g conn).may_leave trees → LeftAfter MayBe was trees
 
 -- and so does what was below it, once it is opened again
@@ -79,20 +84,57 @@ pub record SparesStore {S : Type 0} (g : Ghosts S) (was : State) (store : S) : T
   pub crash : IsClean (g.view store) → (trees : Trees) → g.recovers store trees → was.may_leave trees
 
 -- no committed row is lost with a fault
-abbrev pub IsSpared : {S : Type 0} → Ghosts S → (Trees → Type 0) → State → Returned S → Type 0
-IsSpared g MayBe was (Connection conn) = SparesConnection g MayBe was conn
-IsSpared g MayBe was (Store store) = SparesStore g was store
+abbrev pub IsSpared : {S : Type 0} → Ghosts S → Type 0 → (Trees → Type 0) → State → Returned S → Type 0
+IsSpared g Another MayBe was (Connection conn) = SparesConnection g Another MayBe was conn
+IsSpared g Another MayBe was (Store store) = SparesStore g was store
+
+-- the opening of what is below failed by an error that is this fault: it held the rows that were committed, and every
+-- fault that the connection had counted
+pub record FailedToOpen {S : Type 0} (g : Ghosts S) (was : State) (below store : S) (fault : StoreFault) : Type 0 where
+  pub error : Error
+  pub rows : (g.view below).trees ≡ was.committed.trees
+  pub counted : was.faults ≤ g.faults below
+  pub fails : FailsToOpen (g.view below).trees (MoreFaults (g.faults below) (g.faults store)) error
+  pub is : fault ≡ fault_of error
+
+-- why what was below a connection is not opened again: it is broken, it lacks a table of the version, or its opening failed
+abbrev pub StaysShut : {S : Type 0} → Ghosts S → State → Stage → S → StoreFault → Type 0
+StaysShut {S} g was version store fault =
+    ((g.view store).is_broken ≡ true) ⊎ ((¬ AreTables (g.view store).shape (tables_of version))
+    ⊎ ((below : S) × FailedToOpen g was below store fault))
+
+-- the connection comes back; or, where it had the schema of this version, a store that could not be opened again as one
+abbrev pub ComesOpen : {S : Type 0} → Ghosts S → State → Stage → Returned S → StoreFault → Type 0
+ComesOpen g was version (Connection conn) fault = ⊤
+ComesOpen g was version (Store store) fault =
+    (was.now.schema ≡ schema_of version) × (IsClean (g.view store) → StaysShut g was version store fault)
+
+-- where the disk has returned what was written, it is a connection that comes back, and this is so of it
+abbrev pub ComesWith : {S : Type 0} → Ghosts S → Returned S → (State → Type 0) → Type 0
+ComesWith g (Connection conn) so = HasCleanDisk (state g conn) → so (state g conn)
+ComesWith g (Store store) so = IsClean (g.view store) → ⊥
+
+-- a cause that comes later is one from before
+pub record CountsOn (was now : State) : Type 0 where
+  pub faults : was.faults ≤ now.faults
+  pub opened : now.is_open ≡ was.is_open
+  pub limit : now.step_limit ≡ was.step_limit
 
 -- a connection comes back, and this is so where the disk has returned what was written
 abbrev pub ComesBack : {S : Type 0} → Ghosts S → Returned S → (State → Type 0) → Type 0
 ComesBack {S} g back so = (conn : Held S) × (back ≡ Connection conn) × (HasCleanDisk (state g conn) → so (state g conn))
 
 -- `Version` comes with the connection as it was, and only where it has no tables or others than a hub's, or another number
--- than 2 and 3; where they are of another schema, no other fault comes. `Unclean` comes with a connection whose rows hold
--- no register, and which is as it was committed: its number is not raised.
+-- than 2 and 3. Where they are of another schema no other fault comes; where they have another number, only out of
+-- memory, or a fault of the disk with its cause. `Unclean` comes with a connection whose rows hold no register, and which
+-- is as it was committed: its number is not raised. The connection comes back, but for a store that could not be opened
+-- again, and its schema is as it was, but perhaps after a fault of the disk.
 pub record Refuses {S : Type 0} (g : Ghosts S) (was : State) (back : Returned S) (fault : StoreFault) : Type 0 where
   pub version : fault ≡ Version → ComesBack g back (λ now. (¬ HoldsHub was.now) × IsAsBefore was now)
   pub other : was.now.schema ≢ hub_schema → fault ≡ Version
+  pub number : (¬ HoldsHub was.now) → fault ≢ Version → fault ≢ Memory →
+      ComesWith g back (λ now. (fault ≡ Disk) × HasDiskCause was now)
   pub unclean : fault ≡ Unclean →
-      ComesBack g back (λ now. HoldsNone (tables_in was.committed.trees)) × IsSpared g Never was back
-  pub spared : IsSpared g (MayBeRaised was) was back
+      ComesBack g back (λ now. HoldsNone (tables_in was.committed.trees)) × IsSpared g ⊥ Never was back
+  pub usable : (version : Stage) × ((version ≢ First) × ComesOpen g was version back fault)
+  pub spared : IsSpared g ((fault ≡ Disk) × IsKnown was) (MayBeRaised was) was back

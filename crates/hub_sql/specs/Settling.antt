@@ -5,7 +5,7 @@ use Rattle.hub_schema.specs.Schema.{hub_schema}
 use Rattle.hub_store.specs.Calls.{broken_after}
 use Rattle.hub_store.specs.declared.fault.LastingFault.{LastingFault}
 use Rattle.hub_store.specs.declared.fault.StoreFault.{StoreFault}
-use Rattle.hub_store.specs.declared.fault.StoreFault.TheVariants.{Memory, Unclean, Version}
+use Rattle.hub_store.specs.declared.fault.StoreFault.TheVariants.{Memory, Disk, Unclean, Version}
 
 -- a value is handed on; a fault is for good, but for want of memory where the schema is the hub's, which stays so
 pub record Settles {X : Type 0} (found : Result X StoreFault) (schema : Schema) (result : Result X StoreFault)
@@ -13,6 +13,7 @@ pub record Settles {X : Type 0} (found : Result X StoreFault) (schema : Schema) 
   pub value : IfOk result (λ x. found ≡ Ok x)
   pub failed : IfErr result (λ _. IfErr found (λ _. Unit {0}))
   pub memory : found ≡ Err Memory → schema ≡ hub_schema → result ≡ Err Memory
+  pub disk : found ≡ Err Disk → result ≡ Err Disk
   pub unclean : result ≡ Err Unclean → found ≡ Err Unclean
   pub version : result ≢ Err Version
   pub lasting : fault ≡ broken_after None result

@@ -1,5 +1,6 @@
 //! Why a hub was not founded.
 ghost use Rattle.std.specs.Prelude.{◌≡◌, ◌⊎◌};
+ghost use Rattle.hub_sql.specs.Founding.{laying_of};
 
 use hub_store::StoreFault;
 
@@ -16,7 +17,8 @@ pub enum FoundFault {
 /// The fault of a founding, or of a number that was not set. It is never a row without the form of its kind, since those
 /// of a register have it.
 pub(crate) fn laying_fault(fault: StoreFault) -> StoreFault
-    ensures { (result ≡ StoreFault.Memory) ⊎ (result ≡ StoreFault.Disk) }
+    ensures exact { result ≡ laying_of fault }
+    ensures either { (result ≡ StoreFault.Memory) ⊎ (result ≡ StoreFault.Disk) }
 {
     match fault {
         StoreFault::Memory => StoreFault::Memory,

@@ -56,10 +56,10 @@ fn open_file<S: Start>(
 
 impl<S: Start> SqliteStore<FileStore<FileFrom<S>>> {
     /// Opens the hub in a file, with a log beside it; one of schema 2 becomes one of schema 3. `Disk` also where another
-    /// program has it open, or where it is no database; `Version` where it has no tables or others than a hub's, also
-    /// where there was no file, which is made then, and empty; `Unclean` where its rows hold no register, in a file that
-    /// stays of its schema. No committed row is lost with a fault, and what is left comes with it. `start` says what a
-    /// crash may have done to the file.
+    /// program has it open, or where it is no database; `Version` where it has no tables, others than a hub's or
+    /// another number of the schema, also where there was no file, which is made then, and empty; `Unclean` where its rows
+    /// hold no register, in a file that stays of its schema. No committed row is lost with a fault, and what is left comes
+    /// with it. `start` says what a crash may have done to the file.
     pub fn at_path(
         rt: &HostRuntime,
         path: &str,
@@ -78,9 +78,9 @@ impl<S: Start> SqliteStore<FileStore<FileFrom<S>>> {
     }
 
     /// Founds a hub in a file, which is made where there is none, as `found` does: in a file of schema 1 beside its rows.
-    /// `Rows` where the register does not fit to these; `Version` where it has other tables; `Disk` also where another
-    /// program has it open, or where it is no database. No committed row is lost with a fault, and what is left comes
-    /// with it.
+    /// `Rows` where the register does not fit to these; `Version` where it has other tables or another number of the
+    /// schema; `Disk` also where another program has it open, or where it is no database. No committed row is lost with a
+    /// fault, and what is left comes with it.
     pub fn found_at(
         rt: &HostRuntime,
         path: &str,

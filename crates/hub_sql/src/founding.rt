@@ -18,6 +18,7 @@ use crate::returned::Returned;
 use crate::store::SqliteStore;
 use hub_founding::register_changes;
 use hub_register::Register;
+use hub_rules::migrated_tables_are_sound;
 use hub_schema::is_no_schema;
 use hub_store::StoreFault;
 use hub_tables::founded_tables_hold_their_register;
@@ -38,7 +39,7 @@ fn laid<S: Alter + Drop>(
     ensures register { IsRegister register.now }
     ensures fails { IfErr result (λ e. (e.1 ≡ StoreFault.Memory) ⊎ (e.1 ≡ StoreFault.Disk)) }
     ensures spared { IfErr result (λ e.
-        SparesConnection S.Store (MayBeBeside empty register.now) (state S.Store conn) e.0) }
+        SparesConnection S.Store ⊥ (MayBeBeside empty register.now) (state S.Store conn) e.0) }
 {
     // The contract of this call says whether a transaction is open.
     let _idle = conn.is_autocommit();
@@ -65,6 +66,7 @@ fn founded_bare<S: Alter + Drop>(
     ensures refuses { IfErr result (λ e. RefusesFounding S.Store register.now (state S.Store conn) e.0 e.1) }
 {
     founded_tables_hold_their_register();
+    migrated_tables_are_sound();
     match laid(alloc, conn, register) {
         Ok(store) => Ok(store),
         Err((conn, fault)) => Err((Returned::Connection(conn), FoundFault::Store(fault))),
@@ -74,8 +76,9 @@ fn founded_bare<S: Alter + Drop>(
 impl<S: Alter + Drop> SqliteStore<S> {
     /// Founds a hub in a connection in which no transaction is open and no statement is limited: its tables with the rows
     /// of the register, in one transaction. In a database of schema 1 they stand beside the rows that are there, none of
-    /// which changes; `Rows` where the register does not fit to these. `Version` where it has other tables, and only there;
-    /// the connection that comes back with it is as it was. With any fault no row is lost that was committed.
+    /// which changes; `Rows` where the register does not fit to these. `Version` where it has other tables or another
+    /// number of the schema, and only there; the connection that comes back with it is as it was. With any fault no row is
+    /// lost that was committed.
     pub fn found(
         alloc: Global,
         conn: Connection<S>,

@@ -1,9 +1,10 @@
 //! Stores in databases of schema 1.
-ghost use Rattle.std.specs.Prelude.{◌≡◌, ◌≢◌, true, false, None, IfOk, IfErr};
+ghost use Rattle.std.specs.Prelude.{◌≡◌, ◌≢◌, ◌⊎◌, true, false, None, IfOk, IfErr};
 ghost use Rattle.sqlite.specs.Held.{state};
 ghost use Rattle.sqlite.specs.State.{HasCleanDisk};
 ghost use Rattle.hub_founding.specs.Fits.{fits as does_fit, founded_beside};
 ghost use Rattle.hub_parties.specs.Rows.{IsRegister};
+ghost use Rattle.hub_reads.specs.Asks.{HasDiskCause};
 ghost use Rattle.hub_schema.specs.Rows.{traffic_in};
 ghost use Rattle.hub_schema.specs.Schema.{old_schema, no_schema};
 ghost use Rattle.hub_schema.specs.State.{HasNumber, IsOldHub, Never};
@@ -20,6 +21,7 @@ use crate::version::Version;
 use hub_founding::{register_changes, rows_beside_stay};
 use hub_reads::fits;
 use hub_register::Register;
+use hub_rules::migrated_tables_are_sound;
 use hub_schema::is_old_schema;
 use hub_store::StoreFault;
 use hub_writes::migrate;
@@ -39,6 +41,7 @@ fn fitting<S: Alter + Drop>(
     ensures idle { IfOk result (λ c. c.in_transaction ≡ false) }
     ensures hub { IfOk result (λ c. HasCleanDisk (state S.Store c) → IsOldHub (state S.Store c)) }
     ensures limit { IfOk result (λ c. c.step_limit ≡ conn.step_limit) }
+    ensures schema { IfOk result (λ _. conn.schema ≡ old_schema) }
     ensures before { IfOk result (λ c.
         HasCleanDisk (state S.Store c) → IsAsBefore (state S.Store conn) (state S.Store c)) }
     ensures clean { IfOk result (λ c. HasCleanDisk (state S.Store c) → HasCleanDisk (state S.Store conn)) }
@@ -47,8 +50,14 @@ fn fitting<S: Alter + Drop>(
     ensures rows { IfErr result (λ e. e.1 ≡ FoundFault.Rows → HasCleanDisk (state S.Store e.0) →
         (e.0.schema ≡ old_schema)
         × (does_fit register.now (traffic_in (state S.Store conn).now.trees) ≡ false)) }
+    ensures known { IfErr result (λ e.
+        (conn.schema ≡ old_schema) ⊎ (e.1 ≡ FoundFault.Store StoreFault.Disk)) }
+    ensures unfit { IfErr result (λ e. HasCleanDisk (state S.Store e.0) →
+        does_fit register.now (traffic_in (state S.Store conn).now.trees) ≡ false →
+        e.1 ≢ FoundFault.Rows → e.1 ≢ FoundFault.Store StoreFault.Memory →
+        (conn.schema ≢ old_schema) ⊎ HasDiskCause (state S.Store conn) (state S.Store e.0)) }
     ensures fails { IfErr result (λ e. IsOfFounding e.1) }
-    ensures spared { IfErr result (λ e. SparesConnection S.Store Never (state S.Store conn) e.0) }
+    ensures spared { IfErr result (λ e. SparesConnection S.Store ⊥ Never (state S.Store conn) e.0) }
 {
     // The contract of this call says whether a transaction is open.
     let _was_idle = conn.is_autocommit();
@@ -80,7 +89,7 @@ fn laid_beside<S: Alter + Drop>(
         (founded_beside (traffic_in (state S.Store conn).now.trees) register.now)) }
     ensures register { IsRegister register.now }
     ensures fails { IfErr result (λ e. IsOfFounding e.1 × (e.1 ≢ FoundFault.Rows)) }
-    ensures spared { IfErr result (λ e. SparesConnection S.Store
+    ensures spared { IfErr result (λ e. SparesConnection S.Store ⊥
         (MayBeBeside (traffic_in (state S.Store conn).now.trees) register.now) (state S.Store conn) e.0) }
 {
     // The contract of this call says whether a transaction is open.
@@ -115,8 +124,14 @@ fn beside<S: Alter + Drop>(
     ensures none { IfErr result (λ e. e.1 ≡ FoundFault.Rows → HasCleanDisk (state S.Store e.0) →
         (e.0.schema ≡ old_schema)
         × (does_fit register.now (traffic_in (state S.Store conn).now.trees) ≡ false)) }
+    ensures known { IfErr result (λ e.
+        (conn.schema ≡ old_schema) ⊎ (e.1 ≡ FoundFault.Store StoreFault.Disk)) }
+    ensures unfit { IfErr result (λ e. HasCleanDisk (state S.Store e.0) →
+        does_fit register.now (traffic_in (state S.Store conn).now.trees) ≡ false →
+        e.1 ≢ FoundFault.Rows → e.1 ≢ FoundFault.Store StoreFault.Memory →
+        (conn.schema ≢ old_schema) ⊎ HasDiskCause (state S.Store conn) (state S.Store e.0)) }
     ensures fails { IfErr result (λ e. IsOfFounding e.1) }
-    ensures spared { IfErr result (λ e. SparesConnection S.Store
+    ensures spared { IfErr result (λ e. SparesConnection S.Store ⊥
         (MayBeBeside (traffic_in (state S.Store conn).now.trees) register.now) (state S.Store conn) e.0) }
 {
     match fitting(conn, register) {
@@ -138,6 +153,7 @@ pub(crate) fn migrated<S: Alter + Drop>(
     ensures refuses { IfErr result (λ e. RefusesFounding S.Store register.now (state S.Store conn) e.0 e.1) }
 {
     rows_beside_stay();
+    migrated_tables_are_sound();
     let conn = match of_version(conn, Version::First) {
         Ok(conn) => conn,
         Err((conn, fault)) => return Err((Returned::Connection(conn), FoundFault::Store(fault))),
@@ -167,6 +183,7 @@ pub(crate) fn migrated_opened<S: Alter + Drop>(
     ensures refuses { IfErr result (λ e. RefusesFounding S.Store register.now (state S.Store conn) e.0 e.1) }
 {
     rows_beside_stay();
+    migrated_tables_are_sound();
     let conn = match of_version(conn, Version::First) {
         Ok(conn) => conn,
         Err((conn, fault)) => return Err((Returned::Connection(conn), FoundFault::Store(fault))),

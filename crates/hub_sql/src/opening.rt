@@ -3,6 +3,7 @@ ghost use Rattle.std.specs.Prelude.{◌≡◌, ◌≢◌, ◌⊎◌, false, None
 ghost use Rattle.sqlite.specs.Held.{state};
 ghost use Rattle.sqlite.specs.State.{HasCleanDisk};
 ghost use Rattle.hub_schema.specs.Rows.{tables_in};
+ghost use Rattle.hub_schema.specs.Schema.{hub_schema};
 ghost use Rattle.hub_schema.specs.State.{AreOrdered, HasNumber, HasTables, IsHub, Never};
 ghost use Rattle.hub_founding.specs.Founding.{HoldsNone};
 ghost use Rattle.hub_tables.specs.Register.{HoldsRegister};
@@ -49,6 +50,7 @@ fn with_register<S: Alter + Drop>(
     ensures open { IfOk result (λ found.
         HasCleanDisk (state S.Store found.0) → IsTrue (state S.Store found.0).is_open) }
     ensures limit { IfOk result (λ found. found.0.step_limit ≡ conn.step_limit) }
+    ensures schema { IfOk result (λ _. conn.schema ≡ hub_schema) }
     ensures before { IfOk result (λ found. HasCleanDisk (state S.Store found.0) →
         IsAsBefore (state S.Store conn) (state S.Store found.0)) }
     ensures clean { IfOk result (λ found.
@@ -56,9 +58,10 @@ fn with_register<S: Alter + Drop>(
     ensures register { IfOk result (λ found. HasCleanDisk (state S.Store found.0) →
         HasRegister (tables_in (state S.Store conn).now.trees) found.1) }
     ensures not_version { IfErr result (λ e. e.1 ≢ StoreFault.Version) }
+    ensures known { IfErr result (λ e. (conn.schema ≡ hub_schema) ⊎ (e.1 ≡ StoreFault.Disk)) }
     ensures unclean { IfErr result (λ e. e.1 ≡ StoreFault.Unclean →
         HasCleanDisk (state S.Store e.0) → HoldsNone (tables_in (state S.Store conn).now.trees)) }
-    ensures spared { IfErr result (λ e. SparesConnection S.Store Never (state S.Store conn) e.0) }
+    ensures spared { IfErr result (λ e. SparesConnection S.Store ⊥ Never (state S.Store conn) e.0) }
 {
     // The contract of this call says whether a transaction is open.
     let _was_idle = conn.is_autocommit();
@@ -90,7 +93,7 @@ fn renumbered<S: Alter + Drop>(
     ensures holds { IfOk result (HoldsRows S.Store (state S.Store conn)
         (tables_in (state S.Store conn).now.trees)) }
     ensures fails { IfErr result (λ e. (e.1 ≡ StoreFault.Memory) ⊎ (e.1 ≡ StoreFault.Disk)) }
-    ensures spared { IfErr result (λ e. SparesConnection S.Store
+    ensures spared { IfErr result (λ e. SparesConnection S.Store ⊥
         (MayBeRenumbered Version.Second (tables_in (state S.Store conn).now.trees)) (state S.Store conn) e.0) }
 {
     // The contract of this call says whether a transaction is open.
@@ -119,7 +122,7 @@ fn raised<S: Alter + Drop>(
     ensures holds { IfOk result (HoldsRows S.Store (state S.Store conn)
         (tables_in (state S.Store conn).now.trees)) }
     ensures fails { IfErr result (λ e. (e.1 ≡ StoreFault.Memory) ⊎ (e.1 ≡ StoreFault.Disk)) }
-    ensures spared { IfErr result (λ e. SparesConnection S.Store
+    ensures spared { IfErr result (λ e. SparesConnection S.Store ⊥
         (MayBeRenumbered version (tables_in (state S.Store conn).now.trees)) (state S.Store conn) e.0) }
 {
     // The contract of this call says whether a transaction is open.
@@ -147,10 +150,11 @@ fn taken<S: Alter + Drop>(
     ensures register { IfOk result (λ store.
         honest S.Store store → HoldsRegister (tables_in (state S.Store conn).now.trees)) }
     ensures not_version { IfErr result (λ e. e.1 ≢ StoreFault.Version) }
+    ensures known { IfErr result (λ e. (conn.schema ≡ hub_schema) ⊎ (e.1 ≡ StoreFault.Disk)) }
     ensures unclean { IfErr result (λ e. e.1 ≡ StoreFault.Unclean →
         (HasCleanDisk (state S.Store e.0) → HoldsNone (tables_in (state S.Store conn).now.trees))
-        × SparesConnection S.Store Never (state S.Store conn) e.0) }
-    ensures spared { IfErr result (λ e. SparesConnection S.Store
+        × SparesConnection S.Store ⊥ Never (state S.Store conn) e.0) }
+    ensures spared { IfErr result (λ e. SparesConnection S.Store ⊥
         (MayBeRenumbered version (tables_in (state S.Store conn).now.trees)) (state S.Store conn) e.0) }
 {
     match with_register(alloc, conn) {

@@ -2,8 +2,10 @@
 ghost use Rattle.std.specs.Prelude.{◌≡◌, ◌≢◌, ◌⊎◌, false, IfOk, IfErr};
 ghost use Rattle.sqlite.specs.Held.{state, IsNew};
 ghost use Rattle.sqlite.specs.State.{HasCleanDisk};
+ghost use Rattle.sqlite_trees.specs.View.{IsClean};
+ghost use Rattle.hub_reads.specs.Asks.{HasDiskCause};
 ghost use Rattle.hub_schema.specs.State.{HasNumber, Never};
-ghost use Rattle.hub_sql.specs.Opening.{IsAsBefore, IsReady, SparesConnection, SparesStore};
+ghost use Rattle.hub_sql.specs.Opening.{CountsOn, IsAsBefore, IsReady, SparesConnection, SparesStore, StaysShut};
 ghost use Rattle.hub_schema.specs.Schema.{hub_schema};
 ghost use Rattle.hub_sql.specs.Version.{schema_of, number_of, AreShaped, HoldsHub, HoldsTables};
 
@@ -30,14 +32,20 @@ pub(crate) fn of_version<S: Alter + Drop>(
     ensures number { IfOk result (λ c. HasCleanDisk (state S.Store c) →
         HasNumber (number_of version) (state S.Store c).committed.trees) }
     ensures clean { IfOk result (λ c. HasCleanDisk (state S.Store c) → HasCleanDisk (state S.Store conn)) }
+    ensures counted { IfOk result (λ c.
+        HasCleanDisk (state S.Store c) → CountsOn (state S.Store conn) (state S.Store c)) }
     ensures refuses { IfErr result (λ e. e.1 ≡ StoreFault.Version → HasCleanDisk (state S.Store e.0) →
         ¬ HoldsTables version (state S.Store conn).now
         × IsAsBefore (state S.Store conn) (state S.Store e.0)) }
     ensures stays { IfErr result (λ e. e.1 ≡ StoreFault.Version → HasCleanDisk (state S.Store e.0) →
         IsReady (state S.Store conn) → IsReady (state S.Store e.0)) }
     ensures other { IfErr result (λ e. conn.schema ≢ schema_of version → e.1 ≡ StoreFault.Version) }
+    ensures disk { IfErr result (λ e. e.1 ≡ StoreFault.Disk → HasCleanDisk (state S.Store e.0) →
+        HasDiskCause (state S.Store conn) (state S.Store e.0)) }
+    ensures counts { IfErr result (λ e. e.1 ≡ StoreFault.Version → HasCleanDisk (state S.Store e.0) →
+        CountsOn (state S.Store conn) (state S.Store e.0)) }
     ensures unclean { IfErr result (λ e. e.1 ≢ StoreFault.Unclean) }
-    ensures spared { IfErr result (λ e. SparesConnection S.Store Never (state S.Store conn) e.0) }
+    ensures spared { IfErr result (λ e. SparesConnection S.Store ⊥ Never (state S.Store conn) e.0) }
 {
     // The contract of this call says whether a transaction is open.
     let _was_idle = conn.is_autocommit();
@@ -74,11 +82,15 @@ pub(crate) fn of_hub<S: Alter + Drop>(
         HasNumber (number_of found.1) (state S.Store found.0).committed.trees) }
     ensures clean { IfOk result (λ found.
         HasCleanDisk (state S.Store found.0) → HasCleanDisk (state S.Store conn)) }
+    ensures counted { IfOk result (λ found.
+        HasCleanDisk (state S.Store found.0) → CountsOn (state S.Store conn) (state S.Store found.0)) }
     ensures refuses { IfErr result (λ e. e.1 ≡ StoreFault.Version → HasCleanDisk (state S.Store e.0) →
         ¬ HoldsHub (state S.Store conn).now × IsAsBefore (state S.Store conn) (state S.Store e.0)) }
     ensures other { IfErr result (λ e. conn.schema ≢ hub_schema → e.1 ≡ StoreFault.Version) }
+    ensures disk { IfErr result (λ e. e.1 ≡ StoreFault.Disk → HasCleanDisk (state S.Store e.0) →
+        HasDiskCause (state S.Store conn) (state S.Store e.0)) }
     ensures unclean { IfErr result (λ e. e.1 ≢ StoreFault.Unclean) }
-    ensures spared { IfErr result (λ e. SparesConnection S.Store Never (state S.Store conn) e.0) }
+    ensures spared { IfErr result (λ e. SparesConnection S.Store ⊥ Never (state S.Store conn) e.0) }
 {
     // The contract of this call says whether a transaction is open.
     let _was_idle = conn.is_autocommit();
@@ -109,6 +121,7 @@ pub(crate) fn reopened<S: Alter + Drop>(
     ensures fresh { IfOk result IsNew }
     ensures clean { IfOk result (λ c. HasCleanDisk (state S.Store c) → HasCleanDisk (state S.Store conn)) }
     ensures fails { IfErr result (λ e. (e.0 ≡ StoreFault.Memory) ⊎ (e.0 ≡ StoreFault.Disk)) }
+    ensures shut { IfErr result (λ e. IsClean (S.Store.view e.1) → StaysShut S.Store (state S.Store conn) version e.1 e.0) }
     ensures spared { IfErr result (λ e. SparesStore S.Store (state S.Store conn) e.1) }
 {
     let store = conn.into_store();

@@ -42,7 +42,7 @@ impl Version {
 
     /// Whether each table of this version stands there.
     pub(crate) fn has_tables<S: Alter>(self, store: &S) -> bool
-        ensures { IsTrue result → AreTables (S.Store.view store.now).shape (tables_of self) }
+        ensures { IsTrue result ↔ AreTables (S.Store.view store.now).shape (tables_of self) }
     {
         match self {
             Version::First => has_old_tables(store),

@@ -76,7 +76,7 @@ le_true a b h = grind (arith, nat_tests)
 
 -- What stands in front of the rules of a message.
 
-once_cases : (row : Option RememberedRow) (content : List ℕ) (fresh : Verdict) (changes : List Change) →
+pub once_cases : (row : Option RememberedRow) (content : List ℕ) (fresh : Verdict) (changes : List Change) →
     once row content fresh ≡ Accept changes → (◌≡◌ {A = Verdict} (Accept []) (Accept changes)) ⊎
     (fresh ≡ Accept changes)
 once_cases None content fresh changes h = inr h

@@ -19,11 +19,11 @@ use Rattle.hub_store.specs.Clean.{clean_hub, clean_key, clean_prefix}
 use Rattle.hub_store.specs.Clean.{clean_order, clean_line, clean_advice, clean_pallet, clean_content, clean_receipt}
 use Rattle.hub_store.specs.Clean.{clean_remembered, clean_mail, are_clean}
 
-all_true : {X : Type 0} (p : X → Bool) (xs : List X) → AllByRecursion (λ x. p x ≡ true) xs → list_all p xs ≡ true
+pub all_true : {X : Type 0} (p : X → Bool) (xs : List X) → AllByRecursion (λ x. p x ≡ true) xs → list_all p xs ≡ true
 all_true p [] all = refl
 all_true p (x ∷ xs) all = and_from _ _ all.0 (all_true p xs all.1)
 
-true_all : {X : Type 0} (p : X → Bool) (xs : List X) → list_all p xs ≡ true → AllByRecursion (λ x. p x ≡ true) xs
+pub true_all : {X : Type 0} (p : X → Bool) (xs : List X) → list_all p xs ≡ true → AllByRecursion (λ x. p x ≡ true) xs
 true_all p [] h = tt
 true_all p (x ∷ xs) h = let parts = and_parts (p x) (list_all p xs) h in (parts.0, true_all p xs parts.1)
 

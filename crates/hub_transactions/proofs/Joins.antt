@@ -190,7 +190,7 @@ module _ {S : Type 0} (content : S → Tables) (honest : S → Type 0) (left : S
 
   module _ (changes : List Change) (accepted : judge_join register row ≡ Accept changes)
       (here : SoundHub (content old)) (of_tables : register ≡ register_of (content old)) where
-    fits : Fit changes (content old)
+    pub fits : Fit changes (content old)
     fits =
         fit_uncleared changes (content old)
         (subst (AllByRecursion (λ change. clears change ≡ false)) (sym (changes_are register row changes accepted))

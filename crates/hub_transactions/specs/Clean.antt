@@ -1,9 +1,10 @@
 -- Messages and cancellations within the limits of what they say, from which rows of the kinds are made.
-use Rattle.std.specs.Prelude.{◌≡◌, ◌≤◌, true, List, length}
+use Rattle.std.specs.Prelude.{◌≡◌, ◌≤◌, ⊤, true, List, length}
 use Rattle.std.specs.List.{AllByRecursion}
 use Rattle.edi_base.specs.Limits.{greatest}
 use Rattle.edi_segments.specs.Service.{is_decimal}
 use Rattle.edi_envelope.specs.Limits.{is_reference}
+use Rattle.edi_envelope.specs.declared.interchange.RawMessage.{RawMessage}
 use Rattle.edi_moment.specs.Moment.{last_moment}
 use Rattle.gs1_ids.specs.Digits.{is_key}
 use Rattle.gs1_ids.specs.Gln.{is_gln}
@@ -19,8 +20,13 @@ use Rattle.hub_parties.specs.declared.row.SupplierRow.{SupplierRow}
 use Rattle.hub_tables.specs.Tables.{Tables, view}
 use Rattle.hub_rules.specs.Judging.{Judge}
 use Rattle.hub_rules.specs.ReceiptRules.{total}
+use Rattle.hub_rules.specs.declared.cancel.Cancel.{Cancel as Cancellation}
 use Rattle.hub_rules.specs.declared.incoming.IncomingMessage.{IncomingMessage}
 use Rattle.hub_store.specs.Clean.{are_bytes, is_number, is_line, is_quantity, are_clean}
+use Rattle.hub_requests.specs.declared.request.Input.{Input}
+use Rattle.hub_requests.specs.declared.request.Request.{Request}
+use Rattle.hub_requests.specs.declared.request.Request.TheVariants.{Cancel}
+use Rattle.hub_law.specs.Messages.{body_of}
 use Rattle.hub_law.specs.Told.{changed}
 
 -- references, content, moment and decimal mark
@@ -30,6 +36,12 @@ pub record WithinIncoming (incoming : IncomingMessage) : Type 0 where
   pub content : are_bytes incoming.content ≡ true
   pub moment : incoming.moment ≤ last_moment
   pub decimal : is_decimal incoming.decimal ≡ true
+
+-- a message and what comes with it: those limits, as many segments as a count of six digits counts, and bytes for a body
+pub record WithinMessage (message : RawMessage) (came : IncomingMessage) : Type 0 where
+  pub incoming : WithinIncoming came
+  pub segments : length message.segments ≤ 999_999
+  pub body : are_bytes (body_of message) ≡ true
 
 pub record WithinOrderLine (line : OrderLine) : Type 0 where
   pub number : is_line line.line ≡ true
@@ -63,6 +75,23 @@ pub record WithinReceiptUnit (unit : ReceiptUnit) : Type 0 where
 pub record WithinReceipt (receipt : Receipt) : Type 0 where
   pub number : is_number receipt.number ≡ true
   pub units : AllByRecursion WithinReceiptUnit receipt.units
+
+-- a cancellation within the limits of what it says
+pub record WithinCancel (cancel : Cancellation) : Type 0 where
+  pub reference : is_reference cancel.reference ≡ true
+  pub order : is_number cancel.order ≡ true
+  pub line : is_line cancel.line ≡ true
+  pub quantity : is_quantity cancel.quantity ≡ true
+
+-- the bytes of an upload may be any: what is read of them is within its limits
+abbrev pub WithinRequest : Request → Type 0
+WithinRequest (Cancel cancel) = WithinCancel cancel
+WithinRequest other = ⊤
+
+-- an input at a moment that a hub knows
+pub record WithinInput (input : Input) : Type 0 where
+  pub moment : input.moment ≤ last_moment
+  pub request : WithinRequest input.request
 
 -- where the supplier's GLN is one and all rows are of the kinds, they are so after what a judge of what it sees accepts
 abbrev pub Cleaned : SupplierRow → Tables → Judge → Type 0

@@ -4,4 +4,5 @@ pub mod Joins
 pub mod Judged
 pub mod Messages
 pub mod Named
+pub mod StaysClean
 pub mod Status

@@ -9,10 +9,13 @@ ghost use Rattle.hub_law.specs.Replies.{act_reply};
 ghost use Rattle.hub_law.specs.Requests.{cancel_named, answered, replied_by};
 ghost use Rattle.hub_law.specs.Told.{act, told};
 ghost use Rattle.hub_transactions.specs.Acts.{Carried, FailsWith, NoCause, Unharmed, any_answer, as_told, no_answer};
+ghost use Rattle.hub_transactions.specs.Clean.{WithinCancel};
 ghost use Rattle.hub_transactions.specs.Judged.{VerdictFits};
+ghost use Rattle.hub_transactions.specs.StaysClean.{StaysClean, VerdictClean};
 
 use crate::carrying::{carry_out, reply_to_act, told_of_verdict};
 use crate::knowing::known_for_cancel;
+use crate::laws::lines_of_sound_tables_are_known;
 use hub_judges::{Cancel, Verdict, judge_cancel};
 use hub_register::Register;
 use hub_requests::Reply;
@@ -33,6 +36,8 @@ fn commit_and_reply<S: Store>(
         replied_by act_reply (act verdict.now t)) as_told result }
     ensures fails { FailsWith S.plain NoCause any_answer (S.broken store.old) (S.broken store.new) result }
     ensures unharmed { Unharmed S.content S.honest store.old store.new result }
+    ensures clean { VerdictFits verdict.now (S.content store.old) → VerdictClean verdict.now (S.content store.old) →
+        StaysClean S.content S.honest S.broken store.old store.new result }
 {
     carry_out(store, verdict)?;
     Ok(reply)
@@ -54,8 +59,11 @@ pub fn take_cancel<S: Store>(
         AreUnclean (lines_of (view cancel.now.supplier (S.content store.old)) cancel.now.order))
         no_answer (S.broken store.old) (S.broken store.new) result }
     ensures unharmed { Unharmed S.content S.honest store.old store.new result }
+    ensures clean { SoundUnder register.now.suppliers (S.content store.old) → PartiesRise (S.content store.old) →
+        WithinCancel cancel.now → StaysClean S.content S.honest S.broken store.old store.new result }
 {
     accepted_changes_fit();
+    lines_of_sound_tables_are_known();
     let supplier = register.supplier(&cancel.supplier);
     let content = cancel_text(alloc, cancel)?;
     let known = known_for_cancel(alloc, store, cancel)?;

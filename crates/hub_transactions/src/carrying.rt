@@ -1,13 +1,16 @@
 //! What comes of a message, a cancellation or a join is carried out.
-ghost use Rattle.std.specs.Prelude.{◌≡◌, ◌⊎◌, IfOk, OnOk, OnErr};
+ghost use Rattle.std.specs.Prelude.{◌≡◌, ◌⊎◌, true, IfOk, OnOk, OnErr};
 ghost use Rattle.hub_tables.specs.Change.{apply_all};
 ghost use Rattle.hub_tables.specs.Sets.{Fit};
 ghost use Rattle.hub_tables.specs.Tables.{Tables};
+ghost use Rattle.hub_store.specs.Calls.{have_places};
+ghost use Rattle.hub_store.specs.Clean.{are_clean};
 ghost use Rattle.hub_rules.specs.declared.verdict.Verdict.TheVariants.{Accept};
 ghost use Rattle.hub_law.specs.Replies.{act_reply};
 ghost use Rattle.hub_law.specs.Told.{act, told};
 ghost use Rattle.hub_transactions.specs.Acts.{Carried, FailsWith, NoCause, Unharmed, any_answer};
 ghost use Rattle.hub_transactions.specs.Judged.{act_of, VerdictFits, JudgedFits};
+ghost use Rattle.hub_transactions.specs.StaysClean.{JudgedClean, StaysClean, VerdictClean};
 ghost use Rattle.hub_texts.specs.Decision.{told_of};
 
 use crate::judged::Judged;
@@ -71,6 +74,9 @@ fn make<S: Store>(store: &mut S, changes: &[Change]) -> Result<(), StoreFault>
         S.left store.old t ⊎ (t ≡ apply_all changes.now (S.content store.old))) }
     ensures fails { FailsWith S.plain NoCause any_answer (S.broken store.old) (S.broken store.new) result }
     ensures unharmed { Unharmed S.content S.honest store.old store.new result }
+    ensures clean { Fit changes.now (S.content store.old) → have_places changes.now (S.content store.old) ≡ true →
+        are_clean (apply_all changes.now (S.content store.old)) ≡ true →
+        StaysClean S.content S.honest S.broken store.old store.new result }
 {
     if changes.is_empty() {
         return Ok(());
@@ -85,6 +91,8 @@ pub(crate) fn carry_out<S: Store>(store: &mut S, verdict: &Verdict) -> Result<De
     ensures told { IfOk result (λ seen. told verdict.now ≡ told_of seen) }
     ensures fails { FailsWith S.plain NoCause any_answer (S.broken store.old) (S.broken store.new) result }
     ensures unharmed { Unharmed S.content S.honest store.old store.new result }
+    ensures clean { VerdictFits verdict.now (S.content store.old) → VerdictClean verdict.now (S.content store.old) →
+        StaysClean S.content S.honest S.broken store.old store.new result }
 {
     match verdict {
         Verdict::Refuse(code) => Ok(Decision::Refused(*code)),
@@ -105,6 +113,8 @@ pub(crate) fn carry_out_judged<S: Store>(
     ensures told { IfOk result (λ seen. (t : Tables) → (act_of judged.now t).0 ≡ told_of seen) }
     ensures fails { FailsWith S.plain NoCause any_answer (S.broken store.old) (S.broken store.new) result }
     ensures unharmed { Unharmed S.content S.honest store.old store.new result }
+    ensures clean { JudgedFits judged.now (S.content store.old) → JudgedClean judged.now (S.content store.old) →
+        StaysClean S.content S.honest S.broken store.old store.new result }
 {
     match judged {
         Judged::Read(verdict) => carry_out(store, verdict),

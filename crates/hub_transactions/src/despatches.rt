@@ -1,5 +1,5 @@
 //! What is known of a supplier's rows when a despatch advice is judged.
-ghost use Rattle.std.specs.Prelude.{◌≡◌, ◌≢◌, true, None, Err, ◌∷◌, ◌++◌, [], map, filter, length, if◌then◌else◌, IfOk, OnOk};
+ghost use Rattle.std.specs.Prelude.{◌≡◌, ◌≢◌, true, None, Err, ◌∷◌, ◌++◌, [], map, filter, if◌then◌else◌, IfOk, OnOk};
 ghost use Rattle.std.specs.List.{flat_map};
 ghost use Rattle.hub_tables.specs.State.{knows_order, lines_of};
 ghost use Rattle.hub_tables.specs.Tables.{view, has_pallet};
@@ -94,7 +94,6 @@ fn used_of<S: Store>(
 ) -> Result<Items<bool>, StoreFault>
     ensures used { S.honest store.new →
         IfOk result (λ used. map (λ unit. has_pallet (S.content store.old) unit.sscc) units.now ≡ used) }
-    ensures each { IfOk result (λ used. length used ≡ length units.now) }
     ensures unclean { S.honest store.new → S.broken store.old ≡ None →
         are_clean (S.content store.old) ≡ true → result ≢ Err Unclean }
     ensures goes_on { OnOk result (S.broken store.new ≡ S.broken store.old) }
@@ -123,7 +122,6 @@ pub(crate) fn known_for_despatch<S: Store>(
         IfOk result (λ known.
         TellsForDespatch known (has_pallet (S.content store.old)) incoming.now despatch.now
         (view supplier.now (S.content store.old))) }
-    ensures each { IfOk result (λ known. length known.used ≡ length despatch.now.units) }
     ensures unclean { S.honest store.new → S.broken store.old ≡ None →
         are_clean (S.content store.old) ≡ true →
         result ≡ Err Unclean → NamedUnclean despatch.now.units (view supplier.now (S.content store.old)) }

@@ -1,19 +1,23 @@
 //! A join.
-ghost use Rattle.std.specs.Prelude.{◌≡◌, false, IfOk, OnOk, OnErr};
+ghost use Rattle.std.specs.Prelude.{◌≡◌, true, false, IfOk, Ok, OnOk, OnErr};
 ghost use Rattle.std.specs.Option.{IfSome};
 ghost use Rattle.hub_parties.specs.Rows.{IsRegister};
 ghost use Rattle.hub_register.specs.Joined.{joined_by, left_by};
+ghost use Rattle.hub_tables.specs.Change.{apply_all};
 ghost use Rattle.hub_tables.specs.Register.{register_of, row_changes};
 ghost use Rattle.hub_tables.specs.Sets.{Fit};
 ghost use Rattle.hub_tables.specs.Tables.{Tables};
-ghost use Rattle.hub_rules.specs.JoinRules.{joins};
+ghost use Rattle.hub_store.specs.Clean.{are_clean};
+ghost use Rattle.hub_rules.specs.JoinRules.{joins, judge_join};
 ghost use Rattle.hub_rules.specs.Laws.{SoundHub};
 ghost use Rattle.hub_rules.specs.declared.verdict.Verdict.TheVariants.{Accept};
 ghost use Rattle.hub_law.specs.Mark.{Whole};
+ghost use Rattle.hub_law.specs.Replies.{act_reply};
 ghost use Rattle.hub_law.specs.Requests.{joined};
-ghost use Rattle.hub_law.specs.Told.{Accepted, act};
+ghost use Rattle.hub_law.specs.Told.{Accepted, act, told};
 ghost use Rattle.hub_transactions.specs.Acts.{Carried, FailsWith, NoCause, OfAny, Unharmed, as_told, no_answer};
 ghost use Rattle.hub_transactions.specs.Joins.{MovesBy, after_join};
+ghost use Rattle.hub_transactions.specs.StaysClean.{StaysClean};
 
 use crate::carrying::{reply_to_act, told_of_verdict};
 use hub_judges::{Verdict, judge_join};
@@ -45,6 +49,8 @@ fn let_in<S: Store>(
     ensures register_stays { OnErr result (register.new ≡ register.old) }
     ensures fails { FailsWith S.plain NoCause no_answer (S.broken store.old) (S.broken store.new) result }
     ensures unharmed { Unharmed S.content S.honest store.old store.new result }
+    ensures clean { Fit changes.now (S.content store.old) → are_clean (apply_all changes.now (S.content store.old)) ≡ true →
+        StaysClean S.content S.honest S.broken store.old store.new result }
 {
     let copy = row.copy(alloc)?;
     register.join(copy)?;
@@ -61,6 +67,46 @@ fn is_register(register: &Register)
 {
     // The contract of this call says that the register is one.
     let _hub = register.hub();
+}
+
+// Carries out a join that was judged, to which this is the reply. One that is refused changes nothing and is answered
+// without any memory.
+fn carry_out_join<S: Store>(
+    alloc: Global,
+    register: &mut Register,
+    store: &mut S,
+    join: &Join,
+    verdict: &Verdict,
+    reply: Reply,
+) -> Result<Reply, StoreFault>
+    requires judged { verdict.now ≡ judge_join register.old join.now }
+    requires says { reply ≡ act_reply (told verdict.now) }
+    requires right { IsRegister register.old }
+    ensures refused { joins register.old join.now ≡ false →
+        (result ≡ Ok reply) × (register.new ≡ register.old) × (store.new ≡ store.old) }
+    ensures carried { SoundHub (S.content store.old) → register.old ≡ register_of (S.content store.old) →
+        Carried S.content S.honest S.left store.old store.new (joined register.old Whole join.now) as_told result }
+    ensures same { S.honest store.new → SoundHub (S.content store.old) →
+        register.old ≡ register_of (S.content store.old) →
+        register.new ≡ register_of (S.content store.new) }
+    ensures told { IfOk result (λ reply. (t : Tables) → (joined register.old Whole join.now t).0 ≡ reply) }
+    ensures moves { IfOk result (MovesBy join.now register.old register.new) }
+    ensures taken { OnOk result (register.new ≡ after_join join.now register.old) }
+    ensures register_stays { OnErr result (register.new ≡ register.old) }
+    ensures broken { IfSome (S.broken store.old) (λ _. register.new ≡ register.old) }
+    ensures fails { FailsWith S.plain NoCause (OfAny (joined register.old Whole join.now) as_told)
+        (S.broken store.old) (S.broken store.new) result }
+    ensures unharmed { Unharmed S.content S.honest store.old store.new result }
+    ensures clean { SoundHub (S.content store.old) → register.old ≡ register_of (S.content store.old) →
+        StaysClean S.content S.honest S.broken store.old store.new result }
+{
+    let row = join.row();
+    let changes = match verdict {
+        Verdict::Refuse(_) => return Ok(reply),
+        Verdict::Accept(changes) => changes,
+    };
+    let_in(alloc, register, store, row, changes.as_slice())?;
+    Ok(reply)
 }
 
 /// Lets a supplier in, as the retailer asks: judges the join by the register, and commits its rows as one act. The reply
@@ -86,15 +132,11 @@ pub fn take_join<S: Store>(
     ensures fails { FailsWith S.plain NoCause (OfAny (joined register.old Whole join.now) as_told)
         (S.broken store.old) (S.broken store.new) result }
     ensures unharmed { Unharmed S.content S.honest store.old store.new result }
+    ensures clean { SoundHub (S.content store.old) → register.old ≡ register_of (S.content store.old) →
+        StaysClean S.content S.honest S.broken store.old store.new result }
 {
     is_register(register);
-    let row = join.row();
     let verdict = judge_join(alloc, register, join)?;
     let reply = reply_to_act(alloc, told_of_verdict(&verdict))?;
-    let changes = match &verdict {
-        Verdict::Refuse(_) => return Ok(reply),
-        Verdict::Accept(changes) => changes,
-    };
-    let_in(alloc, register, store, row, changes.as_slice())?;
-    Ok(reply)
+    carry_out_join(alloc, register, store, join, &verdict, reply)
 }

@@ -5,21 +5,26 @@ ghost use Rattle.edi_goods.specs.Despatch.{despatch_of};
 ghost use Rattle.edi_goods.specs.Receipt.{receipt_of};
 ghost use Rattle.hub_parties.specs.Rows.{parties_of};
 ghost use Rattle.hub_tables.specs.Tables.{view};
+ghost use Rattle.hub_rules.specs.Laws.{Registered, SoundUnder};
 ghost use Rattle.hub_law.specs.Messages.{order_act, receipt_act, response_act, despatch_act};
 ghost use Rattle.hub_law.specs.Messages.{deliver_retailers, deliver_suppliers};
 ghost use Rattle.hub_law.specs.Requests.{deliver_named};
 ghost use Rattle.hub_transactions.specs.Acts.{FailsWith, NoCause, Stays};
+ghost use Rattle.hub_transactions.specs.Clean.{WithinMessage};
 ghost use Rattle.hub_transactions.specs.Judged.{CannotBeRead, JudgedOfRetailer, JudgedOfSupplier, UnreadOf};
 ghost use Rattle.hub_transactions.specs.Named.{MessageUnclean};
+ghost use Rattle.hub_transactions.specs.StaysClean.{JudgesClean};
 
 use crate::despatches::known_for_despatch;
 use crate::knowing::{known_for_order, known_for_receipt, known_for_response};
+use crate::laws::lines_of_sound_tables_are_known;
 use edi_envelope::{RawMessage, mail_message_text};
 use edi_goods::{Despatch, Receipt};
 use edi_messages::MessageFault;
 use edi_orders::{Order, Response};
 use hub_judges::{
     IncomingMessage, Verdict, judge_despatch, judge_order, judge_receipt, judge_response,
+    judges_are_given_what_they_ask,
 };
 use hub_parties::SupplierRow;
 use hub_register::Register;
@@ -49,6 +54,8 @@ fn judged_order<S: Store>(
     ensures fails { FailsWith S.plain NoCause (CannotBeRead (order_of message.now))
         (S.broken store.old) (S.broken store.new) result }
     ensures stays { Stays S.content S.honest S.left store.old store.new }
+    ensures clean { SoundUnder register.now.suppliers (S.content store.old) → WithinMessage message.now incoming →
+        JudgesClean S.content S.honest S.broken store.old store.new result }
 {
     accepted_changes_fit();
     let order = match Order::read(alloc, message) {
@@ -77,8 +84,11 @@ fn judged_receipt<S: Store>(
     ensures fails { FailsWith S.plain NoCause (CannotBeRead (receipt_of message.now))
         (S.broken store.old) (S.broken store.new) result }
     ensures stays { Stays S.content S.honest S.left store.old store.new }
+    ensures clean { SoundUnder register.now.suppliers (S.content store.old) → WithinMessage message.now incoming →
+        JudgesClean S.content S.honest S.broken store.old store.new result }
 {
     accepted_changes_fit();
+    judges_are_given_what_they_ask();
     let receipt = match Receipt::read(alloc, message) {
         Ok(receipt) => receipt,
         Err(MessageFault::Memory) => return Err(StoreFault::Memory),
@@ -107,8 +117,11 @@ fn judged_response<S: Store>(
         MessageUnclean message.now (view supplier.now.gln (S.content store.old)))
         (CannotBeRead (response_of message.now)) (S.broken store.old) (S.broken store.new) result }
     ensures stays { Stays S.content S.honest S.left store.old store.new }
+    ensures clean { Registered register.now.suppliers supplier.now (S.content store.old) →
+        WithinMessage message.now incoming → JudgesClean S.content S.honest S.broken store.old store.new result }
 {
     accepted_changes_fit();
+    lines_of_sound_tables_are_known();
     let response = match Response::read(alloc, message) {
         Ok(response) => response,
         Err(MessageFault::Memory) => return Err(StoreFault::Memory),
@@ -135,8 +148,11 @@ fn judged_despatch<S: Store>(
         MessageUnclean message.now (view supplier.now.gln (S.content store.old)))
         (CannotBeRead (despatch_of message.now)) (S.broken store.old) (S.broken store.new) result }
     ensures stays { Stays S.content S.honest S.left store.old store.new }
+    ensures clean { Registered register.now.suppliers supplier.now (S.content store.old) →
+        WithinMessage message.now incoming → JudgesClean S.content S.honest S.broken store.old store.new result }
 {
     accepted_changes_fit();
+    lines_of_sound_tables_are_known();
     let despatch = match Despatch::read(alloc, message) {
         Ok(despatch) => despatch,
         Err(MessageFault::Memory) => return Err(StoreFault::Memory),
@@ -161,6 +177,8 @@ pub(crate) fn judged_of_retailer<S: Store>(
     ensures fails { FailsWith S.plain NoCause
         (UnreadOf (deliver_named register.now (message.now, incoming))) (S.broken store.old) (S.broken store.new) result }
     ensures stays { Stays S.content S.honest S.left store.old store.new }
+    ensures clean { SoundUnder register.now.suppliers (S.content store.old) → WithinMessage message.now incoming →
+        JudgesClean S.content S.honest S.broken store.old store.new result }
 {
     let kind = message.kind.as_slice();
     if kind == b"ORDERS".as_slice() {
@@ -188,6 +206,8 @@ pub(crate) fn judged_of_supplier<S: Store>(
         (UnreadOf (deliver_suppliers (view supplier.now.gln) (parties_of register.now) supplier.now
         (message.now, incoming))) (S.broken store.old) (S.broken store.new) result }
     ensures stays { Stays S.content S.honest S.left store.old store.new }
+    ensures clean { Registered register.now.suppliers supplier.now (S.content store.old) →
+        WithinMessage message.now incoming → JudgesClean S.content S.honest S.broken store.old store.new result }
 {
     let kind = message.kind.as_slice();
     if kind == b"ORDRSP".as_slice() {

@@ -1,5 +1,5 @@
 //! What is known of a supplier's rows when a message or a cancellation is judged.
-ghost use Rattle.std.specs.Prelude.{◌≡◌, ◌≢◌, ◌⊎◌, [], ◌∷◌, ◌++◌, length, map, true, None, Err, IfOk, IfErr, OnOk};
+ghost use Rattle.std.specs.Prelude.{◌≡◌, ◌≢◌, ◌⊎◌, [], ◌∷◌, ◌++◌, map, true, None, Err, IfOk, IfErr, OnOk};
 ghost use Rattle.std.specs.List.{AllByRecursion};
 ghost use Rattle.edi_base.specs.Seen.{is_among};
 ghost use Rattle.hub_tables.specs.State.{lines_of, pallet_of};
@@ -200,7 +200,6 @@ fn pallets_of<S: Store>(
         IfOk result (λ pallets.
         map (λ unit. pallet_of (view supplier.now (S.content store.old)) unit.sscc) units.now
         ≡ pallets) }
-    ensures each { IfOk result (λ pallets. length pallets ≡ length units.now) }
     ensures unclean { S.honest store.new → S.broken store.old ≡ None →
         are_clean (S.content store.old) ≡ true → result ≢ Err Unclean }
     ensures fails { FailsWith S.plain NoCause any_answer (S.broken store.old) (S.broken store.new) result }
@@ -226,7 +225,6 @@ pub(crate) fn known_for_receipt<S: Store>(
     ensures told { S.honest store.new → Kept (view supplier.now (S.content store.old)) →
         IfOk result (λ known. TellsForReceipt known incoming.now receipt.now
         (view supplier.now (S.content store.old))) }
-    ensures each { IfOk result (λ known. length known.pallets ≡ length receipt.now.units) }
     ensures unclean { S.honest store.new → S.broken store.old ≡ None →
         are_clean (S.content store.old) ≡ true → result ≢ Err Unclean }
     ensures fails { FailsWith S.plain NoCause no_answer (S.broken store.old) (S.broken store.new) result }

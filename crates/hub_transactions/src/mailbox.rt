@@ -10,6 +10,7 @@ ghost use Rattle.hub_law.specs.Mark.{Whole};
 ghost use Rattle.hub_law.specs.Replies.{unknown, done, entry_reply};
 ghost use Rattle.hub_law.specs.Requests.{taken};
 ghost use Rattle.hub_transactions.specs.Acts.{Carried, FailsWith, NoCause, Unharmed, Stays, as_told, no_answer};
+ghost use Rattle.hub_transactions.specs.StaysClean.{StaysClean};
 
 use edi_base::{Items, MemoryFault, copied};
 use gs1_ids::Gln;
@@ -107,6 +108,9 @@ pub fn take_entry<S: Store>(
         taken Whole (entry_at (view supplier.now t) number) t) as_told result }
     ensures fails { FailsWith S.plain NoCause no_answer (S.broken store.old) (S.broken store.new) result }
     ensures unharmed { Unharmed S.content S.honest store.old store.new result }
+    ensures clean { (register : RegisterRows) (s : SupplierRow) → s.gln ≡ supplier.now →
+        Registered register.suppliers s (S.content store.old) → PartiesRise (S.content store.old) →
+        StaysClean S.content S.honest S.broken store.old store.new result }
 {
     acts_stay_sound();
     let Some(mut entry) = store.mail_item(supplier, number)? else {

@@ -6,9 +6,11 @@ ghost use Rattle.hub_rules.specs.Laws.{SoundUnder, Registered, PartiesRise};
 ghost use Rattle.hub_law.specs.Messages.{incoming, deliver_suppliers};
 ghost use Rattle.hub_law.specs.Requests.{deliver_named};
 ghost use Rattle.hub_transactions.specs.Acts.{Carried, FailsWith, NoCause, OfAny, Unharmed};
+ghost use Rattle.hub_transactions.specs.Clean.{WithinMessage};
 ghost use Rattle.hub_transactions.specs.Judged.{act_of, JudgedFits};
 ghost use Rattle.hub_transactions.specs.Messages.{AddsLine};
 ghost use Rattle.hub_transactions.specs.Named.{MessageUnclean};
+ghost use Rattle.hub_transactions.specs.StaysClean.{JudgedClean, StaysClean};
 ghost use Rattle.hub_texts.specs.Decision.{told_of};
 
 use crate::carrying::{carry_out_judged, told_of_judged};
@@ -36,6 +38,8 @@ fn commit_and_tell<S: Store>(
         (λ told. (t : Tables) → (act_of judged.now t).0 ≡ told_of told)
         (S.broken store.old) (S.broken store.new) result }
     ensures unharmed { Unharmed S.content S.honest store.old store.new result }
+    ensures clean { JudgedFits judged.now (S.content store.old) → JudgedClean judged.now (S.content store.old) →
+        StaysClean S.content S.honest S.broken store.old store.new result }
     ensures reply { AddsLine message.now reply.old reply.new result }
 {
     let line = message_line(alloc, message, told_of_judged(judged))?;
@@ -65,6 +69,9 @@ pub fn take_retailers_message<S: Store>(
         (OfAny (deliver_named register.now (message.now, incoming moment interchange.now message.now)) told_of)
         (S.broken store.old) (S.broken store.new) result }
     ensures unharmed { Unharmed S.content S.honest store.old store.new result }
+    ensures clean { SoundUnder register.now.suppliers (S.content store.old) → PartiesRise (S.content store.old) →
+        WithinMessage message.now (incoming moment interchange.now message.now) →
+        StaysClean S.content S.honest S.broken store.old store.new result }
     ensures reply { AddsLine message.now reply.old reply.new result }
 {
     let came = incoming_of(alloc, moment, interchange, message)?;
@@ -93,6 +100,10 @@ pub fn take_suppliers_message<S: Store>(
         (OfAny (deliver_suppliers (view supplier.now.gln) (parties_of register.now) supplier.now
         (message.now, incoming moment interchange.now message.now)) told_of) (S.broken store.old) (S.broken store.new) result }
     ensures unharmed { Unharmed S.content S.honest store.old store.new result }
+    ensures clean { Registered register.now.suppliers supplier.now (S.content store.old) →
+        PartiesRise (S.content store.old) →
+        WithinMessage message.now (incoming moment interchange.now message.now) →
+        StaysClean S.content S.honest S.broken store.old store.new result }
     ensures reply { AddsLine message.now reply.old reply.new result }
 {
     let came = incoming_of(alloc, moment, interchange, message)?;

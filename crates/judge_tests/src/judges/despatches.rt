@@ -1,17 +1,16 @@
-ghost use Rattle.std.specs.Prelude.{◌≡◌, false, length, map, IfOk};
-ghost use Rattle.edi_base.specs.Seen.{has_twice};
-
 use super::*;
-use edi_goods::Despatch;
+use edi_goods::{Despatch, Unit};
 use hub_judges::judge_despatch;
 
-// A despatch advice of some units, their lines of an order where they name none; which of the SSCC are used, and what else is
-// known of the supplier; and what comes of it.
+// A despatch advice of some units, their lines of an order where they name none; whether the last unit is given the first one's
+// SSCC by hand, as in no advice that is read; which of the SSCC are used, and what else is known of the supplier; and what comes
+// of it.
 #[derive(Drop)]
 struct DespatchCase {
     name: &'static str,
     order: &'static str,
     units: &'static str,
+    last_as_first: bool,
     used: &'static [bool],
     is_number_known: bool,
     remembered: Option<&'static str>,
@@ -38,11 +37,22 @@ const BETAS_FIRST: &str =
     "CPS+1'GIN+BJ+387123450000000012'LIN+1++4000862141404:SRV'QTY+12:20'CPS+2'GIN+BJ+340123455000000029'\
         LIN+1++4000862141404:SRV'QTY+12:4'RFF+ON:128578'";
 
+// Two units, the first of which takes more than is open.
+const TOO_MUCH_FIRST: &str =
+    "CPS+1'GIN+BJ+340123455000000012'LIN+1++4000862141404:SRV'QTY+12:25'CPS+2'GIN+BJ+340123455000000029'\
+        LIN+1++4000862141404:SRV'QTY+12:4'";
+
+// Three units, which take less than is open.
+const THREE: &str =
+    "CPS+1'GIN+BJ+340123455000000012'LIN+1++4000862141404:SRV'QTY+12:10'CPS+2'GIN+BJ+340123455000000029'\
+        LIN+1++4000862141404:SRV'QTY+12:9'CPS+3'GIN+BJ+340123455000000036'LIN+1++4000862141404:SRV'QTY+12:4'";
+
 // A new advice of all that is open of order 128576.
 const ALL: DespatchCase = DespatchCase {
     name: "two lines take all that is open",
     order: "128576",
     units: ALL_OPEN,
+    last_as_first: false,
     used: &[false],
     is_number_known: false,
     remembered: None,
@@ -56,7 +66,7 @@ set 4012345500004 128576 1 04000862141404 48 0 24 0 Changed
 content 340123455000000012 2 128576 1 4",
 };
 
-static CASES: [DespatchCase; 10] = [
+static CASES: [DespatchCase; 14] = [
     ALL,
     DespatchCase {
         name: "two lines that take more than is open are refused",
@@ -125,6 +135,38 @@ static CASES: [DespatchCase; 10] = [
         want: "B12",
         ..ALL
     },
+    DespatchCase {
+        name: "an SSCC of two units is used at the second, before its lines",
+        units: TWO,
+        last_as_first: true,
+        used: &[false, false],
+        want: "B12",
+        ..ALL
+    },
+    DespatchCase {
+        name: "an SSCC of a first and a third unit is used at the third",
+        units: THREE,
+        last_as_first: true,
+        used: &[false, false, false],
+        want: "B12",
+        ..ALL
+    },
+    DespatchCase {
+        name: "another prefix goes before an SSCC of two units",
+        units: BETAS_FIRST,
+        last_as_first: true,
+        used: &[false, false],
+        want: "B11",
+        ..ALL
+    },
+    DespatchCase {
+        name: "a line of the first unit goes before its SSCC at the second",
+        units: TOO_MUCH_FIRST,
+        last_as_first: true,
+        used: &[false, false],
+        want: "B10",
+        ..ALL
+    },
 ];
 
 fn despatch_message(alloc: Global, case: &DespatchCase) -> Result<RawMessage, Fail> {
@@ -135,17 +177,38 @@ fn despatch_message(alloc: Global, case: &DespatchCase) -> Result<RawMessage, Fa
     message(alloc, segments.as_str())
 }
 
-fn read_despatch(alloc: Global, message: &RawMessage) -> Result<Despatch, Fail>
-    ensures { IfOk result (λ despatch. has_twice (map (λ unit. unit.sscc) despatch.units) ≡ false) }
-{
+fn read_despatch(alloc: Global, message: &RawMessage) -> Result<Despatch, Fail> {
     Ok(Despatch::read(alloc, message)?)
 }
 
-fn despatch(alloc: Global, case: &DespatchCase) -> Result<Despatch, Fail>
-    ensures { IfOk result (λ despatch. has_twice (map (λ unit. unit.sscc) despatch.units) ≡ false) }
-{
+// The units, the last of which has the first one's SSCC.
+fn with_last_as_first(units: Items<Unit>) -> Result<Items<Unit>, Fail> {
+    let mut units = units.into_vec();
+    let sscc = units.first().ok_or("a first unit")?.sscc;
+    let Unit { lines, .. } = units.pop().ok_or("a last unit")?;
+    units.push(Unit { sscc, lines })?;
+    Ok(Items::from_vec(units))
+}
+
+fn despatch(alloc: Global, case: &DespatchCase) -> Result<Despatch, Fail> {
     let message = despatch_message(alloc, case)?;
-    read_despatch(alloc, &message)
+    let read = read_despatch(alloc, &message)?;
+    if !case.last_as_first {
+        return Ok(read);
+    }
+    let Despatch {
+        number,
+        buyer,
+        supplier,
+        units,
+    } = read;
+    let units = with_last_as_first(units)?;
+    Ok(Despatch {
+        number,
+        buyer,
+        supplier,
+        units,
+    })
 }
 
 fn used_of(alloc: Global, case: &DespatchCase) -> Result<Items<bool>, MemoryFault> {
@@ -168,10 +231,7 @@ fn judged(
     setting: Setting,
     known: Known,
     despatch: &Despatch,
-) -> Result<Verdict, Fail>
-    requires each_unit { length known.used ≡ length despatch.now.units }
-    requires apart { has_twice (map (λ unit. unit.sscc) despatch.now.units) ≡ false }
-{
+) -> Result<Verdict, Fail> {
     let Setting {
         retailer,
         row,
@@ -181,21 +241,11 @@ fn judged(
     Ok(judge_despatch(alloc, &retailer, Some(&row), known, delivery, despatch)?)
 }
 
-// What comes of a despatch advice, where a flag is known of each unit.
-fn verdict_on(alloc: Global, known: Known, despatch: &Despatch) -> Result<Verdict, Fail>
-    requires apart { has_twice (map (λ unit. unit.sscc) despatch.now.units) ≡ false }
-{
-    if known.used.as_slice().len() != despatch.units.as_slice().len() {
-        return Err(Fail::new("not a flag for each unit"));
-    }
-    let setting = usual_setting(alloc)?;
-    judged(alloc, setting, known, despatch)
-}
-
 fn verdict(alloc: Global, case: &DespatchCase) -> Result<Verdict, Fail> {
     let despatch = despatch(alloc, case)?;
     let known = known_of(alloc, case)?;
-    verdict_on(alloc, known, &despatch)
+    let setting = usual_setting(alloc)?;
+    judged(alloc, setting, known, &despatch)
 }
 
 #[test]

@@ -1,22 +1,22 @@
-ghost use Rattle.std.specs.Prelude.{◌≡◌, true, false, length, map, IfOk};
-ghost use Rattle.std.specs.List.{list_all};
-ghost use Rattle.edi_base.specs.Seen.{has_twice};
-ghost use Rattle.edi_goods.specs.Receipt.{has_sums};
+ghost use Rattle.std.specs.Prelude.{◌≡◌, ◌++◌, ◌∷◌, [], IfOk};
+ghost use Rattle.std.specs.List.{AllByRecursion};
+ghost use Rattle.hub_judges.specs.Totals.{RowsHold};
 
 use super::*;
-use edi_goods::Receipt;
+use edi_goods::{Receipt, ReceiptUnit};
 use gs1_ids::Sscc;
-use hub_judges::judge_receipt;
+use hub_judges::{judge_receipt, judges_are_given_what_they_ask};
 use hub_tables::{Arrival, Column, PalletRow};
 
-// A receiving advice of two units; how far their pallets have come, where they are there, and what else is known of the
-// supplier; and what comes of it.
+// A receiving advice of two units; whether the second is given the first one's SSCC by hand, as in no advice that is read; how
+// far their pallets have come, where they are there, and what else is known of the supplier; and what comes of it.
 #[derive(Drop)]
 struct ReceiptCase {
     name: &'static str,
     parties: &'static str,
     // BGM 1225: 9 an original, 5 one that replaces.
     function: &'static str,
+    is_one_pallet: bool,
     is_registered: bool,
     remembered: Option<&'static str>,
     mails: u64,
@@ -39,6 +39,7 @@ const BOTH: ReceiptCase = ReceiptCase {
     name: "an advice receives each pallet with the sums of its items",
     parties: "NAD+BY+5412345000013::9'NAD+SU+4012345500004::9'",
     function: "9",
+    is_one_pallet: false,
     is_registered: true,
     remembered: None,
     mails: 2,
@@ -73,7 +74,7 @@ receipt 340123455000000029 04000862141404 0 12 0",
     ..BOTH
 };
 
-static CASES: [ReceiptCase; 17] = [
+static CASES: [ReceiptCase; 20] = [
     BOTH,
     REPLACING,
     ReceiptCase {
@@ -170,6 +171,35 @@ static CASES: [ReceiptCase; 17] = [
         want: "B02",
         ..BOTH
     },
+    ReceiptCase {
+        name: "a pallet of two units is received at the second",
+        is_one_pallet: true,
+        want: "B15",
+        ..BOTH
+    },
+    ReceiptCase {
+        name: "a pallet of two units that is not there is not received",
+        is_one_pallet: true,
+        pallets: [None, None],
+        want: "B14",
+        ..BOTH
+    },
+    ReceiptCase {
+        name: "of a pallet of two units the second's sums take the place of the first's",
+        is_one_pallet: true,
+        pallets: [RECEIVED, RECEIVED],
+        want: "accepted
+remember 4012345500004 Retailer 1001/7 said
+mail 4012345500004 3 1748942400 44 Receipt G1 body false
+set 340123455000000012 4012345500004 DA1 Replaced
+clear 340123455000000012
+receipt 340123455000000012 04000862141404 10 1 2
+receipt 340123455000000012 04000862141411 3 0 0
+set 340123455000000012 4012345500004 DA1 Replaced
+clear 340123455000000012
+receipt 340123455000000012 04000862141404 0 12 0",
+        ..REPLACING
+    },
 ];
 
 fn receipt_message(alloc: Global, function: &str, parties: &str) -> Result<RawMessage, Fail> {
@@ -180,19 +210,69 @@ fn receipt_message(alloc: Global, function: &str, parties: &str) -> Result<RawMe
 }
 
 fn read_receipt(alloc: Global, message: &RawMessage) -> Result<Receipt, Fail>
-    ensures apart { IfOk result (λ receipt. has_twice (map (λ unit. unit.sscc) receipt.units) ≡ false) }
-    ensures sums { IfOk result (λ receipt. list_all (λ unit. has_sums unit.lines) receipt.units ≡ true) }
+    ensures { IfOk result (λ receipt. AllByRecursion (λ unit. RowsHold unit.lines) receipt.units) }
 {
+    judges_are_given_what_they_ask();
     Ok(Receipt::read(alloc, message)?)
 }
 
-// The receiving advice of both units, with this function and these parties.
-fn receipt(alloc: Global, function: &str, parties: &str) -> Result<Receipt, Fail>
-    ensures apart { IfOk result (λ receipt. has_twice (map (λ unit. unit.sscc) receipt.units) ≡ false) }
-    ensures sums { IfOk result (λ receipt. list_all (λ unit. has_sums unit.lines) receipt.units ≡ true) }
+fn take_last(units: &mut Vec<ReceiptUnit>) -> Result<ReceiptUnit, Fail>
+    ensures { IfOk result (λ unit. units.old.items ≡ units.new.items ++ unit ∷ []) }
 {
-    let message = receipt_message(alloc, function, parties)?;
-    read_receipt(alloc, &message)
+    match units.pop() {
+        Some(unit) => Ok(unit),
+        None => Err(Fail::new("one more unit")),
+    }
+}
+
+// The last two units, the second of which has the first one's SSCC.
+fn of_one_pallet(alloc: Global, units: Items<ReceiptUnit>) -> Result<Items<ReceiptUnit>, Fail>
+    requires { AllByRecursion (λ unit. RowsHold unit.lines) units }
+    ensures { IfOk result (AllByRecursion (λ unit. RowsHold unit.lines)) }
+{
+    let mut units = units.into_vec();
+    let second = take_last(&mut units)?;
+    let first = take_last(&mut units)?;
+    let sscc = first.sscc;
+    let lines = second.lines;
+    let mut both = Items::new(alloc);
+    both.push(first)?;
+    both.push(ReceiptUnit { sscc, lines })?;
+    Ok(both)
+}
+
+fn with_units_of_one_pallet(alloc: Global, receipt: Receipt) -> Result<Receipt, Fail>
+    requires { AllByRecursion (λ unit. RowsHold unit.lines) receipt.units }
+    ensures { IfOk result (λ receipt. AllByRecursion (λ unit. RowsHold unit.lines) receipt.units) }
+{
+    let Receipt {
+        number,
+        buyer,
+        supplier,
+        replaces,
+        units,
+    } = receipt;
+    let units = of_one_pallet(alloc, units)?;
+    Ok(Receipt {
+        number,
+        buyer,
+        supplier,
+        replaces,
+        units,
+    })
+}
+
+// The receiving advice of both units, with the function and the parties of the case.
+fn receipt(alloc: Global, case: &ReceiptCase) -> Result<Receipt, Fail>
+    ensures { IfOk result (λ receipt. AllByRecursion (λ unit. RowsHold unit.lines) receipt.units) }
+{
+    let message = receipt_message(alloc, case.function, case.parties)?;
+    let receipt = read_receipt(alloc, &message)?;
+    if case.is_one_pallet {
+        with_units_of_one_pallet(alloc, receipt)
+    } else {
+        Ok(receipt)
+    }
 }
 
 fn pallet_there(alloc: Global, sscc: &[u8], arrival: Arrival) -> Result<PalletRow, Fail> {
@@ -217,20 +297,23 @@ fn push_pallets(
     pallets: &mut Items<Option<PalletRow>>,
     alloc: Global,
     arrivals: [Option<Arrival>; 2],
+    second_sscc: &[u8],
 ) -> Result<(), Fail> {
     let [first, second] = arrivals;
     pallets.push(pallet(alloc, b"340123455000000012", first)?)?;
-    pallets.push(pallet(alloc, b"340123455000000029", second)?)?;
+    pallets.push(pallet(alloc, second_sscc, second)?)?;
     Ok(())
 }
 
 // The pallets of both units.
-fn pallets(
-    alloc: Global,
-    arrivals: [Option<Arrival>; 2],
-) -> Result<Items<Option<PalletRow>>, Fail> {
+fn pallets(alloc: Global, case: &ReceiptCase) -> Result<Items<Option<PalletRow>>, Fail> {
     let mut pallets = Items::new(alloc);
-    push_pallets(&mut pallets, alloc, arrivals)?;
+    let second_sscc = if case.is_one_pallet {
+        b"340123455000000012"
+    } else {
+        b"340123455000000029"
+    };
+    push_pallets(&mut pallets, alloc, case.pallets, second_sscc)?;
     Ok(pallets)
 }
 
@@ -242,9 +325,7 @@ fn judged(
     known: &Known,
     receipt: &Receipt,
 ) -> Result<Verdict, Fail>
-    requires each_unit { length known.now.pallets ≡ length receipt.now.units }
-    requires apart { has_twice (map (λ unit. unit.sscc) receipt.now.units) ≡ false }
-    requires sums { list_all (λ unit. has_sums unit.lines) receipt.now.units ≡ true }
+    requires { AllByRecursion (λ unit. RowsHold unit.lines) receipt.now.units }
 {
     let Setting {
         retailer,
@@ -256,25 +337,8 @@ fn judged(
     Ok(judge_receipt(alloc, &retailer, supplier, known, delivery, body, receipt)?)
 }
 
-// What comes of a receiving advice, where a pallet is known of each unit, or that there is none.
-fn verdict_on(
-    alloc: Global,
-    is_registered: bool,
-    known: &Known,
-    receipt: &Receipt,
-) -> Result<Verdict, Fail>
-    requires apart { has_twice (map (λ unit. unit.sscc) receipt.now.units) ≡ false }
-    requires sums { list_all (λ unit. has_sums unit.lines) receipt.now.units ≡ true }
-{
-    if known.pallets.as_slice().len() != receipt.units.as_slice().len() {
-        return Err(Fail::new("not a pallet for each unit"));
-    }
-    let setting = usual_setting(alloc)?;
-    judged(alloc, setting, is_registered, known, receipt)
-}
-
 fn known_of(alloc: Global, case: &ReceiptCase) -> Result<Known, Fail> {
-    let pallets = pallets(alloc, case.pallets)?;
+    let pallets = pallets(alloc, case)?;
     let mut known = known(alloc, [BEFORE, WAITING, BEHIND], case.remembered)?;
     known.mails = case.mails;
     known.pallets = pallets;
@@ -283,8 +347,9 @@ fn known_of(alloc: Global, case: &ReceiptCase) -> Result<Known, Fail> {
 
 fn verdict(alloc: Global, case: &ReceiptCase) -> Result<Verdict, Fail> {
     let known = known_of(alloc, case)?;
-    let receipt = receipt(alloc, case.function, case.parties)?;
-    verdict_on(alloc, case.is_registered, &known, &receipt)
+    let receipt = receipt(alloc, case)?;
+    let setting = usual_setting(alloc)?;
+    judged(alloc, setting, case.is_registered, &known, &receipt)
 }
 
 #[test]

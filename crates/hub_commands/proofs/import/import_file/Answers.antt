@@ -3,7 +3,7 @@ use Rattle.std.proofs.Common.{◌≡◌, ℕ, List, refl, ap, inr, string_bytes}
 use Rattle.hub_core.specs.Steps.{input_of}
 use Rattle.hub_requests.specs.declared.request.Request.TheVariants.{Upload}
 use Rattle.hub_commands.specs.Import.{Answered, Unprinted, file_line}
-use Rattle.hub_commands.proofs.OneFile.{is_called, bytes_of, of_read, did_upload, of_fault, of_opened, fault_given, of_unread, nothing_done}
+use Rattle.hub_commands.proofs.OneFile.{is_called, bytes_of, of_read, did_upload, of_fault, fault_given, of_unread, nothing_done}
 use Rattle.hub_commands.proofs.OneFile.{ended, answered, unread, lost_at_once}
 use Rattle.hub_commands.proofs.Output.{written_as, lost_as}
 use Rattle.hub_commands.proofs.Running.{StepsTo}
@@ -45,9 +45,7 @@ returns-in-Ok-clause-looks_at g c =
     }
 
 pub returns-in-Ok-clause-held : goal.returns-in-Ok-clause-held
-returns-in-Ok-clause-held g c =
-    of_opened g.B.Source.remaining (HasFailed g.B.Source.origin g.B.Source.failed) c.in-Named.file.source c.in-Ok.upload
-    c.step_opened-reply.ensures.held c.in-Ok.ensures.opens
+returns-in-Ok-clause-held g c = c.step_opened-reply.ensures.held
 
 pub returns-clause-looks_at : goal.returns-clause-looks_at
 returns-clause-looks_at g c =

@@ -1,12 +1,14 @@
 use Rattle.std.proofs.Common.{◌≡◌, IfOk, refl, subst}
 use Rattle.hub_tables.specs.State.{entry_at}
 use Rattle.hub_tables.specs.Tables.{view}
+use Rattle.hub_law.specs.Mark.{Whole}
 use Rattle.hub_law.specs.Replies.{entry_reply}
+use Rattle.hub_law.specs.Requests.{taken}
 use Rattle.hub_requests.specs.declared.reply.Reply.{Reply}
-use Rattle.hub_requests.specs.declared.request.Request.TheVariants.{MailItem}
+use Rattle.hub_requests.specs.declared.request.Request.TheVariants.{MailItem, MailTaken}
 use Rattle.hub_core.specs.Callers.{request_of}
 use Rattle.hub_core.specs.declared.caller.Caller.TheVariants.{Supplier}
-use Rattle.hub_core.proofs.Asking.{by_look}
+use Rattle.hub_core.proofs.Asking.{by_look, by_act}
 use Rattle.hub_core.proofs.Breaking.{by_call}
 use Rattle.hub_core.proofs.requests.asked_by_supplier.Goals as goal
 
@@ -47,3 +49,13 @@ pub returns-in-Status-clause-breaks : goal.returns-in-Status-clause-breaks
 returns-in-Status-clause-breaks g c =
     by_call g.S.Store.plain (request_of c.args.register.now (Supplier c.args.supplier) c.args.moment c.args.request.now)
     (g.S.Store.broken c.args.store.now) _ _ _ c.status_report.ensures.fails
+
+pub returns-in-MailTaken-clause-asked : goal.returns-in-MailTaken-clause-asked
+returns-in-MailTaken-clause-asked g c may =
+    let register = c.args.register.now in
+    let s = c.args.supplier.now in
+    let number = c.in-MailTaken.number in
+    rw c.in-MailTaken.is (by_act g.S.Store.content g.S.Store.honest g.S.Store.left c.args.store.now c.take_entry.new.store 1
+    (request_of register (Supplier c.args.supplier) c.args.moment (MailTaken number))
+    (λ t. taken Whole (entry_at (view s.gln t) number) t)
+    c.take_entry.result refl (λ t. refl) (c.take_entry.ensures.carried register s refl may.0 may.1) c.take_entry.ensures.unharmed)

@@ -8,6 +8,7 @@ use Rattle.hub_core.specs.Broken.{Breaks, RunBreaks, does_input}
 use Rattle.hub_core.specs.Steps.{IsNoJoin, Stepped, Ran, input_of}
 use Rattle.hub_core.proofs.Breaking.{run_more, run_none, moved, moved_one}
 use Rattle.hub_core.proofs.Steps.{ran_none, ran_more, all_at}
+use Rattle.hub_core.proofs.CleanRuns.{ran_clean}
 use Rattle.hub_core.proofs.step.run.Goals as goal
 
 pub loop-input-preserved : goal.loop-input-preserved
@@ -109,3 +110,9 @@ returns-clause-breaks g c =
     (subst (λ (rs : List Reply). RunBreaks g.S.Store.plain c.loop-input.register (g.S.Store.broken c.args.store.now)
     (g.S.Store.broken c.loop-input.store) (take c.loop-input.input-index c.args.inputs.now) rs)
     (sym c.from_vec.ensures) c.loop-input.invariant.breaks)
+
+pub returns-clause-clean : goal.returns-clause-clean
+returns-clause-clean g c = λ honest here clean all.
+    ran_clean (g.S.Store.content c.args.store.now) (g.S.Store.content c.loop-input.store)
+    (g.S.Store.left c.args.store.now) (g.S.Store.left c.loop-input.store) c.args.inputs.now c.from_vec.result
+    (returns-clause-ran g c honest here) here.sound clean all

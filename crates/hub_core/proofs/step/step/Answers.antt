@@ -7,6 +7,7 @@ use Rattle.hub_transactions.proofs.Joins.{keeps_all}
 use Rattle.hub_core.proofs.Steps.{replied, unanswered, asked_with}
 use Rattle.hub_core.specs.Broken.{does_input}
 use Rattle.hub_core.proofs.Breaking.{replied_breaks}
+use Rattle.hub_core.proofs.CleanRuns.{stepped_clean}
 use Rattle.hub_core.proofs.step.step.Goals as goal
 
 pub returns-in_default-clause-stepped : goal.returns-in_default-clause-stepped
@@ -63,3 +64,10 @@ returns-clause-keeps g c =
     rows_kept c.args.request.now c.args.register.now c.answer-answered.new.register
     (does_input c.args.register.now (input_of c.args.moment c.args.caller.now c.args.key.now c.args.request.now))
     c.replied.result (returns-clause-joined g c) c.answer-answered.ensures.same
+
+pub returns-clause-clean : goal.returns-clause-clean
+returns-clause-clean g c = λ honest here clean within.
+    stepped_clean (g.S.Store.content c.args.store.now) (g.S.Store.content c.answer-answered.new.store)
+    (g.S.Store.left c.args.store.now) (g.S.Store.left c.answer-answered.new.store)
+    (input_of c.args.moment c.args.caller.now c.args.key.now c.args.request.now) c.replied.result
+    (returns-clause-stepped g c honest here) here.sound clean within

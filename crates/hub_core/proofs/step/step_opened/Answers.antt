@@ -1,5 +1,4 @@
 use Rattle.std.proofs.Common.{ap, inl, inr, refl, ◌∙◌}
-use Rattle.hub_core.proofs.Keeping.{no_join, still_held}
 use Rattle.hub_law.specs.Replies.{reply}
 use Rattle.hub_requests.specs.declared.reply.Outcome.TheVariants.{Stopped}
 use Rattle.hub_requests.specs.declared.request.Request.TheVariants.{Upload}
@@ -7,6 +6,7 @@ use Rattle.hub_core.specs.Steps.{input_of}
 use Rattle.hub_core.proofs.Steps.{replied, unanswered, asked_with, where_err}
 use Rattle.hub_core.specs.Broken.{does_input}
 use Rattle.hub_core.proofs.Breaking.{replied_breaks}
+use Rattle.hub_core.proofs.CleanRuns.{stepped_clean}
 use Rattle.hub_core.proofs.step.step_opened.Goals as goal
 
 pub returns-in_default-clause-stepped : goal.returns-in_default-clause-stepped
@@ -27,9 +27,7 @@ returns-clause-stepped g c bytes opens honest here =
     c.answer_opened-answered.result here (c.answer_opened-answered.ensures.asked bytes opens here))
 
 pub returns-clause-held : goal.returns-clause-held
-returns-clause-held g c bytes opens honest here =
-    let s = returns-clause-stepped g c bytes opens honest here in
-    record { sound = s.sound; held = still_held here s (no_join bytes) }
+returns-clause-held g c honest here = c.answer_opened-answered.ensures.held honest here
 
 pub returns-clause-ran_out : goal.returns-clause-ran_out
 returns-clause-ran_out g c out =
@@ -49,3 +47,10 @@ returns-clause-breaks g c bytes opens =
     (g.S.Store.broken c.args.store.now) (g.S.Store.broken c.answer_opened-answered.new.store) c.answer_opened-answered.result
     c.in-Ok.stopped c.replied.result c.replied.ensures.ok c.replied.ensures.err
     (c.answer_opened-answered.ensures.breaks bytes opens)
+
+pub returns-clause-clean : goal.returns-clause-clean
+returns-clause-clean g c bytes opens = λ honest here clean within.
+    stepped_clean (g.S.Store.content c.args.store.now) (g.S.Store.content c.answer_opened-answered.new.store)
+    (g.S.Store.left c.args.store.now) (g.S.Store.left c.answer_opened-answered.new.store)
+    (input_of c.args.moment c.args.caller.now c.args.key.now (Upload bytes)) c.replied.result
+    (returns-clause-stepped g c bytes opens honest here) here.sound clean within

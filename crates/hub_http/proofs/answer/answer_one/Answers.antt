@@ -3,7 +3,7 @@ use Rattle.http_messages.specs.Head.{longest_head}
 use Rattle.hub_http.specs.Answer.{AnswersOrFails, Steps, size_asked}
 use Rattle.hub_http.specs.Asked.{asked_by, longest_body}
 use Rattle.hub_http.specs.declared.refusal.Refusal.TheVariants.{BadRequest}
-use Rattle.hub_http.proofs.Bounds.{asked_short, both_taken, taken_within}
+use Rattle.hub_http.proofs.Bounds.{asked_short, body_within, both_taken, taken_within}
 use Rattle.hub_http.proofs.Serving.{cut_behind, on_err, serves_none, serves_some}
 use Rattle.hub_http.proofs.answer.answer_one.Goals as goal
 
@@ -12,7 +12,8 @@ returns-in-Some-clause-answered g c =
     let found = c.in_ok-head.ensures.head in
     serves_some (Steps g.S.Store.content g.S.Store.honest g.S.Store.left c.args.moment c.args.hub.now c.answer_head.new.hub)
     (c.answer_head.new.hub ≡ c.args.hub.now) c.args.hub.now.0 _ _ _ c.in-Some.head c.answer_head.result
-    (rw c.in-Some.is at found) c.in_ok-head.ensures.limit c.answer_head.ensures.front c.answer_head.ensures.answers
+    (rw c.in-Some.is at found) c.in_ok-head.ensures.limit
+    (body_within (size_asked (asked_by c.args.hub.now.0 c.in-Some.head)) _ _ _ c.answer_head.ensures.front) c.answer_head.ensures.answers
 
 pub returns-in-Some-clause-front : goal.returns-in-Some-clause-front
 returns-in-Some-clause-front g c =
@@ -20,14 +21,14 @@ returns-in-Some-clause-front g c =
     taken_within _ _ (longest_head + size_asked (asked_by c.args.hub.now.0 c.in-Some.head)) (longest_head + longest_body)
     (omega (arith, short))
     (both_taken _ _ _ longest_head (size_asked (asked_by c.args.hub.now.0 c.in-Some.head)) c.in_ok-head.ensures.limit
-    c.answer_head.ensures.front)
+    (body_within (size_asked (asked_by c.args.hub.now.0 c.in-Some.head)) _ _ _ c.answer_head.ensures.front))
 
 pub returns-in-Some-clause-cut : goal.returns-in-Some-clause-cut
 returns-in-Some-clause-cut g c =
     let found = c.in_ok-head.ensures.head in
     on_err c.answer_head.result
     (cut_behind c.args.hub.now.0 _ _ _ c.in-Some.head (rw c.in-Some.is at found) c.in_ok-head.ensures.limit
-    c.answer_head.ensures.front)
+    (body_within (size_asked (asked_by c.args.hub.now.0 c.in-Some.head)) _ _ _ c.answer_head.ensures.front))
 
 pub returns-in-None-clause-answered : goal.returns-in-None-clause-answered
 returns-in-None-clause-answered g c =

@@ -7,7 +7,7 @@ returns-clause-asked g c bytes opens =
 pub returns-clause-stays : goal.returns-clause-stays
 returns-clause-stays g c bytes opens =
     let reply = c.step_opened-reply.ensures in record {
-      held = reply.held bytes opens;
+      held = reply.held;
       register = reply.register;
       was_honest = reply.was_honest;
     }

@@ -15,7 +15,7 @@ returns c used state told =
     let known = c.args.known in
     let s = c.in-Ok.row.now in
     let judged = despatch_alike s used known despatch (apply_all (first_of s sides.Supplier incoming) state) told.number
-    told.used_told told.used_there told.orders told.lines c.requires.apart in
+    told.used_told told.used_there told.orders told.lines in
     let whole = judged_message c.args.retailer.now (option_copied c.args.supplier) sides.Supplier incoming despatch.buyer
     despatch.supplier (λ s. judge_new_despatch s used despatch) s state c.as_slice.result.now
     (despatch_from s despatch known) c.in-Ok.ensures.ok c.as_slice.ensures (λ fresh.

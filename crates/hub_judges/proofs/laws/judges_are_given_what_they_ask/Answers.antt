@@ -1,5 +1,6 @@
-use Rattle.edi_goods.proofs.Read.{receipt_apart, receipt_sums, despatch_apart}
+use Rattle.edi_goods.proofs.Read.{receipt_sums}
 use Rattle.hub_judges.proofs.Given.{seen_rise, seen_covered, seen_step_up, seen_rows_covered}
+use Rattle.hub_judges.proofs.Holding.{units_hold}
 use Rattle.hub_judges.proofs.laws.judges_are_given_what_they_ask.Goals as goal
 
 pub returns-clause-rise : goal.returns-clause-rise
@@ -14,11 +15,5 @@ returns-clause-steps c suppliers gln t test sound = seen_step_up suppliers gln t
 pub returns-clause-rows_covered : goal.returns-clause-rows_covered
 returns-clause-rows_covered c suppliers gln t test sound = seen_rows_covered suppliers gln t test sound
 
-pub returns-clause-despatch : goal.returns-clause-despatch
-returns-clause-despatch c message despatch h = despatch_apart message despatch h
-
-pub returns-clause-receipt : goal.returns-clause-receipt
-returns-clause-receipt c message receipt h = receipt_apart message receipt h
-
 pub returns-clause-sums : goal.returns-clause-sums
-returns-clause-sums c message receipt h = receipt_sums message receipt h
+returns-clause-sums c message receipt h = units_hold receipt.units (receipt_sums message receipt h)

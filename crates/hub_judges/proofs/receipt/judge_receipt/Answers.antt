@@ -12,7 +12,7 @@ use Rattle.hub_rules.specs.ReceiptRules.{judge_new_receipt}
 use Rattle.hub_rules.specs.RepeatRules.{remembered, once, judge_once}
 use Rattle.hub_rules.specs.Rules.{referred_by}
 use Rattle.hub_rules.specs.declared.verdict.Verdict.{Verdict}
-use Rattle.hub_judges.specs.FromFacts.{receipts_from}
+use Rattle.hub_judges.specs.FromFacts.{no_sscc, receipts_from}
 use Rattle.hub_judges.proofs.Received.{new_receipt_alike}
 use Rattle.hub_judges.proofs.receipt.judge_receipt.Goals as goal
 
@@ -30,14 +30,15 @@ returns c =
     c.in_ok-changes.ensures
     ∙ ap (λ number. memory ∷ mail_entry s.gln (known.mails + 1) incoming kinds.Receipt number body ∷ []) c.as_slice-number.ensures in
     IfOk-weaker c.judge_units.result (λ verdict.
-    verdict ≡ joined c.in_ok-changes.changes (receipts_from receipt.replaces c.as_slice-units.result.now c.as_slice-pallets.result.now)) _
+    verdict ≡ joined c.in_ok-changes.changes
+    (receipts_from receipt.replaces no_sscc c.as_slice-units.result.now c.as_slice-pallets.result.now)) _
     (λ verdict judged state told.
     let row = remembered_of state sides.Retailer incoming.control incoming.message in
     let fresh : Verdict = joined (memory ∷ []) (judge_new_receipt s.gln incoming body receipt (apply memory state)) in
     judged
-    ∙ ap (λ all. joined all (receipts_from receipt.replaces c.as_slice-units.result.now c.as_slice-pallets.result.now)) changes
+    ∙ ap (λ all. joined all (receipts_from receipt.replaces no_sscc c.as_slice-units.result.now c.as_slice-pallets.result.now)) changes
     ∙ ap₂ (λ units pallets. joined (memory ∷ entry ∷ [])
-    (receipts_from receipt.replaces units pallets)) c.as_slice-units.ensures c.as_slice-pallets.ensures
+    (receipts_from receipt.replaces no_sscc units pallets)) c.as_slice-units.ensures c.as_slice-pallets.ensures
     ∙ sym (
     c.in-Ok.ensures.ok (λ s.
     judge_once (referred_by s sides.Retailer incoming) incoming.content (judge_new_receipt s.gln incoming body receipt)
@@ -45,7 +46,7 @@ returns c =
     ∙ ap (λ content. once row content fresh) (sym c.as_slice.ensures)
     ∙ c.in_default.ensures.none row fresh told.remembered
     ∙ new_receipt_alike memory s.gln incoming body receipt (apply memory state) known.mails known.pallets
-    (sym c.is_full.ensures.value ∙ c.if-is_full.false) told.mails told.pallets c.requires.apart
+    (sym c.is_full.ensures.value ∙ c.if-is_full.false) told.mails told.pallets
     )) c.judge_units.ensures
 
 pub remembered_and_mailed-requires : goal.remembered_and_mailed-requires

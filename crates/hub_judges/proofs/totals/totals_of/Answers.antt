@@ -14,7 +14,7 @@ with_line-total-requires c =
     let line = c.line-item.result in
     let old : Option Total = get (slice_cmp nat_cmp) c.loop-line.totals line.gtin in
     let fit = subst (λ before. Fits before line) (sym c.total_so_far-before.ensures)
-    (fits c.args.lines.now c.loop-line.line-index line c.loop-line-test.true c.line-item.is old c.requires
+    (fits c.args.lines.now c.loop-line.line-index line c.loop-line-test.true c.line-item.is old (c.requires line.gtin)
     (c.loop-line.invariant line.gtin)) in
     record { accepted = fit.accepted; returned = fit.returned; destroyed = fit.destroyed }
 

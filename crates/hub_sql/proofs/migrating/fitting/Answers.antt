@@ -8,7 +8,7 @@ pub returns-in-Ok-true-clause-hub : goal.returns-in-Ok-true-clause-hub
 returns-in-Ok-true-clause-hub g c clean =
     let old = state g.S.Store c.args.conn in
     let new = state g.S.Store c.fits.new.conn in
-    let looks = c.in-Ok-true.ensures.looks in
+    let looks = c.in-Ok-true.ensures.looks.looks in
     let shown = looks.same clean in
     let early = clean_before old new _ looks.crash clean in
     same_old_hub old new shown.2 (record {

@@ -1,7 +1,10 @@
-use Rattle.std.proofs.Common.{inl, inr, sym, ◌∙◌}
+use Rattle.std.proofs.Common.{inl, inr, refl, sym, subst, ◌∙◌}
+use Rattle.hub_schema.specs.Rows.{traffic_in}
+use Rattle.hub_sql.specs.Opening.{StaysShut}
 use Rattle.sqlite.specs.Held.{state}
 use Rattle.hub_sql.specs.declared.version.Version.TheVariants.{First}
-use Rattle.hub_sql.proofs.Migrated.{migrates, refused_anew, refused_old, refused_version}
+use Rattle.hub_sql.proofs.Adopted.{stays_shut}
+use Rattle.hub_sql.proofs.Migrated.{migrates, refused_anew, refused_old, refused_version, same_fault}
 use Rattle.hub_sql.proofs.Sparing.{IsAnew, spared_before}
 use Rattle.hub_sql.proofs.migrating.migrated.Given as given
 use Rattle.hub_sql.proofs.migrating.migrated.Goals as goal
@@ -10,12 +13,25 @@ use Rattle.hub_sql.proofs.migrating.migrated.Goals.{After-beside}
 pub returns-in-Err-clause-refuses : goal.returns-in-Err-clause-refuses
 returns-in-Err-clause-refuses g c =
     refused_version c.requires.tables c.in-Err.ensures.refuses c.in-Err.ensures.other c.in-Err.ensures.unclean
-    c.in-Err.ensures.spared
+    c.in-Err.ensures.disk c.in-Err.ensures.spared
 
 pub returns-in-Err-reopened-clause-refuses : goal.returns-in-Err-reopened-clause-refuses
 returns-in-Err-reopened-clause-refuses g c =
     refused_old c.in-Ok.ensures.schema
     (elim c.in-Err-reopened.ensures.fails [ inl memory ↦ inr (inl cc) | inr disk ↦ inr (inr cc) ])
+    (λ none clean.
+    none (traffic_in (state g.S.Store c.args.conn).committed.trees)
+    (inr ((c.in-Ok.ensures.holds (c.in-Err-reopened.ensures.spared.clean clean)).0, refl)))
+    (λ first lacks rows memory. tt)
+    (λ why is. (
+      c.in-Ok.ensures.schema,
+      λ clean.
+          let was = state g.S.Store c.args.conn in
+          let early = c.in-Err-reopened.ensures.spared.clean clean in
+          subst (StaysShut g.S.Store was First c.in-Err-reopened.store) (same_fault c.in-Err-reopened.fault why is)
+          (stays_shut g.S.Store was (state g.S.Store c.in-Ok.conn) First c.in-Err-reopened.store c.in-Err-reopened.fault
+          (c.in-Ok.ensures.holds early).1.committed (c.in-Ok.ensures.counted early).faults (c.in-Err-reopened.ensures.shut clean)),
+    ))
     (λ is. absurd cc)
     (spared_before g.S.Store (state g.S.Store c.args.conn) c.in-Ok.conn c.in-Err-reopened.store
     (λ clean. (c.in-Ok.ensures.holds clean).1) c.in-Ok.ensures.clean c.in-Err-reopened.ensures.spared)
@@ -36,7 +52,8 @@ anew g c = record {
 pub returns-in-Err-beside-clause-refuses : goal.returns-in-Err-beside-clause-refuses
 returns-in-Err-beside-clause-refuses g c =
     refused_anew (anew g (goal.at.returns-in-Err-beside-clause-refuses g c).After-beside) c.args.register.now
-    c.in-Err-beside.ensures.fails c.in-Err-beside.ensures.none c.in-Err-beside.ensures.spared
+    c.in-Err-beside.ensures.fails c.in-Err-beside.ensures.known c.in-Err-beside.ensures.unfit c.in-Err-beside.ensures.none
+    c.in-Err-beside.ensures.spared
 
 pub returns-in-Ok-beside-clause-founds : goal.returns-in-Ok-beside-clause-founds
 returns-in-Ok-beside-clause-founds g c =
@@ -44,4 +61,6 @@ returns-in-Ok-beside-clause-founds g c =
     migrates (anew g (goal.at.returns-in-Ok-beside-clause-founds g c).After-beside) register
     c.in-Ok-beside.ensures.holds.whole c.in-Ok-beside.ensures.fits c.in-Ok-beside.ensures.holds.rows_are
     (λ t. c.rows_beside_stay.ensures.holds register t c.in-Ok-beside.ensures.register)
+    (λ suppliers t hubs keys prefixes.
+    c.migrated_tables_are_sound.ensures register suppliers t c.in-Ok-beside.ensures.register hubs keys prefixes)
     c.in-Ok-beside.ensures.holds.crash c.in-Ok-beside.ensures.holds.clean

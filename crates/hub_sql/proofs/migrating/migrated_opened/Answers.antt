@@ -9,7 +9,7 @@ use Rattle.hub_sql.proofs.migrating.migrated_opened.Goals.{After-beside}
 pub returns-in-Err-clause-refuses : goal.returns-in-Err-clause-refuses
 returns-in-Err-clause-refuses g c =
     refused_version c.requires.tables c.in-Err.ensures.refuses c.in-Err.ensures.other c.in-Err.ensures.unclean
-    c.in-Err.ensures.spared
+    c.in-Err.ensures.disk c.in-Err.ensures.spared
 
 anew : (g : given.Over) (c : After-beside g)
     → IsAnew g.S.Store First (state g.S.Store c.args.conn) c.in-Ok.conn c.in-Ok.conn
@@ -21,7 +21,8 @@ anew g c =
 pub returns-in-Err-beside-clause-refuses : goal.returns-in-Err-beside-clause-refuses
 returns-in-Err-beside-clause-refuses g c =
     refused_anew (anew g (goal.at.returns-in-Err-beside-clause-refuses g c).After-beside) c.args.register.now
-    c.in-Err-beside.ensures.fails c.in-Err-beside.ensures.none c.in-Err-beside.ensures.spared
+    c.in-Err-beside.ensures.fails c.in-Err-beside.ensures.known c.in-Err-beside.ensures.unfit c.in-Err-beside.ensures.none
+    c.in-Err-beside.ensures.spared
 
 pub beside-requires-clause-shaped : goal.beside-requires-clause-shaped
 beside-requires-clause-shaped g c clean =
@@ -34,4 +35,6 @@ returns-in-Ok-beside-clause-founds g c =
     migrates (anew g (goal.at.returns-in-Ok-beside-clause-founds g c).After-beside) register
     c.in-Ok-beside.ensures.holds.whole c.in-Ok-beside.ensures.fits c.in-Ok-beside.ensures.holds.rows_are
     (λ t. c.rows_beside_stay.ensures.holds register t c.in-Ok-beside.ensures.register)
+    (λ suppliers t hubs keys prefixes.
+    c.migrated_tables_are_sound.ensures register suppliers t c.in-Ok-beside.ensures.register hubs keys prefixes)
     c.in-Ok-beside.ensures.holds.crash c.in-Ok-beside.ensures.holds.clean

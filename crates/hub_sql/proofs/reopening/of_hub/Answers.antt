@@ -1,6 +1,6 @@
 use Rattle.sqlite.specs.Held.{state}
 use Rattle.hub_sql.specs.declared.version.Version.TheVariants.{Second}
-use Rattle.hub_sql.proofs.Adopted.{held_before, held_neither}
+use Rattle.hub_sql.proofs.Adopted.{cause_passed, counted_on, held_before, held_neither}
 use Rattle.hub_sql.proofs.Sparing.{spared_through}
 use Rattle.hub_sql.proofs.reopening.of_hub.Goals as goal
 
@@ -30,3 +30,17 @@ returns-in-Ok-of_version-clause-ready g c clean ready =
     let third = c.in-Err-default-Version in
     let second = c.in-Ok-of_version in
     second.ensures.ready clean (third.ensures.stays third.field-0-1-is (second.ensures.clean clean) ready)
+
+pub returns-in-Err-of_version-clause-disk : goal.returns-in-Err-of_version-clause-disk
+returns-in-Err-of_version-clause-disk g c is clean =
+    let third = c.in-Err-default-Version in
+    let second = c.in-Err-of_version in
+    cause_passed (state g.S.Store c.args.conn) (state g.S.Store third.conn) (state g.S.Store second.conn)
+    (third.ensures.counts third.field-0-1-is (second.ensures.spared.clean clean)) (second.ensures.disk is clean)
+
+pub returns-in-Ok-of_version-clause-counted : goal.returns-in-Ok-of_version-clause-counted
+returns-in-Ok-of_version-clause-counted g c clean =
+    let third = c.in-Err-default-Version in
+    let second = c.in-Ok-of_version in
+    counted_on (state g.S.Store c.args.conn) (state g.S.Store third.conn) (state g.S.Store second.conn)
+    (third.ensures.counts third.field-0-1-is (second.ensures.clean clean)) (second.ensures.counted clean)

@@ -1,6 +1,8 @@
-use Rattle.std.proofs.Common.{◌≡◌, sym, subst, ap, ◌∙◌}
+use Rattle.std.proofs.Common.{rules, ◌≡◌, Err, sym, subst, ap, ◌∙◌}
 use Rattle.hub_parties.specs.Rows.{supplier_row}
+use Rattle.hub_tables.specs.State.{lines_of}
 use Rattle.hub_tables.specs.Tables.{Tables, view}
+use Rattle.hub_order_lines.specs.KnownLines.{AreUnclean}
 use Rattle.hub_rules.specs.Rules.{judge_cancel}
 use Rattle.hub_law.specs.CancelText.{cancel_text}
 use Rattle.hub_law.specs.Mark.{Whole}
@@ -10,6 +12,8 @@ use Rattle.hub_law.specs.Told.{act}
 use Rattle.hub_requests.specs.declared.reply.Reply.{Reply}
 use Rattle.hub_transactions.specs.Acts.{as_told}
 use Rattle.hub_transactions.specs.Judged.{VerdictFits}
+use Rattle.hub_transactions.specs.StaysClean.{VerdictClean}
+use Rattle.hub_transactions.proofs.CleanActs.{clean_after_looking, failed_stays, cancel_clean}
 use Rattle.hub_transactions.proofs.Fitted.{named_fits}
 use Rattle.hub_transactions.proofs.Afterwards.{after_looking}
 use Rattle.hub_transactions.proofs.cancel.take_cancel.Goals as goal
@@ -38,3 +42,39 @@ returns-clause-carried g c = λ hub rise.
     (λ s here changes accepted. c.accepted_changes_fit.ensures.cancel register.suppliers s t (cancel_text cancel) cancel changes
     here rise accepted)))
     c.commit_and_reply.result c.commit_and_reply.ensures.carried
+
+pub returns-clause-clean : goal.returns-clause-clean
+returns-clause-clean g c = λ hub rise within.
+    let register = c.args.register.now in
+    let cancel = c.args.cancel.now in
+    let t = g.S.Store.content c.args.store.now in
+    let state = view cancel.supplier t in
+    let supplier = c.supplier-supplier.ensures.value in
+    let content = c.in_ok-content.ensures in
+    let verdict : g.S.Store.honest c.known_for_cancel.new.store →
+    c.in_ok-verdict.verdict ≡ judge_cancel (supplier_row register.suppliers cancel.supplier) (cancel_text cancel) cancel state =
+    λ honest. c.in_ok-verdict.ensures state (c.in_ok-known.ensures.told honest)
+    ∙ (λ i. judge_cancel (supplier i) (content i) cancel state) in
+    clean_after_looking g.S.Store.content g.S.Store.honest g.S.Store.left g.S.Store.broken c.args.store.now
+    c.known_for_cancel.new.store c.commit_and_reply.new.store
+    c.in_ok-known.ensures.stays c.commit_and_reply.ensures.unharmed.was_honest c.in_ok-known.ensures.fails.after
+    (VerdictFits c.in_ok-verdict.verdict) (VerdictClean c.in_ok-verdict.verdict)
+    (λ honest. subst (λ verdict. VerdictFits verdict t) (sym (verdict honest)) (named_fits register.suppliers cancel.supplier t
+    (λ supplier. judge_cancel supplier (cancel_text cancel) cancel) hub tt
+    (λ s here changes accepted. c.accepted_changes_fit.ensures.cancel register.suppliers s t (cancel_text cancel) cancel changes
+    here rise accepted)))
+    (λ honest clean. subst (λ verdict. VerdictClean verdict t) (sym (verdict honest))
+    (cancel_clean register t cancel c.supplier-supplier.ensures.register hub within clean))
+    c.commit_and_reply.result c.commit_and_reply.ensures.clean
+
+pub returns-in_err-known-clause-clean : goal.returns-in_err-known-clause-clean
+returns-in_err-known-clause-clean g c = λ hub rise within.
+    let register = c.args.register.now in
+    let cancel = c.args.cancel.now in
+    let t = g.S.Store.content c.args.store.now in
+    let fault = c.in_err-known.field-0.0 in
+    let is : c.from_residual-in_err-known.result ≡ Err fault = search rules in
+    failed_stays g.S.Store.content g.S.Store.honest g.S.Store.broken c.args.store.now c.known_for_cancel.new.store
+    (AreUnclean (lines_of (view cancel.supplier t) cancel.order))
+    (c.lines_of_sound_tables_are_known.ensures.order register.suppliers cancel.supplier cancel.order t hub.sound)
+    fault c.in_err-known.ensures.unclean c.from_residual-in_err-known.result is c.in_err-known.ensures.stays.content_stays

@@ -1,4 +1,4 @@
-use Rattle.std.proofs.Common.{◌≡◌, ◌++◌, length, map, drop}
+use Rattle.std.proofs.Common.{◌≡◌, ◌++◌, map, drop}
 use Rattle.hub_tables.specs.Tables.{has_pallet}
 use Rattle.hub_transactions.specs.Acts.{Stays}
 use Rattle.hub_transactions.proofs.despatches.used_of.Given as goal
@@ -7,7 +7,6 @@ abbrev pub invariant-loop-unit : goal.invariant-loop-unit
 invariant-loop-unit g l = record {
   stays : Stays g.S.Store.content g.S.Store.honest g.S.Store.left l.fn.store l.store;
   broken : g.S.Store.broken l.store ≡ g.S.Store.broken l.fn.store;
-  each : length l.used ≡ l.unit-index;
   found : g.S.Store.honest l.store →
       l.used ++ map (λ unit. has_pallet (g.S.Store.content l.fn.store) unit.sscc) (drop l.unit-index l.units)
       ≡ map (λ unit. has_pallet (g.S.Store.content l.fn.store) unit.sscc) l.units;

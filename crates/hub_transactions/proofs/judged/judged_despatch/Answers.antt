@@ -1,10 +1,13 @@
-use Rattle.std.proofs.Common.{Some, sym, subst, ap, ◌∙◌}
+use Rattle.std.proofs.Common.{rules, ◌≡◌, Some, Err, sym, subst, ap, ◌∙◌}
 use Rattle.hub_rules.specs.Rules.{judge_despatch}
 use Rattle.hub_rules.specs.declared.verdict.Verdict.{Verdict}
 use Rattle.hub_tables.specs.Tables.{view, has_pallet}
 use Rattle.hub_law.specs.Told.{read_act}
 use Rattle.edi_goods.specs.declared.despatch.Despatch.{Despatch}
 use Rattle.hub_transactions.specs.Judged.{VerdictFits}
+use Rattle.hub_transactions.specs.Named.{NamedUnclean}
+use Rattle.hub_transactions.specs.StaysClean.{VerdictClean}
+use Rattle.hub_transactions.proofs.CleanActs.{failed_clean, despatch_clean}
 use Rattle.hub_transactions.proofs.Fitted.{verdict_fits}
 use Rattle.hub_transactions.proofs.Reading.{act_of_read}
 use Rattle.hub_transactions.proofs.judged.judged_despatch.Goals as goal
@@ -34,3 +37,31 @@ returns-clause-judged g c = record {
       c.accepted_changes_fit.ensures.despatch c.args.register.now.suppliers s t c.args.register.now.retailer (has_pallet t) c.args.incoming
       despatch changes here rise accepted));
 }
+
+pub returns-clause-clean : goal.returns-clause-clean
+returns-clause-clean g c = λ here within. record {
+  never = λ honest none clean is. cc;
+  leaves = λ honest clean.
+      let register = c.args.register.now in
+      let s = c.args.supplier.now in
+      let t = g.S.Store.content c.args.store.now in
+      let despatch = c.in-Ok.despatch in
+      let told = c.in_ok-known.ensures.told honest (here.sound.kept s.gln) in
+      let verdict = c.in_ok-verdict.ensures (has_pallet t) (view s.gln t) told
+      ∙ ap (λ gln. judge_despatch gln (Some s) (has_pallet t) c.args.incoming despatch (view s.gln t)) c.retailer-retailer.ensures.value in
+      subst (λ verdict. VerdictClean verdict t) (sym verdict) (despatch_clean register c.retailer-retailer.ensures.register t clean
+      c.args.message.now c.args.incoming within s here despatch c.in-Ok.ensures.ok);
+}
+
+pub returns-in_err-known-clause-clean : goal.returns-in_err-known-clause-clean
+returns-in_err-known-clause-clean g c = λ here within.
+    let suppliers = c.args.register.now.suppliers in
+    let s = c.args.supplier.now in
+    let t = g.S.Store.content c.args.store.now in
+    let despatch = c.in-Ok.despatch in
+    let fault = c.in_err-known.field-0.0 in
+    let is : c.from_residual.result ≡ Err fault = search rules in
+    failed_clean g.S.Store.content g.S.Store.honest g.S.Store.broken c.args.store.now c.known_for_despatch.new.store
+    (NamedUnclean despatch.units (view s.gln t))
+    (c.lines_of_sound_tables_are_known.ensures.named suppliers s.gln t despatch.units here.sound)
+    fault c.in_err-known.ensures.unclean c.from_residual.result is

@@ -13,6 +13,8 @@ use Rattle.hub_law.specs.Told.{read_act}
 use Rattle.edi_orders.specs.declared.order.Order.{Order}
 use Rattle.edi_orders.proofs.Read.{order_apart}
 use Rattle.hub_transactions.specs.Judged.{VerdictFits}
+use Rattle.hub_transactions.specs.StaysClean.{VerdictClean}
+use Rattle.hub_transactions.proofs.CleanActs.{order_clean}
 use Rattle.hub_transactions.proofs.Fitted.{named_fits, refused_fits}
 use Rattle.hub_transactions.proofs.Reading.{order_names, act_of_read}
 use Rattle.hub_transactions.proofs.judged.judged_order.Goals as goal
@@ -53,4 +55,22 @@ returns-clause-judged g c = record {
       (refused_fits (is_other_buyer c.args.register.now.retailer (Some order.buyer)) codes.Buyer codes.Supplier t)
       (λ s here changes accepted. c.accepted_changes_fit.ensures.order suppliers s t c.args.register.now.retailer
       c.args.incoming (body_of message) order changes here rise (order_apart message order c.in-Ok.ensures.ok) accepted));
+}
+
+pub returns-clause-clean : goal.returns-clause-clean
+returns-clause-clean g c = λ here within. record {
+  never = λ honest none clean is. cc;
+  leaves = λ honest clean.
+      let register = c.args.register.now in
+      let message = c.args.message.now in
+      let t = g.S.Store.content c.args.store.now in
+      let order = c.in-Ok.order in
+      let told = c.in_ok-known.ensures.told honest (here.sound.kept order.supplier) in
+      let retailer = c.retailer-retailer.ensures.value in
+      let supplier = c.supplier-supplier.ensures.value in
+      let body = c.in_ok-body.ensures in
+      let verdict = c.in_ok-verdict.ensures (view order.supplier t) told
+      ∙ (λ i. judge_order (retailer i) (supplier i) c.args.incoming (body i) order (view order.supplier t)) in
+      subst (λ verdict. VerdictClean verdict t) (sym verdict) (order_clean register c.supplier-supplier.ensures.register t clean
+      message c.args.incoming within order c.in-Ok.ensures.ok here);
 }

@@ -12,6 +12,8 @@ use Rattle.hub_law.specs.Messages.{named, body_of}
 use Rattle.hub_law.specs.Told.{read_act}
 use Rattle.edi_goods.specs.declared.receipt.Receipt.{Receipt}
 use Rattle.hub_transactions.specs.Judged.{VerdictFits}
+use Rattle.hub_transactions.specs.StaysClean.{VerdictClean}
+use Rattle.hub_transactions.proofs.CleanActs.{receipt_clean}
 use Rattle.hub_transactions.proofs.Fitted.{named_fits, refused_fits}
 use Rattle.hub_transactions.proofs.Reading.{receipt_names, act_of_read}
 use Rattle.hub_transactions.proofs.judged.judged_receipt.Goals as goal
@@ -52,4 +54,26 @@ returns-clause-judged g c = record {
       (refused_fits (is_other_buyer c.args.register.now.retailer receipt.buyer) codes.Buyer codes.Supplier t)
       (λ s here changes accepted. c.accepted_changes_fit.ensures.receipt suppliers s t c.args.register.now.retailer
       c.args.incoming (body_of message) receipt changes here rise accepted));
+}
+
+pub judge_receipt-requires : goal.judge_receipt-requires
+judge_receipt-requires g c =
+    c.judges_are_given_what_they_ask.ensures.sums c.args.message.now c.in-Ok.receipt c.in-Ok.ensures.ok
+
+pub returns-clause-clean : goal.returns-clause-clean
+returns-clause-clean g c = λ here within. record {
+  never = λ honest none clean is. cc;
+  leaves = λ honest clean.
+      let register = c.args.register.now in
+      let message = c.args.message.now in
+      let t = g.S.Store.content c.args.store.now in
+      let receipt = c.in-Ok.receipt in
+      let told = c.in_ok-known.ensures.told honest (here.sound.kept receipt.supplier) in
+      let retailer = c.retailer-retailer.ensures.value in
+      let supplier = c.supplier-supplier.ensures.value in
+      let body = c.in_ok-body.ensures in
+      let verdict = c.in_ok-verdict.ensures (view receipt.supplier t) told
+      ∙ (λ i. judge_receipt (retailer i) (supplier i) c.args.incoming (body i) receipt (view receipt.supplier t)) in
+      subst (λ verdict. VerdictClean verdict t) (sym verdict) (receipt_clean register c.supplier-supplier.ensures.register t clean
+      message c.args.incoming within receipt c.in-Ok.ensures.ok here);
 }

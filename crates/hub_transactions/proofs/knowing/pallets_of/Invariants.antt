@@ -1,4 +1,4 @@
-use Rattle.std.proofs.Common.{◌≡◌, ◌++◌, length, map, drop}
+use Rattle.std.proofs.Common.{◌≡◌, ◌++◌, map, drop}
 use Rattle.hub_tables.specs.State.{pallet_of}
 use Rattle.hub_tables.specs.Tables.{view}
 use Rattle.hub_transactions.specs.Acts.{Stays}
@@ -8,7 +8,6 @@ abbrev pub invariant-loop-unit : goal.invariant-loop-unit
 invariant-loop-unit g l = record {
   stays : Stays g.S.Store.content g.S.Store.honest g.S.Store.left l.fn.store l.store;
   broken : g.S.Store.broken l.store ≡ g.S.Store.broken l.fn.store;
-  each : length l.pallets ≡ l.unit-index;
   found : g.S.Store.honest l.store →
       l.pallets ++ map (λ unit. pallet_of (view l.supplier (g.S.Store.content l.fn.store)) unit.sscc) (drop l.unit-index l.units)
       ≡ map (λ unit. pallet_of (view l.supplier (g.S.Store.content l.fn.store)) unit.sscc) l.units;

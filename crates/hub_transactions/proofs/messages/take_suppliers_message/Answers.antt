@@ -1,4 +1,4 @@
-use Rattle.std.proofs.Common.{Ok, sym, subst, ap, ◌∙◌}
+use Rattle.std.proofs.Common.{rules, ◌≡◌, Ok, Err, sym, subst, ap, ◌∙◌}
 use Rattle.hub_rules.specs.declared.incoming.IncomingMessage.{IncomingMessage}
 use Rattle.hub_parties.specs.Rows.{parties_of}
 use Rattle.hub_tables.specs.Tables.{view}
@@ -6,7 +6,10 @@ use Rattle.hub_law.specs.Messages.{incoming, deliver_suppliers}
 use Rattle.hub_texts.specs.Decision.{told_of}
 use Rattle.hub_transactions.specs.Acts.{FailsWith}
 use Rattle.hub_transactions.specs.Named.{MessageUnclean}
+use Rattle.hub_transactions.specs.Clean.{WithinMessage}
 use Rattle.hub_transactions.specs.Judged.{act_of, JudgedFits, UnreadOf}
+use Rattle.hub_transactions.specs.StaysClean.{JudgedClean}
+use Rattle.hub_transactions.proofs.CleanActs.{clean_after_looking, failed_stays}
 use Rattle.hub_transactions.proofs.Afterwards.{after_looking}
 use Rattle.hub_transactions.proofs.Failing.{after_judging}
 use Rattle.hub_transactions.proofs.messages.take_suppliers_message.Goals as goal
@@ -47,3 +50,24 @@ returns-clause-fails g c =
     (UnreadOf (deliver_suppliers (view s.gln) (parties_of register) s (message, one))) old middle (Ok judged))
     c.in_ok-came.ensures c.in_ok-judged.ensures.fails)
     c.commit_and_tell.ensures.fails
+
+pub returns-clause-clean : goal.returns-clause-clean
+returns-clause-clean g c = λ here rise within.
+    let message = c.args.message.now in
+    clean_after_looking g.S.Store.content g.S.Store.honest g.S.Store.left g.S.Store.broken c.args.store.now
+    c.judged_of_supplier.new.store c.commit_and_tell.new.store
+    c.in_ok-judged.ensures.stays c.commit_and_tell.ensures.unharmed.was_honest c.in_ok-judged.ensures.fails.after
+    (JudgedFits c.in_ok-judged.judged) (JudgedClean c.in_ok-judged.judged)
+    (λ honest. c.in_ok-judged.ensures.judged.fit honest here rise)
+    (λ honest clean. (c.in_ok-judged.ensures.clean here
+    (subst (WithinMessage message) (sym c.in_ok-came.ensures) within)).leaves honest clean)
+    c.commit_and_tell.result c.commit_and_tell.ensures.clean
+
+pub returns-in_err-judged-clause-clean : goal.returns-in_err-judged-clause-clean
+returns-in_err-judged-clause-clean g c = λ here rise within.
+    let message = c.args.message.now in
+    let fault = c.in_err-judged.field-0.0 in
+    let is : c.from_residual-in_err-judged.result ≡ Err fault = search rules in
+    failed_stays g.S.Store.content g.S.Store.honest g.S.Store.broken c.args.store.now c.judged_of_supplier.new.store ⊥ (λ no. no) fault
+    (c.in_err-judged.ensures.clean here (subst (WithinMessage message) (sym c.in_ok-came.ensures) within)).never
+    c.from_residual-in_err-judged.result is c.in_err-judged.ensures.stays.content_stays

@@ -1,4 +1,5 @@
-use Rattle.std.proofs.Common.{subst, sym}
+use Rattle.std.proofs.Common.{◌≡◌, true, subst, sym}
+use Rattle.hub_store.specs.Clean.{are_clean}
 use Rattle.hub_requests.specs.declared.request.Request.TheVariants.{Upload}
 use Rattle.hub_core.specs.Broken.{Breaks, does_input}
 use Rattle.hub_core.specs.Steps.{SoundWith, input_of}
@@ -13,6 +14,12 @@ returns-clause-breaks g c bytes opens =
     (c.step_opened.ensures.breaks bytes opens)
 
 pub returns-clause-held : goal.returns-clause-held
-returns-clause-held g c bytes opens honest here =
-    c.step_opened.ensures.held bytes opens honest
+returns-clause-held g c honest here =
+    c.step_opened.ensures.held honest
     (subst (λ hub. SoundWith hub.0 (g.S.Store.content hub.1)) (sym c.self.view_is) here)
+
+pub returns-clause-clean : goal.returns-clause-clean
+returns-clause-clean g c bytes opens = λ honest here clean within.
+    c.step_opened.ensures.clean bytes opens honest
+    (subst (λ hub. SoundWith hub.0 (g.S.Store.content hub.1)) (sym c.self.view_is) here)
+    (subst (λ hub. are_clean (g.S.Store.content hub.1) ≡ true) (sym c.self.view_is) clean) within

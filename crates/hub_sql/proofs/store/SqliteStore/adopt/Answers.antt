@@ -1,6 +1,6 @@
 use Rattle.std.proofs.Common.{inl, inr, sym, ◌∙◌}
 use Rattle.sqlite.specs.Held.{state}
-use Rattle.hub_sql.proofs.Adopted.{adopted, hub_shaped, refused_anew, refused_later, refused_version}
+use Rattle.hub_sql.proofs.Adopted.{adopted, holds_hub, hub_shaped, refused_anew, refused_later, refused_version, stays_shut}
 use Rattle.hub_sql.proofs.Sparing.{IsAnew, spared_before}
 use Rattle.hub_sql.proofs.store.SqliteStore.adopt.Given as given
 use Rattle.hub_sql.proofs.store.SqliteStore.adopt.Goals as goal
@@ -8,13 +8,29 @@ use Rattle.hub_sql.proofs.store.SqliteStore.adopt.Goals.{After-taken}
 
 pub returns-in-Err-clause-refuses : goal.returns-in-Err-clause-refuses
 returns-in-Err-clause-refuses g c =
-    refused_version c.in-Err.ensures.refuses c.in-Err.ensures.other c.in-Err.ensures.unclean c.in-Err.ensures.spared
+    refused_version c.in-Err.ensures.refuses c.in-Err.ensures.other c.in-Err.ensures.unclean c.in-Err.ensures.disk c.in-Err.ensures.spared
 
 pub returns-in-Err-reopened-clause-refuses : goal.returns-in-Err-reopened-clause-refuses
 returns-in-Err-reopened-clause-refuses g c =
     refused_later c.in-Ok.ensures.schema
     (λ is. absurd (elim c.in-Err-reopened.ensures.fails [ inl memory ↦ cc | inr disk ↦ cc ]))
-    (λ is. absurd (elim c.in-Err-reopened.ensures.fails [ inl memory ↦ cc | inr disk ↦ cc ]))
+    (λ none clean.
+    none (holds_hub c.in-Ok.version (state g.S.Store c.args.conn).now c.in-Ok.ensures.later
+    (c.in-Ok.ensures.holds (c.in-Err-reopened.ensures.spared.clean clean)).0))
+    (λ is. absurd (elim c.in-Err-reopened.ensures.fails [ inl memory ↦ cc | inr disk ↦ cc ])) (
+      c.in-Ok.version,
+      (
+        c.in-Ok.ensures.later,
+        (
+          c.in-Ok.ensures.known,
+          λ clean.
+              let early = c.in-Err-reopened.ensures.spared.clean clean in
+              stays_shut g.S.Store (state g.S.Store c.args.conn) (state g.S.Store c.in-Ok.conn) c.in-Ok.version c.in-Err-reopened.store
+              c.in-Err-reopened.fault (c.in-Ok.ensures.holds early).1.committed (c.in-Ok.ensures.counted early).faults
+              (c.in-Err-reopened.ensures.shut clean),
+        ),
+      ),
+    )
     (spared_before g.S.Store (state g.S.Store c.args.conn) c.in-Ok.conn c.in-Err-reopened.store
     (λ clean. (c.in-Ok.ensures.holds clean).1) c.in-Ok.ensures.clean c.in-Err-reopened.ensures.spared)
 
@@ -34,7 +50,7 @@ anew g c = record {
 pub returns-in-Err-taken-clause-refuses : goal.returns-in-Err-taken-clause-refuses
 returns-in-Err-taken-clause-refuses g c =
     refused_anew (anew g (goal.at.returns-in-Err-taken-clause-refuses g c).After-taken) c.in-Ok.ensures.later
-    c.in-Err-taken.ensures.not_version c.in-Err-taken.ensures.unclean c.in-Err-taken.ensures.spared
+    c.in-Err-taken.ensures.not_version c.in-Err-taken.ensures.known c.in-Err-taken.ensures.unclean c.in-Err-taken.ensures.spared
 
 pub taken-requires-clause-ordered : goal.taken-requires-clause-ordered
 taken-requires-clause-ordered g c clean =

@@ -7,7 +7,7 @@ use Rattle.hub_sql.proofs.store.SqliteStore.adopt_opened.Goals.{After-taken}
 
 pub returns-in-Err-clause-refuses : goal.returns-in-Err-clause-refuses
 returns-in-Err-clause-refuses g c =
-    refused_version c.in-Err.ensures.refuses c.in-Err.ensures.other c.in-Err.ensures.unclean c.in-Err.ensures.spared
+    refused_version c.in-Err.ensures.refuses c.in-Err.ensures.other c.in-Err.ensures.unclean c.in-Err.ensures.disk c.in-Err.ensures.spared
 
 anew : (g : given.Over) (c : After-taken g)
     → IsAnew g.S.Store c.in-Ok.version (state g.S.Store c.args.conn) c.in-Ok.conn c.in-Ok.conn
@@ -19,7 +19,7 @@ anew g c =
 pub returns-in-Err-taken-clause-refuses : goal.returns-in-Err-taken-clause-refuses
 returns-in-Err-taken-clause-refuses g c =
     refused_anew (anew g (goal.at.returns-in-Err-taken-clause-refuses g c).After-taken) c.in-Ok.ensures.later
-    c.in-Err-taken.ensures.not_version c.in-Err-taken.ensures.unclean c.in-Err-taken.ensures.spared
+    c.in-Err-taken.ensures.not_version c.in-Err-taken.ensures.known c.in-Err-taken.ensures.unclean c.in-Err-taken.ensures.spared
 
 pub taken-requires-clause-ordered : goal.taken-requires-clause-ordered
 taken-requires-clause-ordered g c clean =
