@@ -62,7 +62,7 @@ try:
 	@echo "make try: this run proves nothing" >&2
 	cd crates/edirelay && rt try -- $(EXAMPLE) < ../../examples/orders.edi
 
-# Cases of `edihub` without any proof, of one group or those with some words in their names: make case OF=orders WORDS=QTY
+# Cases of `edihub` or `trial_script` without any proof, of one group or those with some words in their names: make case OF=orders WORDS=QTY
 case:
 	python3 -m tests.unproved $(OF) $(WORDS)
 

@@ -26,16 +26,20 @@ from tests.harness.first_order import ORDERS
 from tests.harness.http_texts import PHRASES, asking, response
 from tests.harness.hub_scripts import SECOND, SPELLED
 from tests.harness.hub_steps import MOMENT, found as found_hub, over
-from tests.harness.random_inputs import upload_of
+from tests.harness.random_inputs import NUMBERS, counted, upload_of
 from tests.harness.register_texts import ALPHA, BETA, HUB, RETAILER
 from tests.harness.servers import Server, exit_of, limit, lines_of
 
 BATCH = 120
 # bytes of address space: a program that asks for more is refused it. The program by itself has the first, with the open store of a
-# batch the second, and to that so many times its largest input
-ROOM, ROOM_OF_STORE, TEXTS = 6 << 20, 14 << 20, 4
-# how long a command may take by the clock, beside other work, and how much processor time a command or a server of small inputs may take
-SECONDS, PROCESSOR_SECONDS = 20, 1
+# batch the second, and to that so many times its largest input: each empty element of a text is a list by itself, so that a text of
+# nothing but separators takes tens of bytes for each of its own
+ROOM, ROOM_OF_STORE, TEXTS = 6 << 20, 14 << 20, 40
+# how long a command may take by the clock, beside other work, and how much processor time a command or a server may take, of small inputs
+# and for each megabyte of its inputs
+SECONDS, PROCESSOR_SECONDS, OF_MEGABYTE = 60, 1, 2
+# what says that memory gave out or that the store failed: with ample memory, and a disk that works, neither may come
+STOPPED, NO_MEMORY = re.compile(rb"^stopped$", re.MULTILINE), re.compile(rb"^(store )?memory$", re.MULTILINE)
 TABLES = ("order", "line", "advice", "pallet", "content", "receipt", "remembered", "mail", "hub", "supplier", "prefix")
 # what any of the hub's replies to an upload is
 LINE = re.compile(rb"[ -~]{1,14} [ -~]{1,6} (accepted|repeated|refused [BM]\d\d)")
@@ -111,18 +115,6 @@ def changed_segments(draw, text):
     return counted(text) if draw.random() < 0.7 else text
 
 
-def counted(text):
-    """The counts of UNT as the segments are, so that what is behind the envelope is reached."""
-    parts, begun = text.split("'"), 0
-    for place, part in enumerate(parts):
-        if part.startswith("UNH"):
-            begun = place
-        elif part.startswith("UNT+"):
-            rest = part.split("+", 2)[2:]
-            parts[place] = "+".join(["UNT", str(place - begun + 1), *rest])
-    return "'".join(parts)
-
-
 def an_upload(draw):
     """Who uploads, and bytes: most of them of no right interchange."""
     who, text = upload_of(draw)
@@ -151,6 +143,11 @@ def largest_of(texts):
     return TEXTS * max(map(len, texts))
 
 
+def time_of(texts):
+    """The seconds of processor time that are allowed for all of these inputs."""
+    return PROCESSOR_SECONDS + (OF_MEGABYTE * sum(map(len, texts)) >> 20)
+
+
 def some_prefixes(draw):
     """Prefixes of few digits, so that some begin others; now and then such as no supplier can have."""
     made = ["".join(draw.choice("01") for _ in range(draw.choice((4, 5, 6, 7, 8, 12)))) for _ in range(draw.choice((1, 1, 2, 3, 8)))]
@@ -172,13 +169,15 @@ class Fuzz:
     def ran(self, words, cwd, data=b"", texts=()):
         """What a command prints: its status, and its output and error. The texts are files that it reads."""
         room = (ROOM_OF_STORE if "--db" in words else ROOM) + largest_of([data, *texts])
-        limits = lambda: limit(room, PROCESSOR_SECONDS)
+        limits = lambda: limit(room, time_of([data, *texts]))
         try:
             ran = subprocess.run([self.program, *words], input=data, capture_output=True, cwd=cwd, timeout=SECONDS, preexec_fn=limits)
         except subprocess.TimeoutExpired as late:
             raise Found("no end", words) from late
         if ran.returncode not in (0, 1, 2, 3):
             raise Found(f"ended with {ran.returncode}", words, data, ran.stderr)
+        if STOPPED.search(ran.stdout) and "--db" in words or NO_MEMORY.search(ran.stderr):
+            raise Found("stopped with ample memory", words, data, ran.stdout, ran.stderr)
         return ran.returncode, ran.stdout, ran.stderr
 
     # interchanges by folders
@@ -277,7 +276,8 @@ class Fuzz:
         if one < 0.5:
             data = asking("POST", f"/p/{who}/interchanges", who, text)
         elif one < 0.7:
-            lines = [draw.choice((ALPHA, BETA, "x")), f"C{draw.randrange(4)}", str(draw.randrange(4)), "1", str(draw.randrange(12))]
+            quantity = draw.choice((*range(12), 999_999_999))
+            lines = [draw.choice((ALPHA, BETA, "x")), f"C{draw.randrange(4)}", draw.choice(NUMBERS), "1", str(quantity)]
             data = asking("POST", f"/p/{RETAILER}/cancellations", RETAILER, "\n".join(lines).encode() + b"\n")
         else:
             path = draw.choice(
@@ -297,11 +297,14 @@ class Fuzz:
         found = re.match(rb"HTTP/1\.1 (\d{3}) ", answer)
         if not found or int(found[1]) not in PHRASES or answer != response(int(found[1]), body):
             raise Found("no response", data, answer)
+        if int(found[1]) == 503:
+            raise Found("stopped with ample memory", data, answer)
         return int(found[1])
 
     def served(self, requests):
         """What is answered to each request, one connection after another, and the rows that there are then."""
-        with Server(self.program, len(requests), room=ROOM_OF_STORE + largest_of(requests), seconds=PROCESSOR_SECONDS) as server:
+        room, seconds = ROOM_OF_STORE + largest_of(requests), time_of(requests)
+        with Server(self.program, len(requests), room=room, seconds=seconds) as server:
             answers = []
             for data in requests:
                 begun = time.monotonic()

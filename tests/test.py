@@ -11,14 +11,15 @@ import resource
 import subprocess
 import sys
 import tempfile
+from concurrent.futures import ThreadPoolExecutor
 
 from tests import schema, untried
-from tests.cases import connections, corrections, hub_commands, hub_files, hub_rules, joins, older_files, without_hub
+from tests.cases import connections, corrections, hub_commands, hub_files, hub_rules, joins, limits, older_files, without_hub
 from tests.harness import processor_time
 from tests.harness.case import SECONDS
 from tests.harness.tree import ROOT
-from tests.trials import disturbed_commands, documents, files_brought_over, held_file, lines_of_status_3, random_runs
-from tests.trials import refused_in_scripts, serving, stopped_machine, stopped_program
+from tests.trials import disturbed_commands, documents, failing_openings, files_brought_over, held_file, lines_of_status_3, random_runs
+from tests.trials import refused_in_scripts, served_limits, serving, stopped_machine, stopped_program
 
 
 def built(crate):
@@ -29,7 +30,7 @@ def built(crate):
 # each program, and its cases
 PROGRAMS = [
     (built("edirelay"), without_hub.RELAY_ALONE),
-    (built("edihub"), without_hub.CASES + hub_commands.COMMANDS + older_files.MIGRATIONS),
+    (built("edihub"), without_hub.CASES + hub_commands.COMMANDS + older_files.MIGRATIONS + limits.LIMITS),
     (
         built("trial_script"),
         hub_rules.HUBS + hub_rules.OVER_SQL + hub_files.FILES + connections.CONNECTIONS + joins.JOINS + corrections.CORRECTIONS,
@@ -40,7 +41,8 @@ PROGRAMS = [
 TRIALS = [
     *(
         (built("edihub"), *trial)
-        for trial in disturbed_commands.TRIALS + files_brought_over.TRIALS + lines_of_status_3.TRIALS + documents.TRIALS + serving.TRIALS
+        for of_file in (disturbed_commands, failing_openings, files_brought_over, lines_of_status_3, documents, serving, served_limits)
+        for trial in of_file.TRIALS
     ),
     (built("trial_script"), "a file that another program holds open", held_file.held_open),
     (built("trial_script"), "made runs", random_runs.made_runs),
@@ -130,19 +132,22 @@ def run(program, case, folder):
 
 
 def program_cases(program, of_program):
-    passed, failed = 0, 0
+    """How many cases of a program passed, and how many failed. They run side by side, each in a folder of its own."""
     if not os.path.isfile(program):
         print(f"{os.path.basename(program)} was not built, so none of its cases was run")
-        return passed, 1
-    for case in of_program:
+        return 0, 1
+
+    def tried(case):
         with tempfile.TemporaryDirectory() as folder:
-            why = run(program, case, folder)
+            return run(program, case, folder)
+
+    with ThreadPoolExecutor(len(os.sched_getaffinity(0))) as pool:
+        whys = list(pool.map(tried, of_program))
+    for case, why in zip(of_program, whys):
         if why:
-            failed += 1
             print(f"case '{case.name}' failed: {why}")
-        else:
-            passed += 1
-    return passed, failed
+    failed = sum(bool(why) for why in whys)
+    return len(whys) - failed, failed
 
 
 def main(words):

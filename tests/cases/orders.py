@@ -1,7 +1,7 @@
 """Cases of `show` on orders (ORDERS) and responses (ORDRSP)."""
 from tests.harness.show_cases import RETAILER, SUPPLIER, Interchange, both, edited, edits, refusal, shown, told
 
-# The most lines of an order in any test: a fault of orders with more lines than some number begins here.
+# The lines of a large order. cases/limits.py has larger ones: a fault of orders with more lines than some number begins with these.
 GREATEST_ORDER = 15_000
 
 # A right order and a right response, from UNH up to where UNT stands.

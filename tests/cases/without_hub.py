@@ -8,20 +8,14 @@ from tests.cases.envelopes import ENVELOPES
 from tests.cases.registers import REGISTERS
 from tests.harness import show_cases
 from tests.harness.case import Case
+from tests.harness.doors import OWNER, mail_text, relay
 from tests.harness.first_order import HEAD, MESSAGE, ORDERS, cut
 from tests.harness.register_texts import ALPHA, GAMMA, HUB, RETAILER, of_prefixes, register
 from tests.harness.tree import EXAMPLES
 
-OWNER = ALPHA
-
-
-def relay(hub=HUB, owner=OWNER, moment="1748942400", number="1"):
-    return ["relay", "--hub", hub, "--owner", owner, "--moment", moment, "--number", number]
-
-
 def mail(number=1, message=MESSAGE, mark="."):
-    """The hub's interchange with the message, in one line."""
-    return f"UNA:+{mark}? 'UNB+UNOC:3+{HUB}:14+{OWNER}:14+250603:0920+{number}'{message}UNZ+1+{number}'"
+    """The hub's interchange with the first order, or with another message."""
+    return mail_text(message, number, mark)
 
 
 def text(it):

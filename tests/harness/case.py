@@ -19,6 +19,8 @@ class Case:
     input_is_folder: bool = False
     # the most memory that the program may have, in bytes
     memory: int = 0
+    # so much work that a program without any proof, which is a hundred times slower, is not asked
+    large: bool = False
     # files in the folder in which the program runs
     files: dict = field(default_factory=dict)
     # what is wrong with that folder afterwards, if anything

@@ -82,7 +82,7 @@ class Play:
 def message(kind, reference, *segments):
     """A message of these segments, counted."""
     body = "".join(it + "'" for it in segments)
-    return f"UNH+{reference}+{kind}'{body}UNT+{body.count(chr(39)) + 2}+{reference}'"
+    return f"UNH+{reference}+{kind}'{body}UNT+{len(segments) + 2}+{reference}'"
 
 
 def interchange(sender, reference, *messages, to=HUB):
@@ -170,8 +170,8 @@ THIRD_MAIL = (
 assert len(FIRST_MAIL) == 249 and sum(len(it) + 1 for it in STATUS) + 4 == 570
 
 
-def line_status(order, answer, ordered, opened, refused, cancelled, despatched):
-    return f"L {order:<35} {1:>6} 04000862141404 {answer} {ordered:>9} {opened:>9} {refused:>9} {cancelled:>9} {despatched:>9}"
+def line_status(order, answer, ordered, opened, refused, cancelled, despatched, line=1, gtin="04000862141404"):
+    return f"L {order:<35} {line:>6} {gtin} {answer} {ordered:>9} {opened:>9} {refused:>9} {cancelled:>9} {despatched:>9}"
 
 
 def article(sscc, gtin, letter, despatched, accepted_, returned, destroyed, difference):

@@ -1,8 +1,15 @@
-/* Loaded before the C library. Where LATE is set, each sync of a file takes so many seconds by the clock, though it takes none. Where NOW
-   is set, so many seconds have passed since 1970. Where PIPE names a file, a pipe stands in its place once the program has written to
-   standard output. Where LISTING is set, a folder cannot be read on behind its first entries; and where ENTRY names a file, a folder does
-   not say what it is, and it cannot be looked at. Where READS names a file, how often standard input was read is written there at the
-   end. */
+/* Loaded before the C library. Each variable that is set changes one answer of the system:
+   LATE     each sync of a file takes this many seconds by the clock, though it takes none
+   NOW      this many seconds have passed since 1970
+   DAYS     beside NOW: a day passes with each connection that is taken
+   TICKS    beside NOW: a day passes each time the program asks for the date
+   ACCEPT   the first connection cannot be taken, with this number of an error
+   PIPE     a pipe takes the place of this file once the program has written to standard output
+   GONE     this file is deleted once the program has written to standard output
+   LOOKED   this file is deleted once the program has then looked at it
+   LISTING  a folder cannot be read on behind its first entries
+   ENTRY    a folder does not say what this entry is, and it cannot be looked at
+   READS    how often standard input was read, and how often its end was found, are written to this file at the end */
 #define _GNU_SOURCE
 #include <dirent.h>
 #include <errno.h>
@@ -30,21 +37,47 @@ int fdatasync(int fd) {
     return late(syscall(SYS_fdatasync, fd));
 }
 
+static long taken;
+
+/* How many days have passed since the program began. */
+static long days(void) {
+    static long asked;
+    return (getenv("DAYS") ? taken : 0) + (getenv("TICKS") ? asked++ : 0);
+}
+
 int clock_gettime(clockid_t clock, struct timespec *now) {
     int result = syscall(SYS_clock_gettime, clock, now);
     const char *seconds = getenv("NOW");
     if (clock == CLOCK_MONOTONIC) now->tv_sec += passed;
-    if (clock == CLOCK_REALTIME && seconds) now->tv_sec = atol(seconds);
+    if (clock == CLOCK_REALTIME && seconds) now->tv_sec = atol(seconds) + 86400 * days();
     return result;
 }
 
-ssize_t write(int fd, const void *bytes, size_t length) {
+static int refused(void) {
     static int done;
-    const char *path = getenv("PIPE");
-    if (fd == 1 && path && !done) {
-        done = 1;
-        unlink(path);
-        mkfifo(path, 0600);
+    const char *number = getenv("ACCEPT");
+    if (!number || done++) return 0;
+    errno = atoi(number);
+    return 1;
+}
+
+int accept4(int fd, void *address, void *length, int flags) {
+    int result = refused() ? -1 : syscall(SYS_accept4, fd, address, length, flags);
+    if (result >= 0) taken++;
+    return result;
+}
+
+int accept(int fd, void *address, void *length) {
+    return accept4(fd, address, length, 0);
+}
+
+static long written;
+
+ssize_t write(int fd, const void *bytes, size_t length) {
+    const char *pipe = getenv("PIPE"), *gone = getenv("GONE");
+    if (fd == 1 && !written++) {
+        if (pipe || gone) unlink(pipe ? pipe : gone);
+        if (pipe) mkfifo(pipe, 0600);
     }
     return syscall(SYS_write, fd, bytes, length);
 }
@@ -68,23 +101,27 @@ ssize_t getdents64(int fd, void *buffer, size_t length) {
 }
 
 int statx(int folder, const char *path, int flags, unsigned mask, struct statx *found) {
-    const char *name = getenv("ENTRY"), *last = strrchr(path, '/');
+    const char *name = getenv("ENTRY"), *looked = getenv("LOOKED"), *last = strrchr(path, '/');
     if (name && !strcmp(last ? last + 1 : path, name)) return fault();
-    return syscall(SYS_statx, folder, path, flags, mask, found);
+    int result = syscall(SYS_statx, folder, path, flags, mask, found);
+    if (looked && written && !strcmp(path, looked)) unlink(path);
+    return result;
 }
 
-static long reads;
+static long reads, ends;
 
 ssize_t read(int fd, void *bytes, size_t length) {
+    ssize_t taken = syscall(SYS_read, fd, bytes, length);
     if (!fd) reads++;
-    return syscall(SYS_read, fd, bytes, length);
+    if (!fd && !taken) ends++;
+    return taken;
 }
 
 __attribute__((destructor)) static void tell(void) {
     const char *path = getenv("READS");
     FILE *file = path ? fopen(path, "w") : NULL;
     if (file) {
-        fprintf(file, "%ld", reads);
+        fprintf(file, "%ld %ld", reads, ends);
         fclose(file);
     }
 }

@@ -26,12 +26,15 @@ class Interchange:
     service: str = USUAL_MARKS
     reference: str = "1001"
     kinds: list = field(default_factory=list)
+    sender: str = RETAILER
+    # the messages' references, where they are not the numbers from 1 on
+    references: list = field(default_factory=list)
 
     def lines(self):
         return [
             self.service,
             f"interchange {self.reference}",
-            f"  sender {RETAILER}",
+            f"  sender {self.sender}",
             f"  recipient {HUB}",
             "  prepared 250603 0915",
             f"  messages {len(self.kinds)}",
@@ -64,12 +67,17 @@ def is_refused(lines):
     return any(line.startswith("refused ") for line in lines)
 
 
+def shown_text(interchange, messages):
+    """All lines, those of each message behind its number, its reference and its type."""
+    lines, references = interchange.lines(), interchange.references or range(1, len(messages) + 1)
+    for number, (reference, kind, message) in enumerate(zip(references, interchange.kinds, messages), 1):
+        lines += [f"message {number}", f"  reference {reference}", f"  type {kind}", *(f"  {line}" for line in message)]
+    return "".join(line + "\n" for line in lines)
+
+
 def shown_lines(interchange, messages):
-    """All lines, those of each message behind its number, its reference, which is this number here, and its type."""
-    lines = interchange.lines()
-    for number, (kind, message) in enumerate(zip(interchange.kinds, messages), 1):
-        lines += [f"message {number}", f"  reference {number}", f"  type {kind}", *(f"  {line}" for line in message)]
-    return "".join(line + "\n" for line in lines).encode()
+    """The same as bytes."""
+    return shown_text(interchange, messages).encode()
 
 
 def shown(name, text, interchange, messages):

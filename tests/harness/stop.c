@@ -1,10 +1,14 @@
-/* Loaded before the C library: the program ends at the change of a database file or its log whose number is in STOP.
-   Of a write that is stopped, half of the bytes are written where TORN is set. Where LOST is set, the files are then as
-   they were when they were last synced. Where HALT is a number, the program halts at each change whose number is a multiple of
-   it, until it is sent SIGCONT. Where COUNT names a file, the number of changes is written there at the end, and how many of
-   them were syncs. */
+/* Loaded before the C library. It counts the changes of a database file and its log, and the reads of them:
+   STOP    the program ends at the change of this number
+   TORN    beside STOP: half of the bytes of a write that is stopped are written
+   LOST    beside STOP: the files are then as they were when they were last synced
+   FAIL    the change of this number fails and does nothing, as on a broken disk, and the program goes on
+   UNREAD  the read of this number fails, and the program goes on
+   HALT    the program halts at each change whose number is a multiple of this one, until it is sent SIGCONT
+   COUNT   the number of changes, how many of them were syncs, and the number of reads are written to this file at the end */
 #define _GNU_SOURCE
 #include <dlfcn.h>
+#include <errno.h>
 #include <fcntl.h>
 #include <limits.h>
 #include <signal.h>
@@ -13,13 +17,13 @@
 #include <string.h>
 #include <unistd.h>
 
-static long changes, syncs;
+static long changes, syncs, reads;
 
 __attribute__((destructor)) static void tell(void) {
     const char *path = getenv("COUNT");
     FILE *file = path ? fopen(path, "w") : NULL;
     if (file) {
-        fprintf(file, "%ld %ld", changes, syncs);
+        fprintf(file, "%ld %ld %ld", changes, syncs, reads);
         fclose(file);
     }
 }
@@ -79,6 +83,15 @@ static int is_last(int fd) {
     return number && changes == atol(number);
 }
 
+/* Whether the change that was counted last, or the read, is the one that fails. */
+static int fails(const char *which, int fd, long number) {
+    char path[PATH_MAX];
+    const char *failing = getenv(which);
+    if (!failing || !is_kept(fd, path) || number != atol(failing)) return 0;
+    errno = EIO;
+    return 1;
+}
+
 #define REAL(name) ((__typeof__(&name))dlsym(RTLD_NEXT, #name))
 
 ssize_t pwrite(int fd, const void *bytes, size_t length, off_t at) {
@@ -86,16 +99,19 @@ ssize_t pwrite(int fd, const void *bytes, size_t length, off_t at) {
         if (getenv("TORN")) REAL(pwrite)(fd, bytes, length / 2, at);
         stop();
     }
+    if (fails("FAIL", fd, changes)) return -1;
     return REAL(pwrite)(fd, bytes, length, at);
 }
 
 int ftruncate(int fd, off_t length) {
     if (is_last(fd)) stop();
+    if (fails("FAIL", fd, changes)) return -1;
     return REAL(ftruncate)(fd, length);
 }
 
 int fsync(int fd) {
     if (is_last(fd)) stop();
+    if (fails("FAIL", fd, changes)) return -1;
     int answer = REAL(fsync)(fd);
     syncs++;
     synced(fd);
@@ -104,8 +120,16 @@ int fsync(int fd) {
 
 int fdatasync(int fd) {
     if (is_last(fd)) stop();
+    if (fails("FAIL", fd, changes)) return -1;
     int answer = REAL(fdatasync)(fd);
     syncs++;
     synced(fd);
     return answer;
+}
+
+ssize_t pread(int fd, void *bytes, size_t length, off_t at) {
+    char path[PATH_MAX];
+    if (is_kept(fd, path)) reads++;
+    if (fails("UNREAD", fd, reads)) return -1;
+    return REAL(pread)(fd, bytes, length, at);
 }

@@ -2,12 +2,14 @@
 days."""
 import contextlib
 import os
+import pty
 import pwd
 import shutil
 import sqlite3
 import subprocess
 import tempfile
 
+from tests.cases.broken_texts import TEXT_LIMIT
 from tests.harness.case import SECONDS
 from tests.harness.database_files import NAME, has_rows, is_whole
 from tests.harness.first_order import ORDERS
@@ -105,21 +107,6 @@ def unreadable(program):
         return imports(0o000, 3, "accepted", "fault", "accepted") or imports(0o400, 0, "repeated", "accepted", "repeated")
 
 
-def exchanged(program):
-    """What is wrong where a file of a folder becomes a pipe behind its listing, if anything: it is no plain file then, and nobody waits for
-    it."""
-    with tempfile.TemporaryDirectory() as folder:
-        made_folder(program, folder, 3)
-        variables = {"LD_PRELOAD": meddled(folder), "PIPE": os.path.join(folder, "in", "01.edi")}
-        ran = subprocess.run(
-            [program, *over("import", RETAILER, "--folder", "in")], cwd=folder, capture_output=True, env=variables, timeout=SECONDS
-        )
-        lines = [(f"interchange U{k} messages 1", "1 ORDERS accepted") if k != 1 else ("fault",) for k in range(3)]
-        printed = "".join(told(f"file {k:02}.edi", *its) for k, its in enumerate(lines)).encode()
-        found = (ran.returncode, ran.stdout, ran.stderr)
-        return None if found == (3, printed, b"") else f"{found!r:.300}"
-
-
 def meddled_import(program, *words, **variables):
     """What an import of three orders ends with, prints and says on standard error, over the library of meddle.c with these variables."""
     with tempfile.TemporaryDirectory() as folder:
@@ -132,6 +119,43 @@ def meddled_import(program, *words, **variables):
             timeout=SECONDS,
         )
         return ran.returncode, ran.stdout, ran.stderr
+
+
+# what an import of three orders prints where the second cannot be read
+SECOND_IS_FAULT = "".join(
+    told(f"file {k:02}.edi", *(("fault",) if k == 1 else (f"interchange U{k} messages 1", "1 ORDERS accepted"))) for k in range(3)
+).encode()
+
+
+def exchanged(program):
+    """What is wrong where a file of a folder becomes a pipe behind its listing, if anything: it is no plain file then, and nobody waits for
+    it."""
+    found = meddled_import(program, PIPE=os.path.join("in", "01.edi"))
+    return None if found == (3, SECOND_IS_FAULT, b"") else f"{found!r:.300}"
+
+
+def deleted(program):
+    """What is wrong where a file of a folder is deleted behind its listing, or behind a last look at it, if anything: it is a fault, and
+    the next one is taken."""
+    for variable in ("GONE", "LOOKED"):
+        found = meddled_import(program, **{variable: os.path.join("in", "01.edi")})
+        if found != (3, SECOND_IS_FAULT, b""):
+            return f"{variable}: {found!r:.300}"
+    return None
+
+
+def one_moment(program):
+    """What is wrong where a day passes each time that the clock is asked, if anything: an import asks once, and all that it brings has
+    that moment."""
+    with tempfile.TemporaryDirectory() as folder:
+        count = made_folder(program, folder, 3)
+        env = {"LD_PRELOAD": meddled(folder), "NOW": MOMENT, "TICKS": "1"}
+        words = over("import", RETAILER, "--folder", "in", moment=None)
+        subprocess.run([program, *words], cwd=folder, stdout=subprocess.DEVNULL, env=env, timeout=SECONDS, check=True)
+        looks = [over("mail", ALPHA, "--do", "item", "--n", str(number)) for number in range(1, count + 1)]
+        mails = [subprocess.run([program, *words], cwd=folder, capture_output=True, timeout=SECONDS).stdout for words in looks]
+        days = [it.partition(f"{ALPHA}:14+".encode())[2][:11] for it in mails]
+        return None if days == [b"250603:0920"] * count else f"the mails have {days!r}"
 
 
 def own_file(program):
@@ -201,33 +225,54 @@ def founding_killed(program, before=None, rows=None, shown="end\n"):
 def hidden(program):
     """What is wrong where a folder cannot be read to its end, or one of its files cannot be looked at, if anything: neither is passed
     over."""
-    lines = [(f"interchange U{k} messages 1", "1 ORDERS accepted") if k != 1 else ("fault",) for k in range(3)]
-    printed = "".join(told(f"file {k:02}.edi", *its) for k, its in enumerate(lines)).encode()
-    for variables, wanted in (({"LISTING": "1"}, (3, b"", b"file\n")), ({"ENTRY": "01.edi"}, (3, printed, b""))):
+    for variables, wanted in (({"LISTING": "1"}, (3, b"", b"file\n")), ({"ENTRY": "01.edi"}, (3, SECOND_IS_FAULT, b""))):
         found = meddled_import(program, **variables)
         if found != wanted:
             return f"{variables}: {found!r:.300}"
     return None
 
 
+# the commands that read standard input
+READERS = [["relay", "--hub", HUB, "--owner", ALPHA, "--moment", MOMENT, "--number", "1"], ["show"]]
+
+
 def few_reads(program):
-    """What is wrong with how often standard input is read, if anything: not once for a few bytes each."""
-    with tempfile.TemporaryDirectory() as folder:
-        text, count = ORDERS + "\n" * (1_048_576 - len(ORDERS)), os.path.join(folder, "count")
-        words = ["relay", "--hub", HUB, "--owner", ALPHA, "--moment", MOMENT, "--number", "1"]
-        ran = subprocess.run(
-            [program, *words],
-            cwd=folder,
-            input=text.encode(),
-            capture_output=True,
-            env={"LD_PRELOAD": meddled(folder), "READS": count},
-            timeout=SECONDS,
-        )
-        with open(count, encoding="ascii") as file:
-            reads = int(file.read())
-        if ran.returncode:
-            return f"{ran.returncode}, {ran.stderr!r:.100}"
-        return None if 0 < reads <= len(text) // 1024 else f"{reads} reads of {len(text)} bytes"
+    """What is wrong with how standard input is read, if anything: not once for a few bytes each; its end is asked for once; and of a longer
+    text not more than a byte past the limit."""
+    for words in READERS:
+        for length, status in ((len(ORDERS), 0), (TEXT_LIMIT - 1, 0), (TEXT_LIMIT, 0), (2 * TEXT_LIMIT, 1)):
+            with tempfile.TemporaryDirectory() as folder, tempfile.TemporaryFile() as source:
+                source.write(ORDERS.encode().ljust(length, b"\n"))
+                source.seek(0)
+                env = {"LD_PRELOAD": meddled(folder), "READS": os.path.join(folder, "count")}
+                ran = subprocess.run([program, *words], stdin=source, capture_output=True, env=env, timeout=SECONDS)
+                with open(env["READS"], encoding="ascii") as file:
+                    reads, ends = map(int, file.read().split())
+                taken = source.seek(0, os.SEEK_CUR)
+            most = 3 + length // 1024
+            if (ran.returncode, ends) != (status, 1 - status) or not 0 < reads <= most or taken > TEXT_LIMIT + 1:
+                return f"{words[0]} of {length} bytes: {ran.returncode}, {reads} reads, {ends} ends, {taken} bytes taken"
+    return None
+
+
+def at_a_terminal(program):
+    """What is wrong where an order is typed at a terminal and its end told once, if anything: nobody has to tell it again."""
+    for words in READERS:
+        keyboard, terminal = pty.openpty()
+        try:
+            with subprocess.Popen([program, *words], stdin=terminal, stdout=subprocess.PIPE) as child:
+                os.write(keyboard, ORDERS.encode() + b"\n\x04")
+                try:
+                    printed, _ = child.communicate(timeout=20)
+                except subprocess.TimeoutExpired:
+                    child.kill()
+                    return f"{words[0]} waits for its end to be told again"
+        finally:
+            os.close(keyboard)
+            os.close(terminal)
+        if child.returncode or b"128576" not in printed:
+            return f"{words[0]} at a terminal: {child.returncode}, {printed!r:.200}"
+    return None
 
 
 def day(program):
@@ -266,7 +311,10 @@ TRIALS = [
     ("a file of a folder that cannot be read", unreadable),
     ("a file of a folder that has become a pipe", exchanged),
     ("a database file that is made", own_file),
+    ("a file of a folder that was deleted", deleted),
+    ("the moment of an import", one_moment),
     ("a folder that cannot be read on, and a file of it that cannot be looked at", hidden),
-    ("how often standard input is read", few_reads),
+    ("how standard input is read", few_reads),
+    ("an order that is typed at a terminal", at_a_terminal),
     ("the days of the example", day),
 ]

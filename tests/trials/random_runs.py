@@ -1,5 +1,5 @@
 """Made runs: some hundred scripts of inputs drawn by chance, the same each time, played over lists, over SQL in memory and over a
-file. The three answer alike."""
+file. The three answer alike, and none stops or says that memory gave out."""
 import os
 import random
 import re
@@ -11,11 +11,13 @@ from concurrent.futures import ThreadPoolExecutor
 from tests.harness.case import SECONDS
 from tests.harness.database_files import WORDS, is_whole
 from tests.harness.hub_scripts import Play
-from tests.harness.random_inputs import KEYS_OF_ALL, PREFIXES, SUPPLIERS, upload_of
+from tests.harness.random_inputs import KEYS_OF_ALL, NUMBERS, PREFIXES, SUPPLIERS, upload_of
 from tests.harness.register_texts import BETA, DELTA, GAMMA, RETAILER
 
 # inputs of all kinds, and then receipts, which come when there is something to be received
 RUNS, INPUTS, RECEIPTS = 300, 30, 10
+# what says that memory gave out or that the store failed
+STOPPED = re.compile(rb"^(stopped|memory|store )", re.MULTILINE)
 
 
 def join_of(draw):
@@ -38,7 +40,7 @@ def script_of(seed):
             who, text = upload_of(draw)
             ask(who, "upload", text)
         elif one < 0.8:
-            ask(RETAILER, "cancel", f"{supplier}\nC{draw.randrange(4)}\n{draw.randrange(4)}\n1\n{draw.choice((1, 5))}\n")
+            ask(RETAILER, "cancel", f"{supplier}\nC{draw.randrange(4)}\n{draw.choice(NUMBERS)}\n1\n{draw.choice((1, 5, 999_999_999))}\n")
         elif one < 0.85:
             ask(RETAILER, join_of(draw))
         elif one < 0.92:
@@ -72,6 +74,8 @@ def compared(program):
     for seed, (three, unsound) in enumerate(found):
         if any(it.returncode or it.stdout != three[0].stdout for it in three) or unsound:
             return f"run {seed}: {unsound or [it.stdout[:200] for it in three]}"
+        if STOPPED.search(three[0].stdout + three[0].stderr):
+            return f"run {seed} stops with ample memory: {STOPPED.search(three[0].stdout + three[0].stderr)!r}"
         told.update(re.findall(rb"^\d \w+ (accepted|refused \w+|repeated)$", three[0].stdout, re.MULTILINE))
         alone.update(re.findall(rb"^(accepted|refused B\w+|repeated)$", three[0].stdout, re.MULTILINE))
         corrected += re.search(rb"^P \d{18} \d{14} C ", three[0].stdout, re.MULTILINE) is not None

@@ -1,11 +1,14 @@
 """Trials of `serve`: the built program on 127.0.0.1, and clients of its own. What is wanted is written from the profile, and
 never taken from the program."""
+import errno
 import os
 import re
+import resource
 import shutil
 import socket
 import struct
 import subprocess
+import sys
 import tempfile
 import threading
 import time
@@ -18,8 +21,8 @@ from tests.harness.case import SECONDS
 from tests.harness.database_files import NAME
 from tests.harness.first_order import ORDERS
 from tests.harness.http_texts import asking, head, response
-from tests.harness.hub_scripts import DESPATCH, FIRST_MAIL, KEYS, OTHER_PALLET, RECEIPT, RESPONSE, SECOND, SECOND_MAIL
-from tests.harness.hub_scripts import STATUS, THIRD_MAIL, despatch, interchange, line_status, message, order, parties
+from tests.harness.hub_scripts import DESPATCH, FIRST_MAIL, KEYS, MOMENT, OTHER_PALLET, RECEIPT, RESPONSE, SECOND
+from tests.harness.hub_scripts import SECOND_MAIL, STATUS, THIRD_MAIL, despatch, interchange, line_status, message, order, parties
 from tests.harness.hub_scripts import response as answer
 from tests.harness.hub_steps import over, told
 from tests.harness.register_texts import ALPHA, BETA, DELTA, GAMMA, HUB, RETAILER
@@ -69,10 +72,10 @@ def unlike(what, found, wanted):
     return None if found == wanted else f"{what}: {found!r:.400}, not {wanted!r:.400}"
 
 
-def served(program, asked, data=(), then=None, ends=True):
+def served(program, asked, data=(), then=None, ends=True, moment=MOMENT):
     """What is wrong where a new hub is asked these one after another, if anything: each is a name, a request, a status and a
     body."""
-    with Server(program, len(asked), data=data) as server:
+    with Server(program, len(asked), moment, data) as server:
         for name, request, status, body in asked:
             why = unlike(name, server.ask(request, ends), response(status, body))
             if why:
@@ -380,9 +383,10 @@ def both_then_read(program):
         )
 
 
-def stalled(program, drip):
-    """A client that sends nothing, or a byte now and then, holds the next one for ten seconds at most: what is wrong, and how long it
-    waited."""
+def stalled(program, sends):
+    """A client that never sends a whole request holds the next one for ten seconds at most: what is wrong, and how long it waited. Twice
+    a second it sends a byte, if `sends` says so of the seconds that have passed and of the bytes that it has sent."""
+    sent = 0
     with Server(program, 2) as server, server.connect() as slow:
         begun = time.monotonic()
         with server.connect() as next_one:
@@ -390,8 +394,8 @@ def stalled(program, drip):
             next_one.settimeout(0.5)
             while time.monotonic() - begun < 20:
                 try:
-                    if drip:
-                        slow.send(b"G")
+                    if sends(time.monotonic() - begun, sent):
+                        sent += slow.send(b"G")
                 except OSError:
                     pass
                 try:
@@ -411,6 +415,34 @@ def stalled(program, drip):
         slow.close()
         why = f"the slow one was answered {told_slow!r:.100}" if told_slow else unlike("the next one", found, response(200, "end\n"))
         return why or unlike("the program", server.end(), (3, lines_of(server.port, ["fault", 200]), b"")), passed
+
+
+# how late, in seconds, the end of an answer may be read at best of some times
+AT_ONCE, TIMES = 0.7, 5
+
+
+def ends_at_once(program):
+    """A client that has sent its whole request and reads to the end of the answer, without ending its own side, has it at once; and so has
+    the next one."""
+    asked = [
+        get(ALPHA, "status", 200, "end\n"),
+        get(ALPHA, "mail/item/1", 404, "unknown\n"),
+        get(RETAILER, "status", 403, "denied\n"),
+        ("no request", b"\r\nGET\r\n\r\n", 400, "bad request\n"),
+        upload(RETAILER, "", "refused E06", status=400),
+    ]
+    with Server(program, len(asked) * TIMES) as server:
+        for name, request, status, body in asked:
+            passed = []
+            for _ in range(TIMES):
+                begun = time.monotonic()
+                why = unlike(name, server.ask(request, ends=False), response(status, body))
+                passed.append(time.monotonic() - begun)
+                if why:
+                    return why
+            if min(passed) > AT_ONCE:
+                return f"{name}: its end came after {min(passed):.2f} seconds at best"
+        return None
 
 
 def order_of_lines(number, lines):
@@ -557,6 +589,81 @@ def by_the_clock(program):
         return None if any(found == response(200, FIRST_MAIL.replace("250603:0920", date)) for date in dates) else f"{found!r:.400}"
 
 
+def moment_of_each(program):
+    """A day passes with each connection that is taken: what is sent in it has the moment of its own connection, which is the one after it
+    was taken."""
+    texts = [ORDERS, SECOND, interchange(RETAILER, "1003", order("128578"))]
+    days = [f"25060{3 + k}:0920" for k in range(1, len(texts) + 1)]
+    third = FIRST_MAIL.replace("128576", "128578").replace("0920+1'", "0920+3'").replace("UNZ+1+1'", "UNZ+1+3'")
+    mails = [mail.replace("250603:0920", day) for mail, day in zip((FIRST_MAIL, SECOND_MAIL, third), days)]
+    with tempfile.TemporaryDirectory() as folder:
+        env = {"LD_PRELOAD": meddled(folder), "NOW": MOMENT, "DAYS": "1"}
+        with Server(program, 2 * len(texts), moment=None, env=env) as server:
+            for text in texts:
+                server.ask(asking("POST", f"/p/{RETAILER}/interchanges", RETAILER, text))
+            found = [server.ask(asking("GET", f"/p/{ALPHA}/mail/item/{k}", ALPHA)) for k in range(1, len(texts) + 1)]
+            why = unlike("the mails", found, [response(200, it) for it in mails])
+            return why or unlike("the program", server.end(), (0, lines_of(server.port, [200] * 2 * len(texts)), b""))
+
+
+def not_taken(program):
+    """The first connection is broken off before it is taken: it is told as a fault, and the next one is served. Any other failure ends the
+    server."""
+    with tempfile.TemporaryDirectory() as folder:
+        shim = meddled(folder)
+        for number in (errno.ECONNABORTED, errno.ECONNRESET):
+            with Server(program, 2, env={"LD_PRELOAD": shim, "ACCEPT": str(number)}) as server:
+                # its line comes before a client does
+                server.line()
+                found = server.ask(asking("GET", f"/p/{ALPHA}/status", ALPHA))
+                why = unlike("the next one", found, response(200, "end\n"))
+                why = why or unlike("the program", server.end(), (3, lines_of(server.port, ["fault", 200]), b""))
+                if why:
+                    return f"{errno.errorcode[number]}: {why}"
+        with Server(program, 2, env={"LD_PRELOAD": shim, "ACCEPT": str(errno.EMFILE)}) as server:
+            return unlike("no descriptor is left", server.end(), (3, lines_of(server.port, []), b"listen\n"))
+
+
+def open_files(server):
+    """How many descriptors the program has."""
+    return len(os.listdir(f"/proc/{server.child.pid}/fd"))
+
+
+def allow(server, more):
+    """Lets the program have so many descriptors beside those that it has while it waits for a connection."""
+    most = resource.prlimit(server.child.pid, resource.RLIMIT_NOFILE)[1]
+    resource.prlimit(server.child.pid, resource.RLIMIT_NOFILE, (open_files(server) + more, most))
+
+
+def descriptors(program):
+    """Connections of each kind, with room for the descriptors of one: each gives its own back. With room for one descriptor alone, a
+    connection is a fault, and the next one is served."""
+    asked = [
+        ORDERED[:3],
+        get(ALPHA, "status", 200, "")[:3],
+        get(RETAILER, "status", 403, "")[:3],
+        ("no request", b"x\r\n\r\n", 400),
+        ("a cut upload", ORDERED[1][:-1], 400),
+    ]
+    rounds = 12
+    with Server(program, len(asked) * rounds + 2) as server:
+        allow(server, 2)
+        for _ in range(rounds):
+            for name, request, status in asked:
+                found = server.ask(request)
+                if not found.startswith(b"HTTP/1.1 %d " % status):
+                    return f"{name}: {found!r:.100}"
+                server.line()
+        allow(server, 1)
+        server.connect().close()
+        if server.line() != b"connection %d fault\n" % (len(asked) * rounds + 1):
+            return f"without a second handle: {server.lines[-1]!r}"
+        allow(server, 2)
+        why = unlike("the next one", server.ask(asking("GET", f"/p/{BETA}/status", BETA)), response(200, "end\n"))
+        statuses = [status for _, _, status in asked] * rounds + ["fault", 200]
+        return why or unlike("the program", server.end(), (3, lines_of(server.port, statuses), b""))
+
+
 def by_curl(program):
     """Each path by curl, where it is there."""
     if not shutil.which("curl"):
@@ -622,8 +729,11 @@ ALL = {
     "heads": heads,
     "lengths": lengths,
     "two clients that write before both read": both_then_read,
-    "a client that sends nothing": lambda program: by_time(lambda: stalled(program, False), 9, 12),
-    "a client that sends a byte now and then": lambda program: by_time(lambda: stalled(program, True), 9, 12),
+    "a client that sends nothing": lambda program: by_time(lambda: stalled(program, lambda passed, sent: False), 9, 12),
+    "a client that sends a byte now and then": lambda program: by_time(lambda: stalled(program, lambda passed, sent: True), 9, 12),
+    "a client that sends a byte after five seconds": lambda program: by_time(
+        lambda: stalled(program, lambda passed, sent: passed > 5 and not sent), 9, 12
+    ),
     "a client that takes nothing": lambda program: by_time(lambda: takes_nothing(program), 9, 13),
     "a client that sends on what is refused": big_refused,
     "clients that break off": gone,
@@ -633,12 +743,16 @@ ALL = {
     "an address and files of its own": for_this_machine,
     "what is wrong before the first connection": begins,
     "connections by the clock": by_the_clock,
+    "the moment of each connection": moment_of_each,
+    "a connection that is not taken": not_taken,
+    "descriptors": descriptors,
+    "the end of an answer": ends_at_once,
     "curl": by_curl,
 }
 
 
-def serving(program):
-    """What is wrong with `serve`, if anything. The servers run side by side."""
+def tried_side_by_side(what, program, trials):
+    """What is wrong with any of these trials, if anything. Their servers run side by side."""
 
     def tried(one):
         try:
@@ -646,21 +760,29 @@ def serving(program):
         except (OSError, subprocess.TimeoutExpired) as why:
             return f"{type(why).__name__}: {why}"
 
-    with ThreadPoolExecutor(4) as pool:
-        whys = list(pool.map(tried, ALL.values()))
-    found = "; ".join(f"{name}: {why}" for name, why in zip(ALL, whys) if why)
+    with ThreadPoolExecutor(5) as pool:
+        whys = list(pool.map(tried, trials.values()))
+    found = "; ".join(f"{name}: {why}" for name, why in zip(trials, whys) if why)
     if not found:
-        print(f"serve: {len(ALL)} trials on servers of their own")
+        print(f"{what}: {len(trials)} trials on servers of their own")
     return found or None
+
+
+def serving(program):
+    """What is wrong with `serve`, if anything."""
+    return tried_side_by_side("serve", program, ALL)
 
 
 TRIALS = [("serve", serving)]
 
 
-if __name__ == "__main__":
-    import sys
-
-    for name, one in ALL.items():
-        if len(sys.argv) < 3 or sys.argv[2] in name:
+def main(trials):
+    """Runs the trials of which the words after the program's name are part, one after another."""
+    for name, one in trials.items():
+        if " ".join(sys.argv[2:]) in name:
             begun = time.monotonic()
             print(f"{name}: {one(os.path.abspath(sys.argv[1])) or 'as wanted'}, {time.monotonic() - begun:.1f} s", flush=True)
+
+
+if __name__ == "__main__":
+    main(ALL)
