@@ -3,7 +3,7 @@ a file that is none of a hub."""
 import re
 from dataclasses import replace
 
-from tests.cases.hub_rules import HUBS
+from tests.cases.hub_rules import HUBS, all_taken, some_taken
 from tests.harness.case import Case
 from tests.harness.database_files import NAME, OLD_ROWS, OLD_TABLES, REGISTERED, ROWS, TABLES, WORDS, file_of
 from tests.harness.database_files import has_rows, is_still, is_whole
@@ -43,6 +43,14 @@ def opened_anew():
     play.script += again.script
     play.who = None
     return looked_at(play)
+
+
+def taken_anew():
+    """Entries taken, and the rest of them once the file is opened again."""
+    play = some_taken()
+    play.script += Play().script
+    play.who = None
+    return all_taken(play.list(0, (3, "ORDERS", "1003"), (5, "ORDERS", "1005")))
 
 
 def told(fault):
@@ -181,6 +189,7 @@ FILES = [
         after=has_rows(ROWS),
     ),
     Case("a file that is opened again", WORDS, opened_anew().script, opened_anew().printed, after=has_rows(ROWS)),
+    Case("a mailbox of a file that is opened again", WORDS, taken_anew().script, taken_anew().printed, after=is_whole),
     of_file("a file that SQLite wrote", looked_at(Play()), file_of(), has_rows(ROWS)),
     of_file("a file that SQLite wrote with a log", looked_at(Play()), file_of(TABLES, ROWS, "PRAGMA journal_mode = WAL"), has_rows(ROWS)),
     of_file("a file without tables", Play().status(), file_of("", {}), has_rows({**REGISTERED, "line": []})),

@@ -17,7 +17,8 @@ use Rattle.hub_store.specs.declared.fault.StoreFault.{StoreFault}
 use Rattle.hub_store.specs.declared.fault.StoreFault.TheVariants.{Memory, Disk, Unclean, Version}
 use Rattle.hub_reads.specs.Asks.{HasDiskCause}
 use Rattle.hub_reads.proofs.Causes.{more_faults}
-use Rattle.hub_sql.specs.Opening.{Adopts, CountsOn, ComesBack, ComesOpen, ComesWith, Refuses, IsAsBefore, IsKnown, IsSpared, MayBeRaised, MayBeRenumbered}
+use Rattle.hub_sql.specs.Opening.{Adopts, CountsOn, ComesBack, ComesOpen, ComesWith, Refuses, IsAsBefore, IsKnown, IsSpared}
+use Rattle.hub_sql.specs.Opening.{MayBeRaised, MayBeRenumbered}
 use Rattle.hub_sql.specs.Opening.{SparesConnection, StaysShut}
 use Rattle.hub_sql.specs.declared.returned.Returned.{Returned}
 use Rattle.hub_sql.specs.declared.returned.Returned.TheVariants.{Connection, Store}
@@ -235,7 +236,8 @@ module _ {S : Type 0} {g : Ghosts S} {was : State} {version : Stage} {mid conn :
       (λ none clean. none (holds_hub version was.now later (anew.holds (anew.early (spared.clean clean))).0))
       (λ is. let none = unclean is in (
         (back, refl, λ clean. none_was (spared.clean clean) (none.0 clean)),
-        spared_anew anew (elim read [ inl same ↦ inl (same ∙ sym (later_hub version later)) | inr disk ↦ absurd (let bad = sym is ∙ disk in cc) ])
+        spared_anew anew
+            (elim read [ inl same ↦ inl (same ∙ sym (later_hub version later)) | inr disk ↦ absurd (let bad = sym is ∙ disk in cc) ])
             (λ clean trees never. never) none.1,
       ))
       (version, (later, tt))

@@ -1,6 +1,7 @@
 -- A commit of a store, from what it is on the connection.
-use Rattle.std.proofs.Common.{◌≡◌, inl, inr, true, false, IsTrue, List, [], ◌∷◌, ◌++◌, Option, None, Some, Result}
-use Rattle.std.proofs.Common.{Ok, Err, refl, sym, ap, subst, ◌∙◌}
+use Rattle.std.proofs.Common.{◌≡◌, ℕ, ◌≤◌, inl, inr, true, false, IsTrue, List, [], ◌∷◌, ◌++◌, Option, None, Some, Result}
+use Rattle.std.proofs.Common.{Ok, Err, refl, sym, ap, subst, ◌∙◌, arith}
+use Rattle.std.specs.BTreeMap.{btree_map_len}
 use Rattle.std.specs.List.{last_or}
 use Rattle.sqlite.specs.Held.{state}
 use Rattle.sqlite_trees.specs.declared.store.Store.{Ghosts}
@@ -16,7 +17,9 @@ use Rattle.hub_schema.specs.Rows.{tables_in}
 use Rattle.hub_schema.specs.State.{MayRefuse, Holds, CommitsTo}
 use Rattle.hub_sql.specs.Settling.{Settles}
 use Rattle.hub_sql.specs.Stored.{Stored, rows_in, content, left, IsSettled, honest}
+use Rattle.hub_sql.specs.Marks.{Marks, TakenUpToMarks, mark_of, mark_after_all}
 use Rattle.hub_sql.proofs.Looking.{failed, still, same_content}
+use Rattle.hub_sql.proofs.Marking.{lowered}
 
 last_added : {X : Type 0} (xs : List X) (x : X) (d : Option X) → last_or d (xs ++ x ∷ []) ≡ Some x
 last_added [] x d = refl
@@ -28,13 +31,20 @@ content_after g old new past = ap (λ p. rows_in g (last_or None p)) past ∙ ap
     (last_added old.past (new.held, true) None)
 
 -- what was so before
-module _ {S : Type 0} (g : Ghosts S) {kept : Option RegisterRows} (old new : Stored S) (settled : IsSettled g kept old)
+module _ {S : Type 0} (g : Ghosts S) {kept : Option RegisterRows} {marks : Marks} (old new : Stored S)
+    (settled : IsSettled g kept marks old)
     (back : honest g new → honest g old) where
   before_is : honest g new → IsTrue (state g old.held).is_open → tables_in (state g old.held).now.trees ≡ content g old
   before_is clean o = settled.rows (back clean) o
 
   held_before : honest g new → Holds (state g old.held)
   held_before clean o = settled.hub (back clean) o
+
+  -- all changes are made
+  becomes : {changes : List Change} → CommitsTo changes (state g old.held) (state g new.held) (Ok (tt {0}))
+      → new.past ≡ old.past ++ (new.held, true) ∷ [] → honest g new → content g new ≡ apply_all changes (content g old)
+  becomes {changes = changes} did past clean =
+      content_after g old new past ∙ (did.done clean (held_before clean)).2 ∙ ap (apply_all changes) (before_is clean (did.ran clean))
 
   -- no change is made
   module _ (whole : old.fault ≡ None) (changes : List Change) where
@@ -72,7 +82,7 @@ module _ {S : Type 0} (g : Ghosts S) {kept : Option RegisterRows} (old new : Sto
         ];
       }
 
-      pub kept_settles : IsSettled g kept new
+      pub kept_settles : IsSettled g kept marks new
       kept_settles =
           still g old new settled whole past did.mode (λ clean none. makes.usable none) back
           (λ clean o. did.kept clean (held_before clean) o)
@@ -81,15 +91,15 @@ module _ {S : Type 0} (g : Ghosts S) {kept : Option RegisterRows} (old new : Sto
       kept_fails = failed old.fault new.fault (Err told) whole makes.lasting makes.version
 
 -- all changes are made
-module _ {S : Type 0} {g : Ghosts S} {kept : Option RegisterRows} {old new : Stored S} (settled : IsSettled g kept old)
+module _ {S : Type 0} {g : Ghosts S} {kept : Option RegisterRows} {marks : Marks} {old new : Stored S}
+    (settled : IsSettled g kept marks old)
     {changes : List Change} (did : CommitsTo changes (state g old.held) (state g new.held) (Ok (tt {0})))
     (past : new.past ≡ old.past ++ (new.held, true) ∷ []) where
   pub made : Commits {X = Unit {0}} (content g) (honest g) (left g) (λ s. s.fault) old new changes (Ok (tt {0}))
   made =
       let back = clean_before (state g old.held) (state g new.held) _ did.crash in
       let after = content_after g old new past in record {
-        done = λ clean fit. after ∙ (did.done clean (held_before g old new settled back clean)).2 ∙ ap (apply_all changes)
-            (before_is g old new settled back clean (did.ran clean));
+        done = λ clean fit. becomes g old new settled back did past clean;
         kept = λ clean. tt;
         durable = λ clean t h. elim h [
           | inl e ↦ e
@@ -100,12 +110,18 @@ module _ {S : Type 0} {g : Ghosts S} {kept : Option RegisterRows} {old new : Sto
         unclean = λ clean none is. cc;
       }
 
-  pub made_settles : IsSettled g None new
-  made_settles =
+  pub made_settles : {lower : Marks}
+      → ((supplier : List ℕ) → mark_of lower supplier ≡ mark_after_all supplier changes (mark_of marks supplier))
+      → btree_map_len lower ≤ btree_map_len marks → IsSettled g None lower new
+  made_settles {lower = lower} lowers fewer =
       let back = clean_before (state g old.held) (state g new.held) _ did.crash in record {
         idle = did.mode;
         schema = λ none clean. (did.done clean (held_before g old new settled back clean)).1.schema;
         hub = λ clean o. (did.done clean (held_before g old new settled back clean)).1;
         rows = λ clean o. sym (content_after g old new past);
         register = λ clean. tt;
+        taken = λ clean.
+            subst (λ t. TakenUpToMarks t lower) (sym (becomes g old new settled back did past clean))
+            (lowered changes (content g old) marks lower (settled.taken (back clean)) lowers);
+        few = omega (arith, fewer, settled.few);
       }

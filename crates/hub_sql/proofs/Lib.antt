@@ -1,7 +1,10 @@
 pub mod Adopted
 pub mod Committing
 pub mod FilesOrder
+pub mod Fresh
+pub mod Lists
 pub mod Looking
+pub mod Marking
 pub mod Migrated
 pub mod Moving
 pub mod Reading

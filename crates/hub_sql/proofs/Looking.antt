@@ -19,6 +19,7 @@ use Rattle.hub_schema.specs.Schema.{hub_schema}
 use Rattle.hub_schema.specs.State.{Holds, LooksUp}
 use Rattle.hub_sql.specs.Settling.{Settles}
 use Rattle.hub_sql.specs.Stored.{Stored, rows_in, content, left, HasRegister, IsSettled, honest}
+use Rattle.hub_sql.specs.Marks.{Marks, TakenUpToMarks}
 use Rattle.hub_schema.proofs.Same.{same_hub}
 
 pub ok_of : {X E : Type 0} (P : X → Type 0) (found : Result X E) (x : X) → found ≡ Ok x → IfOk found P → P x
@@ -51,7 +52,8 @@ failed None after result none lasting known = record {
     is_other (Err f) h = λ e. h (ap Err e)
 failed (Some f) after result none lasting known = cc
 
-module _ {S : Type 0} (g : Ghosts S) {kept : Option RegisterRows} (old new : Stored S) (settled : IsSettled g kept old)
+module _ {S : Type 0} (g : Ghosts S) {kept : Option RegisterRows} {marks : Marks} (old new : Stored S)
+    (settled : IsSettled g kept marks old)
     (whole : old.fault ≡ None)
     (past : new.past ≡ old.past) where
   pub same_content : content g new ≡ content g old
@@ -65,7 +67,7 @@ module _ {S : Type 0} (g : Ghosts S) {kept : Option RegisterRows} (old new : Sto
       → (honest g new → honest g old)
       → (honest g new → IsTrue (state g new.held).is_open → IsTrue (state g old.held).is_open ×
       ((state g new.held).now ≡ (state g old.held).now))
-      → IsSettled g kept new
+      → IsSettled g kept marks new
   still idle schema back shows = record {
     idle = idle;
     schema = λ none clean. schema clean none;
@@ -74,6 +76,8 @@ module _ {S : Type 0} (g : Ghosts S) {kept : Option RegisterRows} (old new : Sto
     rows = λ clean o. let was = shows clean o in ap (λ d. tables_in d.trees) was.1 ∙ settled.rows
         (back clean) was.0 ∙ sym same_content;
     register = λ clean. subst (λ t. IfSome kept (HasRegister t)) (sym same_content) (settled.register (back clean));
+    taken = λ clean. subst (λ t. TakenUpToMarks t marks) (sym same_content) (settled.taken (back clean));
+    few = settled.few;
   }
 
   module _ {X : Type 0} (answer : Tables → X) (found result : Result X StoreFault)
@@ -111,7 +115,7 @@ module _ {S : Type 0} (g : Ghosts S) {kept : Option RegisterRows} (old new : Sto
     pub look_fails : Fails false old.fault new.fault result
     look_fails = failed old.fault new.fault result whole makes.lasting makes.version
 
-    pub look_settles : IsSettled g kept new
+    pub look_settles : IsSettled g kept marks new
     look_settles =
         still (looks.mode settled.idle) (λ clean none. schema result makes.value makes.usable clean none) back
         (λ clean o. looks.stays clean settled.idle (settled.schema whole (back clean)) o)

@@ -19,7 +19,7 @@ use Rattle.hub_reads.specs.Asks.{HasDiskCause}
 use Rattle.hub_rules.specs.Laws.{SoundHub}
 use Rattle.hub_rules.specs.Sound.{Sound}
 use Rattle.hub_sql.specs.Founding.{FailsOver, Founds, IsOfFounding, MayBeBeside, MayBeFounded, RefusesFounding, Stood}
-use Rattle.hub_sql.specs.Opening.{ComesBack, ComesOpen, ComesWith, IsAsBefore, IsKnown, IsReady, IsSpared}
+use Rattle.hub_sql.specs.Opening.{ComesBack, ComesOpen, ComesWith, IsAsBefore, IsKnown, IsSpared}
 use Rattle.hub_sql.specs.Opening.{SparesConnection}
 use Rattle.hub_sql.specs.Stored.{Stored, content, left, honest}
 use Rattle.hub_sql.specs.Version.{AreRising, AreShaped, HoldsTables, schema_of}

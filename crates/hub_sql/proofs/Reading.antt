@@ -20,6 +20,7 @@ use Rattle.hub_schema.specs.State.{LooksFor, LooksIn, LooksUp}
 use Rattle.hub_reads.proofs.Joining.{of_hub}
 use Rattle.hub_sql.specs.Settling.{Settles}
 use Rattle.hub_sql.specs.Stored.{Stored, content, left, HasRegister, IsSettled, honest}
+use Rattle.hub_sql.specs.Marks.{Marks}
 use Rattle.hub_sql.proofs.Looking.{failed, holds, still, same_content, looked, ok_of, on_ok_of, refused_fails}
 
 -- where there is none, that is a fault
@@ -85,7 +86,8 @@ as_look old new result holds looks = record {
     theirs t (Ok register) is = is.1
     theirs t (Err fault) is = tt
 
-module _ {S : Type 0} (g : Ghosts S) {kept : Option RegisterRows} (old new : Stored S) (settled : IsSettled g kept old)
+module _ {S : Type 0} (g : Ghosts S) {kept : Option RegisterRows} {marks : Marks} (old new : Stored S)
+    (settled : IsSettled g kept marks old)
     (whole : old.fault ≡ None) (past : new.past ≡ old.past) (found result : Result RegisterRows StoreFault)
     (looks : LooksFor HasRegister HoldsNone (state g old.held) (state g new.held) found)
     (makes : Settles found new.held.schema result new.fault) where
@@ -120,7 +122,7 @@ module _ {S : Type 0} (g : Ghosts S) {kept : Option RegisterRows} (old new : Sto
           (looks.answers clean (holds g old new settled whole past (back clean))))
       go (Err f) is clean = tt
 
-  pub read_settles : IsSettled g kept new
+  pub read_settles : IsSettled g kept marks new
   read_settles =
       still g old new settled whole past (looks.mode settled.idle)
       (λ clean none. schema result makes.value makes.usable clean none) back
@@ -157,7 +159,8 @@ module _ {S : Type 0} (g : Ghosts S) (s : Stored S) (result : Result RegisterRow
   }
 
 -- one that is kept is answered of a store without a fault for good
-module _ {S : Type 0} (g : Ghosts S) (s : Stored S) (register : RegisterRows) (settled : IsSettled g (Some register) s)
+module _ {S : Type 0} (g : Ghosts S) {marks : Marks} (s : Stored S) (register : RegisterRows)
+    (settled : IsSettled g (Some register) marks s)
     (whole : s.fault ≡ None) where
   abbrev found : Result RegisterRows StoreFault
   found = Ok register
@@ -184,11 +187,13 @@ module _ {S : Type 0} (g : Ghosts S) (s : Stored S) (register : RegisterRows) (s
     unclean = λ clean none is. cc;
   }
 
-  pub kept_settles : IsSettled g None s
+  pub kept_settles : IsSettled g None marks s
   kept_settles = record {
     idle = settled.idle;
     schema = settled.schema;
     hub = settled.hub;
     rows = settled.rows;
     register = λ clean. tt;
+    taken = settled.taken;
+    few = settled.few;
   }

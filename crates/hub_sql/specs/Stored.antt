@@ -1,7 +1,8 @@
 -- A store over a connection, as its clauses see it.
-use Rattle.std.specs.Prelude.{◌≡◌, ◌⊎◌, Bool, false, IsTrue, List, Option, None, Some, refl}
+use Rattle.std.specs.Prelude.{◌≡◌, ◌⊎◌, ◌≤◌, Bool, false, IsTrue, List, Option, None, Some, refl}
 use Rattle.std.specs.Option.{IfSome}
 use Rattle.std.specs.Coded.{Coded, code_by, coded×, coded_list, coded_option, coded_bool}
+use Rattle.std.specs.BTreeMap.{btree_map_len}
 use Rattle.std.specs.List.{last_or}
 use Rattle.sqlite.specs.Held.{Held, held_code, state}
 use Rattle.sqlite.specs.State.{State, HasCleanDisk}
@@ -15,6 +16,7 @@ use Rattle.hub_store.specs.contracts.fault.LastingFault as lasting
 use Rattle.hub_schema.specs.Rows.{tables_in}
 use Rattle.hub_schema.specs.Schema.{hub_schema}
 use Rattle.hub_schema.specs.State.{IsHub}
+use Rattle.hub_sql.specs.Marks.{Marks, TakenUpToMarks, most_marks}
 
 pub record Stored (S : Type 0) : Type 0 where
   pub held : Held S
@@ -60,8 +62,9 @@ module _ {S : Type 0} (g : Ghosts S) where
     pub clean : honest s → HasCleanDisk was
 
   -- what is true of each store: where it is open, also after a fault for good, it has the hub's tables, whose rows are
-  -- the content; while no fault is for good, its schema is the hub's; and a register that it keeps is that of the content
-  pub record IsSettled (kept : Option RegisterRows) (s : Stored S) : Type 0 where
+  -- the content; while no fault is for good, its schema is the hub's; a register that it keeps is that of the content; and
+  -- so are the numbers that it keeps of suppliers, up to which their entries are taken, of which there are not too many
+  pub record IsSettled (kept : Option RegisterRows) (marks : Marks) (s : Stored S) : Type 0 where
     pub idle : s.held.in_transaction ≡ false
     pub schema : s.fault ≡ None → HasCleanDisk (state g s.held) → s.held.schema ≡ hub_schema
     pub hub : HasCleanDisk (state g s.held) → IsTrue (state g s.held).is_open → IsHub (state g s.held)
@@ -69,3 +72,5 @@ module _ {S : Type 0} (g : Ghosts S) where
         HasCleanDisk (state g s.held) → IsTrue (state g s.held).is_open →
         tables_in (state g s.held).now.trees ≡ content s
     pub register : HasCleanDisk (state g s.held) → IfSome kept (HasRegister (content s))
+    pub taken : HasCleanDisk (state g s.held) → TakenUpToMarks (content s) marks
+    pub few : btree_map_len marks ≤ most_marks

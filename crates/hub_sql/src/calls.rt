@@ -3,6 +3,8 @@ ghost use Rattle.std.specs.Prelude.{false};
 ghost use Rattle.std.proofs.Common.{inl, refl};
 ghost use Rattle.std.proofs.lemmas.Bool.{false≢true};
 
+use crate::mailbox::list_after;
+use crate::marks::lower_marks;
 use crate::register::held_register;
 use crate::store::{SqliteStore, again, settle};
 use edi_base::Items;
@@ -117,7 +119,14 @@ impl<S: Alter> Store for SqliteStore<S> {
         if let Some(lasting) = self.fault {
             return Err(again(lasting));
         }
-        let found = hub_reads::mail_after(&mut self.conn, self.alloc, supplier, number, limit);
+        let found = list_after(
+            &mut self.conn,
+            self.alloc,
+            &mut self.marks,
+            supplier,
+            number,
+            limit,
+        );
         settle(found, self.conn.schema(), &mut self.fault)
     }
 
@@ -176,6 +185,7 @@ impl<S: Alter> Store for SqliteStore<S> {
         match hub_writes::commit(&mut self.conn, changes) {
             Ok(()) => {
                 self.register = None;
+                lower_marks(&mut self.marks, changes);
                 self.past = self.past.and(&self.conn, &true);
                 Ok(())
             }

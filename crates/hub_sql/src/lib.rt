@@ -5,6 +5,8 @@ mod calls;
 mod fault;
 mod file;
 mod founding;
+mod mailbox;
+mod marks;
 mod migrating;
 mod opening;
 mod register;

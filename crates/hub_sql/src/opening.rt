@@ -230,6 +230,7 @@ impl<S: Alter + Drop> SqliteStore<S> {
             alloc: _,
             fault: _,
             register: _,
+            marks: _,
             past: _,
         } = self;
         conn

@@ -9,6 +9,7 @@ ghost use Rattle.hub_store.specs.Calls.{fault_of};
 ghost use Rattle.hub_sql.specs.Settling.{Settles};
 ghost use Rattle.hub_sql.specs.Stored.{HasRegister};
 
+use crate::marks::TakenMarks;
 use http_server::Log;
 use hub_register::Register;
 use hub_schema::is_hub_schema;
@@ -16,6 +17,7 @@ use hub_store::{LastingFault, StoreFault};
 use sqlite::{Alter, Connection};
 use sqlite_schema::schema::Schema;
 use std::alloc::Global;
+use std::collections::BTreeMap;
 use std::marker::Model;
 
 /// The tables of a hub in a database of SQL.
@@ -26,6 +28,8 @@ pub struct SqliteStore<S: Alter> {
     pub(crate) fault: Option<LastingFault>,
     // The register of the rows, from when they were taken over until it is asked for or they change.
     pub(crate) register: Option<Register>,
+    // Up to which number all entries of a mailbox are taken, for suppliers that asked for a list.
+    pub(crate) marks: TakenMarks,
     // Takes no memory: what the connection was when it was opened, and after each commit, which only clauses read.
     pub(crate) past: Log<Connection<S>, bool>,
 }
@@ -39,7 +43,7 @@ impl<S: Alter> Model for SqliteStore<S> {
 
     ghost view = { λ s. record { held = s.conn; fault = s.fault; past = s.past.items } };
 
-    ghost invariant = { λ s. IsSettled S.Store s.register
+    ghost invariant = { λ s. IsSettled S.Store s.register s.marks
         (record { held = s.conn; fault = s.fault; past = s.past.items }) };
 }
 
@@ -96,6 +100,7 @@ impl<S: Alter> SqliteStore<S> {
             alloc,
             fault: None,
             register,
+            marks: BTreeMap::new(alloc),
             past,
         }
     }
