@@ -445,6 +445,64 @@ def ends_at_once(program):
         return None
 
 
+STATUS_OF_ALPHA = f"/p/{ALPHA}/status"
+UPLOADS = f"POST /p/{RETAILER}/interchanges HTTP/1.1"
+# requests that are read to their end
+READ = [
+    get(ALPHA, "status", 200, "end\n"),
+    get(ALPHA, "mail/item/1", 404, "unknown\n"),
+    get(RETAILER, "status", 403, "denied\n"),
+    ("a GET with a length of 0", asking("GET", STATUS_OF_ALPHA, ALPHA, ""), 200, "end\n"),
+    ("another path", asking("GET", "/nothing"), 404, "unknown\n"),
+    ("another method", asking("DELETE", STATUS_OF_ALPHA, ALPHA), 405, "method\n"),
+    ("two keys", asking("GET", STATUS_OF_ALPHA, ALPHA, None, "X-Hub-Key: alpha-key-1"), 400, "bad request\n"),
+    upload(RETAILER, "", "refused E06", status=400),
+    upload(RETAILER, "x" * 1_048_576, "refused E05", status=400),
+    post(RETAILER, "cancellations", "x" * 100_000, 400, "bad request\n"),
+]
+# requests of which more may come: bytes behind their end, a body that is not looked at, or an end that is not known
+NOT_READ = [
+    ("a byte behind a GET", asking("GET", STATUS_OF_ALPHA, ALPHA) + b"x", 200, "end\n"),
+    ("a byte behind an upload", upload(RETAILER, "")[1] + b"x", 400, "refused E06\n"),
+    ("a GET that announces a body", asking("GET", STATUS_OF_ALPHA, ALPHA, None, "Content-Length: 5"), 200, "end\n"),
+    ("a GET in pieces", asking("GET", STATUS_OF_ALPHA, ALPHA, None, "Transfer-Encoding: chunked"), 200, "end\n"),
+    ("another path, with a length", asking("GET", "/nothing", None, None, "Content-Length: 5"), 404, "unknown\n"),
+    ("a denied upload without its body", head(UPLOADS, "X-Hub-Key: another-key", "Content-Length: 5"), 403, "denied\n"),
+    ("an upload without a length", head(UPLOADS, "X-Hub-Key: retail-key"), 411, "length\n"),
+    ("an upload that is too large", head(UPLOADS, "X-Hub-Key: retail-key", "Content-Length: 1048577"), 413, "too large\n"),
+    ("no request", b"\r\nGET\r\n\r\n", 400, "bad request\n"),
+]
+
+
+def next_after(server, request, status, body):
+    """What is wrong, if anything, and how long the next client waits. The one before it reads its whole answer, and does not end its
+    side."""
+    with server.connect() as one:
+        one.sendall(request)
+        why = unlike("the answer", all_of(one), response(status, body))
+        begun = time.monotonic()
+        found = server.ask(asking("GET", f"/p/{BETA}/status", BETA))
+        return why or unlike("the next one", found, response(200, "end\n")), time.monotonic() - begun
+
+
+def lingering(program):
+    """A client that has its answer and does not end its side holds the next one for a second, and only where more of its request may
+    come."""
+    with Server(program, 2 * TIMES * len(READ + NOT_READ)) as server:
+        for waits, requests in ((False, READ), (True, NOT_READ)):
+            for name, *asked in requests:
+                passed = []
+                # what is measured on a machine that is not quiet is not always right
+                while len(passed) < TIMES and (not passed or (passed[-1] > AT_ONCE) != waits):
+                    why, seconds = next_after(server, *asked)
+                    if why:
+                        return f"{name}: {why}"
+                    passed.append(seconds)
+                if (passed[-1] > AT_ONCE) != waits:
+                    return f"{name}: the next one waited {passed[-1]:.2f} seconds"
+        return None
+
+
 def order_of_lines(number, lines):
     """An interchange of one order of so many lines."""
     each = [it for k in range(1, lines + 1) for it in (f"LIN+{k}++4000862141404:SRV", "QTY+21:48")]
@@ -747,6 +805,7 @@ ALL = {
     "a connection that is not taken": not_taken,
     "descriptors": descriptors,
     "the end of an answer": ends_at_once,
+    "who waits for whom": lingering,
     "curl": by_curl,
 }
 

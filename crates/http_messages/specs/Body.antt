@@ -12,3 +12,9 @@ pub record Fills (old new : Option (List ℕ)) (before after : List ℕ) (room :
   pub consumed : Consumes old new more
   pub after_is : after ≡ before ++ more
   pub ends : length more < room → IsAtEnd new
+
+-- so many bytes of a source were taken
+pub record TakesExactly (old new : Option (List ℕ)) (count : ℕ) : Type 0 where
+  pub bytes : List ℕ
+  pub consumed : Consumes old new bytes
+  pub counted : length bytes ≡ count

@@ -2,7 +2,7 @@
 
 ghost use Rattle.std.specs.Prelude.{◌≡◌, ◌≢◌, ◌≤◌, ◌-◌, ◌++◌, true, length, take, Err, IfOk, IfSome};
 ghost use Rattle.edi_base.specs.Source.{TakesAtMost};
-ghost use Rattle.http_messages.specs.Body.{body_in, Fills};
+ghost use Rattle.http_messages.specs.Body.{body_in, Fills, TakesExactly};
 
 use crate::more::read_more;
 use edi_base::{Items, ReadFault, Source};
@@ -19,6 +19,7 @@ fn fill<R: Source>(source: &mut R, bytes: &mut [u8], filled: usize) -> Result<us
         (length bytes.old - filled) }
     ensures read { result ≡ Err ReadFault.Read → R.failed source.new ≡ true }
     ensures kept { result ≢ Err ReadFault.Read → R.failed source.new ≡ R.failed source.old }
+    ensures no_memory { result ≢ Err ReadFault.Memory }
 {
     let mut end = filled;
     while end < bytes.len() {
@@ -60,6 +61,11 @@ pub fn read_body<R: Source>(
 
     // Whatever is answered, no more than the front lacks was taken from the source.
     ensures front { TakesAtMost (R.remaining source.old) (R.remaining source.new) (size - length front.now) }
+
+    // Of a whole body exactly what the front lacks was, and without memory nothing.
+    ensures whole { IfOk result (λ body. IfSome body (λ _. TakesExactly (R.remaining source.old)
+        (R.remaining source.new) (size - length front.now))) }
+    ensures memory { result ≡ Err ReadFault.Memory → R.remaining source.new ≡ R.remaining source.old }
 
     // A read fault comes only from the source, and else the source's flag stays.
     ensures read { result ≡ Err ReadFault.Read → R.failed source.new ≡ true }

@@ -1,6 +1,7 @@
 mod Bounds
 mod Callers
 mod Examples
+mod Extents
 mod Judging
 mod PathExamples
 mod Serving

@@ -16,6 +16,7 @@ use Rattle.hub_http.specs.Serve.{response}
 use Rattle.hub_http.proofs.Bounds.{both_taken}
 use Rattle.hub_http.proofs.Judging.{passed_first}
 use Rattle.hub_http.specs.declared.answer.Answer.{Answer}
+use Rattle.hub_http.specs.declared.answer.Answered.{Answered}
 use Rattle.hub_http.specs.declared.refusal.Refusal.{Refusal}
 use Rattle.hub_http.specs.declared.refusal.Refusal.TheVariants.{BadRequest}
 
@@ -79,33 +80,34 @@ module _ (Replies : Question → Reply → Type 0) (Same : Type 0) (register : R
     taken = taken;
   }
 
-  pub serves_some : {E : Type 0} (old new after : Option (List ℕ)) (head : Heading) (r : Result Answer E)
+  pub serves_some : {E : Type 0} (old new after : Option (List ℕ)) (head : Heading) (r : Result Answered E)
       → Finds old new (Some head)
       → TakesAtMost old new longest_head
       → TakesAtMost new after (announced_by register (Some head))
-      → IfOk r (λ answer. IfSome new (λ left.
-      Answers Replies Same (is_single head) (question_of register (Some (before left head))) answer))
-      → IfOk r (λ answer. IfSome old (λ known. Serves Replies Same register known after answer))
-  serves_some old new after head (Ok answer) found first more answers =
-      serves_head old new after head answer found (both_taken old new after _ _ first more) answers
+      → IfOk r (λ answered. IfSome new (λ left.
+      Answers Replies Same (is_single head) (question_of register (Some (before left head))) answered.answer))
+      → IfOk r (λ answered. IfSome old (λ known. Serves Replies Same register known after answered.answer))
+  serves_some old new after head (Ok answered) found first more answers =
+      serves_head old new after head answered.answer found (both_taken old new after _ _ first more) answers
   serves_some old new after head (Err e) found first more answers = tt
 
   -- what is answered to what a head asks for, with the bytes behind it, is answered to these
-  pub answers_head : {E : Type 0} (known : Option (List ℕ)) (head : Heading) (asked : Asked) (rest : List ℕ) (r : Result Answer E)
+  pub answers_head : {E : Type 0} (known : Option (List ℕ)) (head : Heading) (asked : Asked) (rest : List ℕ)
+      (r : Result Answered E)
       → Ok asked ≡ asked_by register head
       → rest ≡ head.rest
-      → IfOk r (λ answer. IfSome known (λ left.
-      Answers Replies Same true (with_body asked (body_in asked.size (rest ++ left))) answer))
-      → IfOk r (λ answer. IfSome known (λ left.
-      Answers Replies Same (is_single head) (question_of register (Some (before left head))) answer))
+      → IfOk r (λ answered. IfSome known (λ left.
+      Answers Replies Same true (with_body asked (body_in asked.size (rest ++ left))) answered.answer))
+      → IfOk r (λ answered. IfSome known (λ left.
+      Answers Replies Same (is_single head) (question_of register (Some (before left head))) answered.answer))
   answers_head known head asked rest (Err e) asks same answers = tt
-  answers_head None head asked rest (Ok answer) asks same answers = tt
-  answers_head (Some left) head asked rest (Ok answer) asks same answers =
+  answers_head None head asked rest (Ok answered) asks same answers = tt
+  answers_head (Some left) head asked rest (Ok answered) asks same answers =
       let is : with_body asked (body_in asked.size (rest ++ left)) ≡ question_of register (Some (before left head)) =
       ap (λ (more : List ℕ). and_body (more ++ left) (Ok asked)) same ∙ ap (and_body (head.rest ++ left)) asks in
-      subst (λ (b : Bool). Answers Replies Same b (question_of register (Some (before left head))) answer)
+      subst (λ (b : Bool). Answers Replies Same b (question_of register (Some (before left head))) answered.answer)
       (sym (passed_first register head asked asks))
-      (subst (λ (q : Result Question Refusal). Answers Replies Same true q answer) is answers)
+      (subst (λ (q : Result Question Refusal). Answers Replies Same true q answered.answer) is answers)
 
   -- a front of the response was written
   pub ended_cut : (known after was is : Option (List ℕ)) (answer : Answer)

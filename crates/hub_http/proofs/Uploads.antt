@@ -17,7 +17,7 @@ use Rattle.edi_envelope.specs.declared.interchange.Interchange.{Interchange}
 use Rattle.edi_envelope.specs.Gathered.{Flagged}
 use Rattle.edi_envelope.specs.Opened.{opened, Opens}
 use Rattle.hub_requests.specs.declared.reply.Reply.{Reply}
-use Rattle.http_messages.specs.Body.{body_in}
+use Rattle.http_messages.specs.Body.{TakesExactly, body_in}
 use Rattle.hub_http.specs.Answer.{Answers, AnswersWhatever, Ends}
 use Rattle.hub_http.specs.Asked.{Asked}
 use Rattle.hub_http.specs.Question.{Question, of_asker, request_for, uploading, with_body}
@@ -99,6 +99,13 @@ module _ {E : Type 0} (before between after : Option (List ℕ)) (old new : Lend
 
   all_takes : (missing : ℕ) → result ≡ Ok missing → TakesOf before after (room_of old) missing
   all_takes missing is = takes_then before between after (room_of old) (room_of new) missing first (away_so missing is).0
+
+  -- nothing is missing
+  pub exactly_read : result ≡ Ok 0 → TakesExactly before after (size - length front)
+  exactly_read is =
+      let takes = all_takes 0 is in
+      let counted = takes.counted in
+      record { bytes = takes.front; consumed = takes.consumed; counted = omega (arith, counted, begun.room_is) }
 
   pub whole_read : (upload : Result Interchange OpenFault) → result ≡ Ok 0
       → ((all : List ℕ) → Fed before all [] old → Opens upload (opened all))

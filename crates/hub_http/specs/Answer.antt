@@ -14,6 +14,7 @@ use Rattle.hub_http.specs.Asked.{Asked, asked_by, is_single}
 use Rattle.hub_http.specs.Question.{Question, Asks}
 use Rattle.hub_http.specs.Refusal.{status_of, text_of}
 use Rattle.hub_http.specs.declared.answer.Answer.{Answer}
+use Rattle.hub_http.specs.declared.answer.Answered.{Answered}
 use Rattle.hub_http.specs.declared.answer.Text.{Text}
 use Rattle.hub_http.specs.declared.answer.Text.TheVariants.{Fixed, Made}
 use Rattle.hub_http.specs.declared.refusal.Refusal.{Refusal}
@@ -71,8 +72,8 @@ module _ (Replies : Question → Reply → Type 0) (Same : Type 0) where
   AnswersWhatever answer = (question : Result Question Refusal) × Answers true question answer
 
   -- that, and the reader's flag stays; or a read failed, and the hub is as before
-  abbrev pub AnswersOrFails : {E : Type 0} → Bool → Bool → Result Answer E → Type 0
-  AnswersOrFails failed_before failed (Ok answer) = AnswersWhatever answer × (failed ≡ failed_before)
+  abbrev pub AnswersOrFails : {E : Type 0} → Bool → Bool → Result Answered E → Type 0
+  AnswersOrFails failed_before failed (Ok answered) = AnswersWhatever answered.answer × (failed ≡ failed_before)
   AnswersOrFails failed_before failed (Err fault) = Same × (failed ≡ true)
 
 -- the first check: a head stands there, and its key and its length at most once

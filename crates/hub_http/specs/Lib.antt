@@ -1,5 +1,6 @@
 pub mod Answer
 pub mod Asked
+pub mod Extent
 pub mod Parts
 pub mod Paths
 pub mod Question

@@ -9,11 +9,13 @@ ghost use Rattle.hub_law.specs.Replies.{stopped_line};
 ghost use Rattle.hub_core.specs.Steps.{IsNoJoin};
 ghost use Rattle.hub_http.specs.Answer as spec;
 ghost use Rattle.hub_http.specs.Asked.{asked_by, is_single, longest_body};
+ghost use Rattle.hub_http.specs.Extent.{TellsBody, TellsEnd, body_size as size_of_body};
 ghost use Rattle.hub_http.specs.Question.{question_as, question_of, uploading, with_body};
 ghost use Rattle.hub_http.specs.Refusal.{status_of as refusal_status, text_of};
 ghost use Rattle.hub_http.specs.Wording.{asked_as};
 
 use crate::asked::{Asked, asked_of};
+use crate::extent::{body_size, is_read, is_whole};
 use crate::paths::Paths;
 use crate::question::request_of;
 use crate::refusal::Refusal;
@@ -41,6 +43,13 @@ pub(crate) enum Text {
 pub(crate) struct Answer {
     pub status: StatusCode,
     pub text: Text,
+}
+
+/// What a request is answered, and whether it was read to its end, and no further.
+#[derive(Drop)]
+pub(crate) struct Answered {
+    pub answer: Answer,
+    pub read_to_end: bool,
 }
 
 // The answer where nothing is asked of the hub.
@@ -137,31 +146,45 @@ fn ask_opened<S: Store>(
     replied(reply)
 }
 
-// The answer to an upload whose body begins with these bytes. It is not kept.
+// The answer to an upload whose body begins with these bytes. It is not kept. `sent` is the number of bytes of the body,
+// where that is known.
 fn answer_upload<R: Source, S: Store>(
     alloc: Global,
     hub: &mut Hub<S>,
     moment: Moment,
     reader: &mut R,
     front: &[u8],
+    sent: Option<usize>,
     asked: &Asked<'_>,
-) -> Result<Answer, HeadFault>
+) -> Result<Answered, HeadFault>
     requires route { asked.now.route ≡ Route.Interchanges }
     requires short { asked.now.size ≤ longest_body }
-    ensures answers { IfOk result (λ answer. IfSome (R.remaining reader.old) (λ left.
+    requires sized { IfSome sent (λ size. size ≡ asked.now.size) }
+    ensures answers { IfOk result (λ answered. IfSome (R.remaining reader.old) (λ left.
         spec.Answers (spec.Steps S.content S.honest S.left moment hub.old hub.new) (hub.new ≡ hub.old) true
-        (with_body (asked_as asked.now) (body_in (asked_as asked.now).size (front.now ++ left))) answer)) }
+        (with_body (asked_as asked.now) (body_in (asked_as asked.now).size (front.now ++ left))) answered.answer)) }
     ensures or_fails { spec.AnswersOrFails (spec.Steps S.content S.honest S.left moment hub.old hub.new)
         (hub.new ≡ hub.old) (R.failed reader.old) (R.failed reader.new) result }
     ensures stays { spec.Stays S.content S.honest hub.old hub.new }
     ensures front { TakesAtMost (R.remaining reader.old) (R.remaining reader.new)
         (asked.now.size - length front.now) }
+    ensures to_end { IfOk result (λ answered.
+        TellsBody sent front.now (R.remaining reader.old) (R.remaining reader.new) answered.read_to_end) }
 {
     match open_body(alloc, reader, front, asked.size) {
-        Ok(Some(upload)) => Ok(ask_opened(hub, moment, asked, upload)),
-        Ok(None) => Ok(refused(Refusal::BadRequest)),
+        Ok(Some(upload)) => Ok(Answered {
+            answer: ask_opened(hub, moment, asked, upload),
+            read_to_end: is_whole(sent, front.len().max(asked.size)),
+        }),
+        Ok(None) => Ok(Answered {
+            answer: refused(Refusal::BadRequest),
+            read_to_end: false,
+        }),
         Err(ReadFault::Read) => Err(HeadFault),
-        Err(ReadFault::Memory) => Ok(stopped()),
+        Err(ReadFault::Memory) => Ok(Answered {
+            answer: stopped(),
+            read_to_end: is_whole(sent, front.len()),
+        }),
     }
 }
 
@@ -172,25 +195,35 @@ fn answer_asked<R: Source, S: Store>(
     moment: Moment,
     reader: &mut R,
     front: &[u8],
+    sent: Option<usize>,
     asked: &Asked<'_>,
-) -> Result<Answer, HeadFault>
-    requires { asked.now.size ≤ longest_body }
-    ensures answers { IfOk result (λ answer. IfSome (R.remaining reader.old) (λ left.
+) -> Result<Answered, HeadFault>
+    requires short { asked.now.size ≤ longest_body }
+    requires sized { IfSome sent (λ size. size ≡ asked.now.size) }
+    ensures answers { IfOk result (λ answered. IfSome (R.remaining reader.old) (λ left.
         spec.Answers (spec.Steps S.content S.honest S.left moment hub.old hub.new) (hub.new ≡ hub.old) true
-        (with_body (asked_as asked.now) (body_in (asked_as asked.now).size (front.now ++ left))) answer)) }
+        (with_body (asked_as asked.now) (body_in (asked_as asked.now).size (front.now ++ left))) answered.answer)) }
     ensures or_fails { spec.AnswersOrFails (spec.Steps S.content S.honest S.left moment hub.old hub.new)
         (hub.new ≡ hub.old) (R.failed reader.old) (R.failed reader.new) result }
     ensures stays { spec.Stays S.content S.honest hub.old hub.new }
     ensures front { TakesAtMost (R.remaining reader.old) (R.remaining reader.new)
         (asked.now.size - length front.now) }
+    ensures to_end { IfOk result (λ answered.
+        TellsBody sent front.now (R.remaining reader.old) (R.remaining reader.new) answered.read_to_end) }
 {
     if let Route::Interchanges = asked.route {
-        return answer_upload(alloc, hub, moment, reader, front, asked);
+        return answer_upload(alloc, hub, moment, reader, front, sent, asked);
     }
     match read_body(alloc, reader, front, asked.size) {
-        Ok(body) => Ok(answer_body(alloc, hub, moment, asked, body)),
+        Ok(body) => Ok(Answered {
+            read_to_end: is_read(&body, sent, front.len().max(asked.size)),
+            answer: answer_body(alloc, hub, moment, asked, body),
+        }),
         Err(ReadFault::Read) => Err(HeadFault),
-        Err(ReadFault::Memory) => Ok(stopped()),
+        Err(ReadFault::Memory) => Ok(Answered {
+            answer: stopped(),
+            read_to_end: is_whole(sent, front.len()),
+        }),
     }
 }
 
@@ -202,19 +235,25 @@ fn answer_head<R: Source, S: Store>(
     moment: Moment,
     reader: &mut R,
     head: &Head,
-) -> Result<Answer, HeadFault>
-    ensures answers { IfOk result (λ answer. IfSome (R.remaining reader.old) (λ left.
+) -> Result<Answered, HeadFault>
+    ensures answers { IfOk result (λ answered. IfSome (R.remaining reader.old) (λ left.
         spec.Answers (spec.Steps S.content S.honest S.left moment hub.old hub.new) (hub.new ≡ hub.old)
-        (is_single head.now) (question_of hub.old.0 (Some (before left head.now))) answer)) }
+        (is_single head.now) (question_of hub.old.0 (Some (before left head.now))) answered.answer)) }
     ensures or_fails { spec.AnswersOrFails (spec.Steps S.content S.honest S.left moment hub.old hub.new)
         (hub.new ≡ hub.old) (R.failed reader.old) (R.failed reader.new) result }
     ensures stays { spec.Stays S.content S.honest hub.old hub.new }
     ensures front { TakesAtMost (R.remaining reader.old) (R.remaining reader.new)
         (spec.size_asked (asked_by hub.old.0 head.now) - length head.now.rest) }
+    ensures to_end { IfOk result (λ answered. TellsBody (size_of_body head.now) head.now.rest
+        (R.remaining reader.old) (R.remaining reader.new) answered.read_to_end) }
 {
+    let sent = body_size(head);
     match asked_of(paths, hub, head) {
-        Ok(asked) => answer_asked(alloc, hub, moment, reader, head.rest(), &asked),
-        Err(refusal) => Ok(refused(refusal)),
+        Ok(asked) => answer_asked(alloc, hub, moment, reader, head.rest(), sent, &asked),
+        Err(refusal) => Ok(Answered {
+            answer: refused(refusal),
+            read_to_end: is_whole(sent, head.rest().len()),
+        }),
     }
 }
 
@@ -225,11 +264,11 @@ pub(crate) fn answer_one<R: Source, S: Store>(
     hub: &mut Hub<S>,
     moment: Moment,
     reader: &mut R,
-) -> Result<Answer, HeadFault>
-    ensures answered { IfOk result (λ answer. IfSome (R.remaining reader.old) (λ known.
+) -> Result<Answered, HeadFault>
+    ensures answered { IfOk result (λ answered. IfSome (R.remaining reader.old) (λ known.
         spec.Serves (spec.Steps S.content S.honest S.left moment hub.old hub.new)
         (hub.new ≡ hub.old) hub.old.0 known
-        (R.remaining reader.new) answer)) }
+        (R.remaining reader.new) answered.answer)) }
     ensures or_fails { spec.AnswersOrFails (spec.Steps S.content S.honest S.left moment hub.old hub.new)
         (hub.new ≡ hub.old) (R.failed reader.old) (R.failed reader.new) result }
     ensures stays { spec.Stays S.content S.honest hub.old hub.new }
@@ -237,9 +276,14 @@ pub(crate) fn answer_one<R: Source, S: Store>(
         (longest_head + longest_body) }
     ensures cut { OnErr result (IfSome (R.remaining reader.old) (λ known.
         spec.ReadsWithin hub.old.0 known (R.remaining reader.new))) }
+    ensures to_end { IfOk result (λ answered.
+        TellsEnd (R.remaining reader.old) (R.remaining reader.new) answered.read_to_end) }
 {
     match read_head(reader)? {
         Some(head) => answer_head(alloc, paths, hub, moment, reader, &head),
-        None => Ok(refused(Refusal::BadRequest)),
+        None => Ok(Answered {
+            answer: refused(Refusal::BadRequest),
+            read_to_end: false,
+        }),
     }
 }

@@ -69,8 +69,8 @@ fn route_in(paths: &Paths, target: &str) -> Option<Route>
     paths.route_of(target)
 }
 
-// How many bytes a body has, by the value of its length.
-fn size_in(value: &[u8]) -> Result<usize, Refusal>
+/// How many bytes a body has, by the value of its length.
+pub(crate) fn size_in(value: &[u8]) -> Result<usize, Refusal>
     ensures { result ≡ spec.size_in value.now }
 {
     if !are_digits(1, LONGEST_LENGTH, value) {
@@ -93,8 +93,8 @@ fn announced(head: &Head) -> Result<usize, Refusal>
     }
 }
 
-// How many bytes the body of a POST has. It may not come in pieces.
-fn posted(head: &Head) -> Result<usize, Refusal>
+/// How many bytes the body of a POST has. It may not come in pieces.
+pub(crate) fn posted(head: &Head) -> Result<usize, Refusal>
     ensures { result ≡ spec.posted head.now.fields }
 {
     match head.values(b"Transfer-Encoding") {

@@ -3,6 +3,7 @@
 
 mod answer;
 mod asked;
+mod extent;
 mod parts;
 mod paths;
 mod question;

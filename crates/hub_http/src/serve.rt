@@ -1,5 +1,5 @@
 //! One connection.
-ghost use Rattle.std.specs.Prelude.{◌≡◌, ◌≢◌, ◌+◌, true, Err, IfSome};
+ghost use Rattle.std.specs.Prelude.{◌≡◌, ◌≢◌, ◌+◌, true, Err, IfOk, IfSome};
 ghost use Rattle.edi_base.specs.Buffer.{Flags};
 ghost use Rattle.edi_base.specs.Source.{TakesAtMost};
 ghost use Rattle.http_messages.specs.Head.{longest_head};
@@ -7,9 +7,10 @@ ghost use Rattle.http_messages.specs.Response.{Writes};
 ghost use Rattle.hub_core.specs.Hub.{StaysSound};
 ghost use Rattle.hub_http.specs.Answer.{AnswersWhatever, OneStep, ReadsWithin, Steps};
 ghost use Rattle.hub_http.specs.Asked.{longest_body};
+ghost use Rattle.hub_http.specs.Extent.{TellsEnd};
 ghost use Rattle.hub_http.specs.Serve as spec;
 
-use crate::answer::{Answer, Text, answer_one};
+use crate::answer::{Answer, Answered, Text, answer_one};
 use crate::paths::Paths;
 use edi_base::{Sink, Source, WriteFault};
 use edi_envelope::Moment;
@@ -25,6 +26,9 @@ use std::fmt;
 pub struct Served {
     /// The status that was written.
     pub status: u16,
+    /// Whether the request was read to its end: its head and its whole body, and nothing behind it. If not, its client may
+    /// still be sending. It was not if its body is not looked at or has no known length.
+    pub read_to_end: bool,
 }
 
 /// Why a connection was not served.
@@ -97,6 +101,8 @@ pub fn serve_one<S: Store, R: Source, W: Sink>(
         (longest_head + longest_body) }
     ensures cut { result ≡ Err IoFault.Read → IfSome (R.remaining reader.old) (λ known.
         ReadsWithin hub.old.0 known (R.remaining reader.new)) }
+    ensures to_end { IfOk result (λ served.
+        TellsEnd (R.remaining reader.old) (R.remaining reader.new) served.read_to_end) }
 
     // A fault comes only of the reader or of the writer, and else their flags stay.
     ensures read { result ≡ Err IoFault.Read → R.failed reader.new ≡ true }
@@ -104,12 +110,17 @@ pub fn serve_one<S: Store, R: Source, W: Sink>(
     ensures write { result ≡ Err IoFault.Write → W.failed writer.new ≡ true }
     ensures write_kept { result ≢ Err IoFault.Write → W.failed writer.new ≡ W.failed writer.old }
 {
-    let Ok(answer) = answer_one(alloc, paths, hub, moment, reader) else {
+    let Ok(answered) = answer_one(alloc, paths, hub, moment, reader) else {
         return Err(IoFault::Read);
     };
+    let Answered {
+        answer,
+        read_to_end,
+    } = answered;
     match write_answer(writer, &answer) {
         Ok(()) => Ok(Served {
             status: answer.status.as_u16(),
+            read_to_end,
         }),
         Err(WriteFault) => Err(IoFault::Write),
     }

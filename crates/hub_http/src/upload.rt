@@ -2,7 +2,7 @@
 ghost use Rattle.std.specs.Prelude.{◌≡◌, ◌≢◌, ◌≤◌, ◌-◌, ◌++◌, ◌↔◌, ℕ, List, length, true, Err, IfOk, IfSome};
 ghost use Rattle.edi_base.specs.Source.{TakesAtMost};
 ghost use Rattle.edi_envelope.specs.Opened.{opened, Opens};
-ghost use Rattle.http_messages.specs.Body.{body_in};
+ghost use Rattle.http_messages.specs.Body.{body_in, TakesExactly};
 ghost use Rattle.hub_http.specs.Asked.{longest_body};
 ghost use Rattle.hub_http.specs.Upload.{IsUpload};
 
@@ -44,6 +44,11 @@ pub(crate) fn open_body<R: Source>(
 
     // Whatever is answered, no more than the front lacks was taken from the reader.
     ensures front { TakesAtMost (R.remaining reader.old) (R.remaining reader.new) (size - length front.now) }
+
+    // Of a whole body exactly that was, and without memory nothing.
+    ensures whole { IfOk result (λ upload. IfSome upload (λ _. TakesExactly (R.remaining reader.old)
+        (R.remaining reader.new) (size - length front.now))) }
+    ensures memory { result ≡ Err ReadFault.Memory → R.remaining reader.new ≡ R.remaining reader.old }
     ensures read { result ≡ Err ReadFault.Read → R.failed reader.new ≡ true }
     ensures kept { result ≢ Err ReadFault.Read → R.failed reader.new ≡ R.failed reader.old }
 {

@@ -1,11 +1,12 @@
 -- What became of one connection.
 use Rattle.std.proofs.Common.{◌≡◌, ℕ, ◌+◌, Bool, true, false, List, [], ◌∷◌, Option, Some, None, Result, Ok, Err, refl, ◌∙◌}
 use Rattle.std.proofs.Common.{inl, inr}
-use Rattle.std.specs.Prelude.{◌≢◌}
+use Rattle.std.specs.Prelude.{◌≢◌, IfOk}
 use Rattle.edi_base.specs.Source.{TakesAtMost}
 use Rattle.http_messages.specs.Head.{longest_head}
 use Rattle.hub_http.specs.Answer.{OneStep, Serves, announced_by, passes}
 use Rattle.hub_http.specs.Answer as http
+use Rattle.hub_http.specs.Extent.{TellsEnd}
 use Rattle.hub_http.specs.Question.{Question}
 use Rattle.hub_http.specs.Question as asked
 use Rattle.hub_http.specs.Serve.{Ended}
@@ -127,10 +128,11 @@ pub taken : {Does : Input → Reply → Type 0} {Same : Type 0} {register : Regi
     → FailedSo served closed
     → closed.ending ≡ ending_of served
     → Ended (Asks Does Same register moment) Same register bytes closed.left was closed.sent served
+    → IfOk served (λ done. TellsEnd bytes closed.left done.read_to_end)
     → OneStep (Asks Does Same register moment) Same
     → ServesOne Does Same register old new (ending_of served)
 taken {Does = Does} {Same = Same} {register = register} {was = was} moment bytes closed served clients moments adds begun failed told
-    ended step =
+    ended to_end step =
     let by = asked_so Does Same register moment bytes closed.left was closed.sent served ended step in record {
       one = so_ended Does Same register moment bytes by.0 closed served;
       ends = refl;
@@ -147,6 +149,7 @@ taken {Does = Does} {Same = Same} {register = register} {was = was} moment bytes
             begun = was;
             nothing_sent = begun.nothing_sent;
             ended = by.2;
+            to_end = to_end;
           });
       did = by.3;
     }

@@ -8,7 +8,7 @@ use Rattle.hub_serve.specs.declared.line.Ending.TheVariants.{Answered, Gone, Rea
 
 -- what became of a connection that was served so
 abbrev pub ending_of : Result Served IoFault → Ending
-ending_of (Ok served) = Answered served.status
+ending_of (Ok served) = Answered served
 ending_of (Err Read) = ReadFailed
 ending_of (Err Write) = WriteFailed
 
@@ -18,7 +18,7 @@ port_line port = codes "listening " ++ (decimal port ++ codes "\n")
 
 -- the end of the line of a connection
 abbrev pub end_of : Ending → List ℕ
-end_of (Answered status) = decimal status ++ codes "\n"
+end_of (Answered served) = decimal served.status ++ codes "\n"
 end_of Gone = codes "fault\n"
 end_of ReadFailed = codes "fault\n"
 end_of WriteFailed = codes "fault\n"
@@ -29,7 +29,7 @@ line_of number ending = codes "connection " ++ (decimal number ++ (codes " " ++ 
 
 -- the exit status of a connection
 abbrev pub ending_status : Ending → ℕ
-ending_status (Answered status) = if status == 200 then 0 else if status == 503 then 3 else 1
+ending_status (Answered served) = if served.status == 200 then 0 else if served.status == 503 then 3 else 1
 ending_status Gone = 3
 ending_status ReadFailed = 3
 ending_status WriteFailed = 3

@@ -1,5 +1,5 @@
 -- Connections from the network: how they are taken from a listener, timed, and closed.
-use Rattle.std.specs.Prelude.{◌≡◌, ◌⊎◌, ℕ, Bool, false, [], ◌∷◌, Some, None, IfSome, Result, Ok, Err}
+use Rattle.std.specs.Prelude.{◌≡◌, ◌⊎◌, ℕ, Bool, true, false, [], ◌∷◌, Some, None, IfSome, Result, Ok, Err}
 use Rattle.std.specs.Duration.{as_nanos}
 use Rattle.std.specs.Time.{instant_nanos}
 use Rattle.std.specs.declared.io.ErrorKind.{ErrorKind}
@@ -7,7 +7,7 @@ use Rattle.std.specs.declared.io.ErrorKind.TheVariants.{ConnectionAborted, Conne
 use Rattle.std.specs.declared.time.Instant.{Instant}
 use Rattle.hub_serve.specs.Connections.{Adds}
 use Rattle.hub_serve.specs.Timed.{HasBegun, Lingers, Time}
-use Rattle.hub_serve.specs.Uses.{Deeds, Uses, came, closed, failed, told}
+use Rattle.hub_serve.specs.Uses.{Deeds, Uses, came, closed, failed, has_more, told}
 use Rattle.hub_serve.specs.declared.connections.NoConnection.{NoConnection}
 use Rattle.hub_serve.specs.declared.connections.NoConnection.TheVariants.{Gone, Over}
 use Rattle.hub_serve.specs.declared.line.Ending.{Ending}
@@ -46,9 +46,26 @@ Accepts before after (Err none) =
     ((kind : ErrorKind) × (none ≡ no_connection kind) × Adds before after (failed kind ∷ []))
     ⊎ ((uses : Uses) × (none ≡ Gone) × Adds before after (came ∷ closed uses ∷ []))
 
--- a socket lingers for a second after an answer, and else stays as it is
+-- a socket lingers for a second where bytes have come that were not read, and else stays as it is
+abbrev pub LingersIf : Bool → Uses → Uses → Type 0
+LingersIf true before after = Lingers 1_000_000_000 before after
+LingersIf false before after = after ≡ before
+
+-- it was asked whether there are such bytes
+pub record LingersIfMore (before after : Uses) : Type 0 where
+  pub more : Bool
+  pub asked : Uses
+  pub asks : Adds before asked (has_more more ∷ [])
+  pub lingers : LingersIf more asked after
+
+-- Where the request was not read to its end, it lingers for a second in any case.
+abbrev pub LingersUnless : Bool → Uses → Uses → Type 0
+LingersUnless true before after = LingersIfMore before after
+LingersUnless false before after = Lingers 1_000_000_000 before after
+
+-- that after an answer; after any other ending it stays as it is
 abbrev pub LingersAfter : Ending → Uses → Uses → Type 0
-LingersAfter (Answered status) before after = Lingers 1_000_000_000 before after
+LingersAfter (Answered served) before after = LingersUnless served.read_to_end before after
 LingersAfter _ before after = after ≡ before
 
 -- both sockets of a connection were closed

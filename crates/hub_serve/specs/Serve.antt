@@ -1,8 +1,9 @@
 -- Connections served one after another: what became of each, what is printed, and the exit status.
 use Rattle.std.specs.Prelude.{◌≡◌, ◌⊎◌, ⊤, ℕ, ◌+◌, ◌<◌, ◌≤◌, max, Bool, List, [], ◌∷◌, ◌++◌, length, map, flat_map}
-use Rattle.std.specs.Prelude.{fold, Option, Some, None, Result, Ok, Err, IfSome, IsTrue, IsFalse}
+use Rattle.std.specs.Prelude.{fold, Option, Some, None, Result, Ok, Err, IfOk, IfSome, IsTrue, IsFalse}
 use Rattle.std.specs.List.{AllByRecursion}
 use Rattle.hub_core.specs.Steps.{input_of}
+use Rattle.hub_http.specs.Extent.{TellsEnd}
 use Rattle.hub_http.specs.Question.{Question}
 use Rattle.hub_http.specs.Serve.{Ended}
 use Rattle.hub_http.specs.declared.serve.IoFault.{IoFault}
@@ -92,8 +93,8 @@ FailedSo (Err Read) closed = IsTrue closed.read_failed × IsFalse closed.write_f
 FailedSo (Err Write) closed = IsFalse closed.read_failed × IsTrue closed.write_failed
 
 -- A connection was taken at a moment, served so, and ended as what it became. Where its bytes are known, what was asked
--- is what they ask, and its client was sent the response to that: all of it, or a front where a write failed. Where a
--- read failed, nothing was asked, and nothing sent.
+-- is what they ask, and its client was sent the response to that: all of it, or a front where a write failed; and it is
+-- told whether they were read to the end of the request. Where a read failed, nothing was asked, and nothing sent.
 pub record IsTaken (register : RegisterRows) (one : Connection) (served : Result Served IoFault) : Type 0 where
   pub moment : ℕ
   pub moment_is : one.moment ≡ Some moment
@@ -105,6 +106,7 @@ pub record IsTaken (register : RegisterRows) (one : Connection) (served : Result
   pub begun : Option (List ℕ)
   pub nothing_sent : IfSome begun (λ bytes. bytes ≡ [])
   pub ended : Ended (IsAsked one.asked) (one.asked ≡ None) register one.bytes closed.left begun closed.sent served
+  pub to_end : IfOk served (λ done. TellsEnd one.bytes closed.left done.read_to_end)
 
 -- the client of a connection went away before it was taken: nothing was asked, and nothing sent
 pub record IsGone (one : Connection) : Type 0 where
@@ -114,7 +116,7 @@ pub record IsGone (one : Connection) : Type 0 where
 
 -- what an ending says
 abbrev pub EndsSo : RegisterRows → Connection → Ending → Type 0
-EndsSo register one (Answered status) = IsTaken register one (Ok (record { status = status }))
+EndsSo register one (Answered served) = IsTaken register one (Ok served)
 EndsSo register one Gone = IsGone one
 EndsSo register one ReadFailed = IsTaken register one (Err Read)
 EndsSo register one WriteFailed = IsTaken register one (Err Write)

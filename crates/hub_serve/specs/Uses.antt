@@ -1,5 +1,5 @@
 -- How a socket is used, and a listener, in order, where that is known.
-use Rattle.std.specs.Prelude.{◌≡◌, ℕ, List, [], ◌∷◌, Option, Result, Ok, Err, IfSome}
+use Rattle.std.specs.Prelude.{◌≡◌, ℕ, Bool, List, [], ◌∷◌, Option, Result, Ok, Err, IfSome}
 use Rattle.std.specs.Time.{instant_nanos}
 use Rattle.std.specs.IoError.{error_kind}
 use Rattle.std.specs.declared.io.Error.{Error}
@@ -7,7 +7,8 @@ use Rattle.std.specs.declared.io.ErrorKind.{ErrorKind}
 use Rattle.std.specs.declared.time.Instant.{Instant}
 
 -- One use of a socket: its clock told this moment, in nanoseconds; a read waits so many at most from now on, or a
--- write; it was read, or written to; or it was told that nothing more is sent.
+-- write; it was read, or written to; it was told that nothing more is sent; or it was asked whether bytes have come that
+-- were not read, and this was the answer.
 pub data Use : Type 0 where
   told : ℕ → Use
   read_wait : ℕ → Use
@@ -15,6 +16,7 @@ pub data Use : Type 0 where
   read : Use
   write : Use
   end_sending : Use
+  has_more : Bool → Use
 
 abbrev pub Uses : Type 0
 Uses = Option (List Use)

@@ -49,8 +49,9 @@ pub trait Connections {
         ensures closed { closed self.new ≡ closed self.old }
         ensures flag { failed self.new ≡ (failed self.old || spec.is_over result) };
 
-    /// Ends a connection, of which this became. Where it was answered, what its client still sends is passed over,
-    /// within limits, so that it reads the response and not that the connection was broken off.
+    /// Ends a connection, of which this became. If it was answered and its request was not read to its end, what the
+    /// client still sends is passed over, within limits, so that it reads the response and not that the connection was
+    /// broken off.
     fn end(&mut self, sides: Sides<Self::Reader, Self::Writer>, ending: Ending)
         ensures coming { coming self.new ≡ coming self.old }
         ensures closed { spec.Adds (closed self.old) (closed self.new)

@@ -10,7 +10,7 @@ mod sockets;
 mod timed;
 
 pub use connections::{Connections, Moments, NoConnection, Sides};
-pub use hub_http::Paths;
+pub use hub_http::{Paths, Served};
 pub use line::{Ending, print_listening};
 pub use listening::Listening;
 pub use moments::{ClockMoments, NamedOr, moment_now};

@@ -12,8 +12,8 @@ use hub_http::{IoFault, Served};
 /// What became of a connection.
 #[derive(Clone, Copy, Debug, PartialEq, Eq)]
 pub enum Ending {
-    /// A response of this status was written.
-    Answered(u16),
+    /// A response was written.
+    Answered(Served),
     /// Its client went away before it was taken.
     Gone,
     /// A read failed. Nothing was asked of the hub, and nothing written.
@@ -27,7 +27,7 @@ pub(crate) fn ending_of(served: Result<Served, IoFault>) -> Ending
     ensures { result ≡ spec.ending_of served }
 {
     match served {
-        Ok(served) => Ending::Answered(served.status),
+        Ok(served) => Ending::Answered(served),
         Err(IoFault::Read) => Ending::ReadFailed,
         Err(IoFault::Write) => Ending::WriteFailed,
     }
@@ -39,8 +39,8 @@ impl Ending {
         ensures { result ≡ ending_status self }
     {
         match self {
-            Ending::Answered(200) => DONE,
-            Ending::Answered(503) => FAILED,
+            Ending::Answered(Served { status: 200, .. }) => DONE,
+            Ending::Answered(Served { status: 503, .. }) => FAILED,
             Ending::Answered(_) => REFUSED,
             Ending::Gone | Ending::ReadFailed | Ending::WriteFailed => FAILED,
         }
@@ -72,7 +72,9 @@ fn put_end<W: Sink>(out: &mut W, waiting: &mut Buffer, ending: Ending) -> Result
     ensures flag { Flags result (W.failed out.old) (W.failed out.new) }
 {
     match ending {
-        Ending::Answered(status) => put_number(out, waiting, b"", u64::from(status), b"\n"),
+        Ending::Answered(Served { status, .. }) => {
+            put_number(out, waiting, b"", u64::from(status), b"\n")
+        }
         Ending::Gone | Ending::ReadFailed | Ending::WriteFailed => waiting.put(out, b"fault\n"),
     }
 }

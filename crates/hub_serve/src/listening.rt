@@ -6,7 +6,7 @@ ghost use Rattle.std.specs.Time.{instant_nanos};
 ghost use Rattle.edi_base.specs.Source.{TakesAtMost};
 ghost use Rattle.hub_serve.specs.Connections.{Adds};
 ghost use Rattle.hub_serve.specs.Listening as spec;
-ghost use Rattle.hub_serve.specs.Listening.{AtBegin, LingersAfter};
+ghost use Rattle.hub_serve.specs.Listening.{AtBegin, LingersAfter, LingersIfMore};
 ghost use Rattle.hub_serve.specs.Timed.{Lingers, ReadsOn};
 ghost use Rattle.hub_serve.specs.Uses.{told};
 
@@ -24,7 +24,7 @@ use std::time::{Clock, Duration, Instant};
 /// How many seconds a client has to send its request, and as many again to take the response.
 const WHOLE: u64 = 10;
 
-/// How many seconds is read on at most, once a response was written.
+/// How many seconds is read on at most, once a response was written to a request that was not read to its end.
 const LINGER: u64 = 1;
 
 /// How many bytes are read on at most.
@@ -142,11 +142,23 @@ fn linger<T: Socket>(mut socket: T) -> T
     timed.into_inner()
 }
 
-// Reads on if a response was written. Gives back the socket, to be closed.
+// Reads on if the client has sent more than was read: a close would then reset the connection, and the response be lost.
+fn linger_if_more<T: Socket>(mut socket: T) -> T
+    ensures { LingersIfMore (T.uses socket) (T.uses result) }
+{
+    if socket.has_more() {
+        return linger(socket);
+    }
+    socket
+}
+
+// Reads on if a response was written and the client may still be sending: if the request was not read to its end, or more
+// has come behind it. Gives back the socket, to be closed.
 fn last_of<T: Socket>(socket: T, ending: Ending) -> T
     ensures { LingersAfter ending (T.uses socket) (T.uses result) }
 {
     match ending {
+        Ending::Answered(served) if served.read_to_end => linger_if_more(socket),
         Ending::Answered(_) => linger(socket),
         Ending::Gone | Ending::ReadFailed | Ending::WriteFailed => socket,
     }

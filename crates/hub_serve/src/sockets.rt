@@ -58,6 +58,11 @@ pub trait Socket {
         ensures uses { Adds (uses self.old) (uses self.new) (spec.end_sending ∷ []) }
         ensures remaining { remaining self.new ≡ remaining self.old };
 
+    /// Whether bytes have come that were not read, or that is not known. It does not wait for any.
+    fn has_more(&mut self) -> bool
+        ensures uses { Adds (uses self.old) (uses self.new) (spec.has_more result ∷ []) }
+        ensures remaining { remaining self.new ≡ remaining self.old };
+
     /// Opens a second handle of the same connection.
     fn second(&self) -> io::Result<Self>
     where
@@ -120,6 +125,15 @@ impl<'c, C: Clock, T: OpenStream + Read + Write> Socket for NetSocket<'c, C, T> 
 
     fn end_sending(&mut self) -> io::Result<()> {
         self.stream.shutdown(Shutdown::Write)
+    }
+
+    fn has_more(&mut self) -> bool {
+        if self.stream.set_nonblocking(true).is_err() {
+            return true;
+        }
+        let mut byte = [0u8; 1];
+        let has_come = matches!(self.stream.peek(&mut byte), Ok(1));
+        self.stream.set_nonblocking(false).is_err() || has_come
     }
 
     fn second(&self) -> io::Result<Self> {

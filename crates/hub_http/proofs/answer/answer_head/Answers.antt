@@ -5,14 +5,22 @@ use Rattle.hub_http.specs.Wording.{asked_as, asked_or_refused}
 use Rattle.hub_http.specs.declared.asked.Asked.{Asked as AskedHere}
 use Rattle.hub_http.specs.declared.refusal.Refusal.{Refusal}
 use Rattle.hub_http.proofs.Bounds.{asked_short}
+use Rattle.hub_http.proofs.Extents.{Sized, asked_sized, reached_at_once}
 use Rattle.hub_http.proofs.Serving.{answers_head}
 use Rattle.hub_http.proofs.answer.answer_head.Goals as goal
 
-pub answer_asked-requires : goal.answer_asked-requires
-answer_asked-requires g c =
+pub answer_asked-requires-clause-short : goal.answer_asked-requires-clause-short
+answer_asked-requires-clause-short g c =
     subst (λ (r : Result AskedHere Refusal). size_asked (asked_or_refused r) ≤ longest_body) c.in-Ok.is
     (subst (λ (r : Result Asked Refusal). size_asked r ≤ longest_body) (sym c.asked_of.ensures)
     (asked_short c.args.hub.now.0 c.args.head.now))
+
+pub answer_asked-requires-clause-sized : goal.answer_asked-requires-clause-sized
+answer_asked-requires-clause-sized g c =
+    rw c.body_size-sent.ensures
+    (subst (λ (r : Result AskedHere Refusal). Sized c.args.head.now (asked_or_refused r)) c.in-Ok.is
+    (subst (λ (r : Result Asked Refusal). Sized c.args.head.now r) (sym c.asked_of.ensures)
+    (asked_sized c.args.hub.now.0 c.args.head.now)))
 
 pub returns-in-Ok-clause-answers : goal.returns-in-Ok-clause-answers
 returns-in-Ok-clause-answers g c =
@@ -24,3 +32,8 @@ returns-in-Ok-clause-answers g c =
 
 pub returns-in-Err-clause-or_fails : goal.returns-in-Err-clause-or_fails
 returns-in-Err-clause-or_fails g c = ((Err c.in-Err.refusal, inl (refl, c.refused.ensures)), refl)
+
+pub returns-in-Err-clause-to_end : goal.returns-in-Err-clause-to_end
+returns-in-Err-clause-to_end g c =
+    reached_at_once c.args.head.now.rest _ _ _ c.is_whole.result refl
+    (rw (c.body_size-sent.ensures, c.rest-in-Err.ensures) at c.is_whole.ensures)

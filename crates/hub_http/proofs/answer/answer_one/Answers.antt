@@ -1,9 +1,11 @@
-use Rattle.std.proofs.Common.{◌≡◌, ◌+◌, Bool, Err, inl, refl, subst, arith}
+use Rattle.std.proofs.Common.{◌≡◌, ◌+◌, Bool, false, Err, inl, refl, subst, arith}
 use Rattle.http_messages.specs.Head.{longest_head}
 use Rattle.hub_http.specs.Answer.{AnswersOrFails, Steps, size_asked}
 use Rattle.hub_http.specs.Asked.{asked_by, longest_body}
+use Rattle.hub_http.specs.declared.answer.Answered.{Answered}
 use Rattle.hub_http.specs.declared.refusal.Refusal.TheVariants.{BadRequest}
 use Rattle.hub_http.proofs.Bounds.{asked_short, body_within, both_taken, taken_within}
+use Rattle.hub_http.proofs.Extents.{ends_none, ends_with}
 use Rattle.hub_http.proofs.Serving.{cut_behind, on_err, serves_none, serves_some}
 use Rattle.hub_http.proofs.answer.answer_one.Goals as goal
 
@@ -46,3 +48,14 @@ returns-in-Some-clause-or_fails g c =
 
 pub returns-in-None-clause-or_fails : goal.returns-in-None-clause-or_fails
 returns-in-None-clause-or_fails g c = ((Err BadRequest, inl (refl, c.refused.ensures)), c.in_ok-head.ensures.kept)
+
+pub returns-in-Some-clause-to_end : goal.returns-in-Some-clause-to_end
+returns-in-Some-clause-to_end g c =
+    let found = c.in_ok-head.ensures.head in
+    ends_with (λ (answered : Answered). answered.read_to_end) _ _ _ c.in-Some.head c.answer_head.result (rw c.in-Some.is at found)
+    c.answer_head.ensures.to_end
+
+pub returns-in-None-clause-to_end : goal.returns-in-None-clause-to_end
+returns-in-None-clause-to_end g c =
+    let found = c.in_ok-head.ensures.head in
+    ends_none _ _ false refl (rw c.in-None.is at found)

@@ -1,5 +1,5 @@
 use Rattle.std.proofs.Common.{◌<◌, Ok, ap, ◌∙◌, arith}
-use Rattle.hub_http.proofs.Uploads.{cut_read, opens_some, read_at_most, whole_read}
+use Rattle.hub_http.proofs.Uploads.{cut_read, exactly_read, opens_some, read_at_most, whole_read}
 use Rattle.hub_http.proofs.upload.open_body.Goals as goal
 
 pub returns-then-missing-eq0-clause-body : goal.returns-then-missing-eq0-clause-body
@@ -12,6 +12,12 @@ returns-then-missing-eq0-clause-body g c =
 pub returns-then-missing-eq0-clause-some : goal.returns-then-missing-eq0-clause-some
 returns-then-missing-eq0-clause-some g c =
     opens_some c.args.size c.args.front.now c.in-Ok.lender c.open_lent-upload.result c.in-Ok.ensures.fed c.open_lent-upload.ensures.some
+
+pub returns-then-missing-eq0-clause-whole : goal.returns-then-missing-eq0-clause-whole
+returns-then-missing-eq0-clause-whole g c =
+    exactly_read _ _ _ c.in-Ok.lender c.open_lent-upload.new.lender c.args.size c.args.front.now
+    c.skip_rest.result c.in-Ok.ensures.begun c.open_lent-upload.ensures.bound
+    c.skip_rest.ensures.away (c.in-Ok-skip_rest.is ∙ ap (λ n. Ok n) c.if-missing-eq0.true)
 
 pub returns-then-missing-eq0-clause-front : goal.returns-then-missing-eq0-clause-front
 returns-then-missing-eq0-clause-front g c =

@@ -34,4 +34,4 @@ returns-clause-served g c =
     (failed_so c.serve_one.result at_its_end (g.L.Reader.Source.failed sides.reader)
     (g.L.Writer.Sink.failed sides.writer) c.in-Ok.ensures.is_new.read c.in-Ok.ensures.is_new.write
     c.serve_one.ensures.read c.serve_one.ensures.read_kept c.serve_one.ensures.write c.serve_one.ensures.write_kept)
-    c.ending_of-ending.ensures c.serve_one.ensures.served c.serve_one.ensures.stepped)
+    c.ending_of-ending.ensures c.serve_one.ensures.served c.serve_one.ensures.to_end c.serve_one.ensures.stepped)
