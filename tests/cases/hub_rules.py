@@ -136,6 +136,32 @@ def long_mailbox():
     return play.take(1).ask(ALPHA, "taken 102", "unknown", "unknown\n")
 
 
+def some_taken():
+    """Entries of two suppliers, and lists between as they are taken: the second before the first, until none is left, and then one more."""
+    play = Play()
+    orders = [order(str(1000 + k), reference=k) for k in range(1, 6)]
+    told = [f"{k} ORDERS accepted" for k in range(1, 6)]
+    play.upload(RETAILER, interchange(RETAILER, "1001", *orders), "interchange 1001 messages 5", *told)
+    entries = [(k, "ORDERS", 1000 + k) for k in range(1, 7)]
+    play.list(0, *entries[:5]).list(0, who=BETA)
+    play.take(2).list(0, entries[0], *entries[2:5]).list(2, *entries[2:5])
+    play.take(1).list(0, *entries[2:5]).list(1, *entries[2:5])
+    play.take(4).list(3, entries[4]).list(0, entries[2], entries[4])
+    accepted(play, RETAILER, "1002", "ORDERS", interchange(RETAILER, "1002", order(supplier=BETA)))
+    play.list(0, (1, "ORDERS", "128576"), who=BETA).take(1, who=BETA).list(0, who=BETA)
+    return play.list(0, entries[2], entries[4])
+
+
+def all_taken(play):
+    """The rest of them."""
+    play.take(3).take(5).list(0).list(0).list(4).list(99_999_999_999_999)
+    accepted(play, RETAILER, "1003", "ORDERS", interchange(RETAILER, "1003", order("1006")))
+    play.list(0, (6, "ORDERS", "1006")).list(5, (6, "ORDERS", "1006")).list(6)
+    accepted(play, RETAILER, "1004", "ORDERS", interchange(RETAILER, "1004", order("128577", supplier=BETA)))
+    play.list(0, (2, "ORDERS", "128577"), who=BETA).list(1, (2, "ORDERS", "128577"), who=BETA)
+    return play.take(6).list(0).list(0, (2, "ORDERS", "128577"), who=BETA)
+
+
 def of_one(play, lines):
     """What supplier A asks in the two runs, after each of these inputs: uploads of its own and of the retailer."""
     for who, reference, kind, text, seen in lines:
@@ -234,7 +260,11 @@ def counted():
     play.say("mend")
     accepted(play, ALPHA, "S1", "ORDRSP", RESPONSE).counts(3, 1).say("mend")
     accepted(play, ALPHA, "S2", "DESADV", DESPATCH).counts(5, 1).say("mend")
-    play.upload(ALPHA, DESPATCH, "interchange S2 messages 1", "1 DESADV repeated").counts(5, 0).say("mend")
+    # where what is remembered decides, or an advice's number, no order and no unit is asked for
+    play.upload(ALPHA, RESPONSE, "interchange S1 messages 1", "1 ORDRSP repeated").counts(1, 0).say("mend")
+    play.upload(ALPHA, DESPATCH, "interchange S2 messages 1", "1 DESADV repeated").counts(2, 0).say("mend")
+    text = interchange(ALPHA, "S9", despatch("DA1", THIRD_PALLET, 12))
+    play.upload(ALPHA, text, "interchange S9 messages 1", "1 DESADV refused B13").counts(2, 0).say("mend")
     accepted(play, RETAILER, "1005", "RECADV", RECEIPT).counts(3, 1).say("mend")
     play.upload(RETAILER, RECEIPT, "interchange 1005 messages 1", "1 RECADV repeated").counts(3, 0).say("mend")
     play.cancel("C1", 1, 10, "accepted").counts(3, 1).say("mend")
@@ -335,6 +365,7 @@ HUBS = [
     who_may_what().case("who may ask what"),
     no_lines().case("a supplier without rows"),
     long_mailbox().case("a mailbox of 101 entries"),
+    all_taken(some_taken()).case("entries taken in any order, with lists between"),
     Play().say("run").say("end").case("a run of nothing"),
     *runs(),
     counted().case("look-ups and commits of each message"),

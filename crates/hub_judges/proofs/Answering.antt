@@ -1,7 +1,6 @@
 -- Answers judged from facts are judged as from the state that the facts tell.
-use Rattle.std.proofs.Common.{◌≡◌, ◌+◌, ◌≤◌, ℕ, Bool, true, false, cond, not, List, [], ◌∷◌, ◌++◌, map, filter, Option}
+use Rattle.std.proofs.Common.{◌≡◌, ℕ, Bool, true, false, cond, not, List, [], ◌∷◌, ◌++◌, map, filter, Option}
 use Rattle.std.proofs.Common.{Some, None, option_map, refl, sym, ◌∙◌, ap, ap₂}
-use Rattle.std.specs.List.{AllByRecursion}
 use Rattle.std.proofs.lemmas.List.{append_assoc}
 use Rattle.edi_orders.specs.declared.response.Answer.{Answer}
 use Rattle.edi_orders.specs.declared.response.Answer.TheVariants.{AllAccepted, AllRefused, Lines}
@@ -10,23 +9,24 @@ use Rattle.edi_orders.specs.declared.response.LineAnswer.{LineAnswer}
 use Rattle.edi_orders.specs.declared.response.LineAnswer.TheVariants.{Accepted, Refused, Changed}
 use Rattle.edi_orders.specs.declared.response.Response.{Response}
 use Rattle.hub_tables.specs.Change.{apply}
-use Rattle.hub_tables.specs.Rows.{same, same_line}
+use Rattle.hub_tables.specs.Rows.{same}
 use Rattle.hub_tables.specs.State.{waits, despatched}
 use Rattle.hub_tables.specs.Tables.{Tables}
 use Rattle.hub_tables.specs.declared.change.Change.{Change}
 use Rattle.hub_tables.specs.declared.change.Change.TheVariants.{SetLine}
 use Rattle.hub_tables.specs.declared.rows.LineRow.{LineRow}
-use Rattle.hub_order_lines.specs.Book.{facts_of, facts_among, rows, with_row, answered_row, IsCovered}
+use Rattle.hub_order_lines.specs.Book.{Orders, facts_among, lines_in, rows, with_row, answered_row}
 use Rattle.hub_order_lines.specs.declared.facts.LineFacts.{LineFacts}
+use Rattle.hub_order_lines.proofs.Setting.{looked_up_in}
 use Rattle.hub_rules.specs.Judging.{refuse_if, given, joined, goes_on, in_order}
 use Rattle.hub_rules.specs.ResponseRules.{answered, is_out_of_range, is_empty, judge_answer, judge_all, judge_answers, judge_new_response}
 use Rattle.hub_rules.specs.declared.code.Code.TheVariants.{NoOrder, NoLine, NotWaiting, OutOfRange, OtherArticle}
 use Rattle.hub_rules.specs.declared.verdict.Verdict.{Verdict}
 use Rattle.hub_rules.specs.declared.verdict.Verdict.TheVariants.{Accept, Refuse}
 use Rattle.hub_judges.specs.FromFacts.{answer_checks, after_answer, answers_from, all_from, said_from, response_from}
-use Rattle.hub_judges.specs.Known.{TellsLines, TellsDespatched, TellsOrder}
+use Rattle.hub_judges.specs.Known.{TellsAnswered, TellsLines, TellsDespatched}
 use Rattle.hub_judges.specs.declared.known.Known.{Known}
-use Rattle.hub_judges.proofs.Facts.{line_told, looked_up, lines_told_after, despatched_told_after}
+use Rattle.hub_judges.proofs.Facts.{line_told, lines_told_after, despatched_told_after}
 
 -- the rest of a judge's checks, where so much of the line is despatched
 abbrev checked : AnswerLine → ℕ → LineRow → Verdict → Verdict
@@ -36,11 +36,11 @@ checked said sent line rest =
     refuse_if (not (same line.gtin said.gtin)) OtherArticle rest))
 
 -- the first answer, and then the rest as it is judged
-module _ (order : List ℕ) (x : AnswerLine) (rest : List AnswerLine) (state : Tables) (lines : List LineFacts)
-    (told : TellsLines state lines order) (sums : TellsDespatched state lines)
-    (ih : (st : Tables) (ls : List LineFacts)
+module _ (order : List ℕ) (x : AnswerLine) (rest : List AnswerLine) (state : Tables) (lines : Orders)
+    (told : TellsLines state lines order) (sums : TellsDespatched state lines order)
+    (ih : (st : Tables) (ls : Orders)
     → TellsLines st ls order
-    → TellsDespatched st ls
+    → TellsDespatched st ls order
     → in_order (judge_answer order) rest st ≡ answers_from order rest ls) where
   abbrev after : LineFacts → LineRow
   after line = answered x.answer line.despatched line.row
@@ -50,7 +50,7 @@ module _ (order : List ℕ) (x : AnswerLine) (rest : List AnswerLine) (state : T
       ≡ joined (SetLine (after line) ∷ []) (answers_from order rest (with_row (after line) lines))
   step line =
       ap (joined (SetLine (after line) ∷ [])) (ih (apply (SetLine (after line)) state) (with_row (after line) lines)
-      (lines_told_after state lines (after line) order told) (despatched_told_after state lines (after line) sums))
+      (lines_told_after state lines (after line) order told) (despatched_told_after state lines (after line) order sums))
 
   through : (line : LineFacts) (a b c : Bool)
       → goes_on
@@ -63,7 +63,7 @@ module _ (order : List ℕ) (x : AnswerLine) (rest : List AnswerLine) (state : T
   through line false false true = refl
   through line false false false = step line
 
-  one : (found : Option LineFacts) → facts_among (facts_of lines order) x.order_line x.gtin ≡ found
+  one : (found : Option LineFacts) → facts_among (lines_in lines order) x.order_line x.gtin ≡ found
       → goes_on (given (option_map (λ line. line.row) found) NoLine (λ line.
       checked x (despatched state line) line (Accept (SetLine (answered x.answer (despatched state line) line) ∷ []))))
       (in_order (judge_answer order) rest) state
@@ -72,14 +72,14 @@ module _ (order : List ℕ) (x : AnswerLine) (rest : List AnswerLine) (state : T
   one None e = refl
   one (Some line) e =
       let sent : despatched state line.row ≡ line.despatched =
-      looked_up (λ line. despatched state line.row ≡ line.despatched) lines order x.order_line x.gtin line sums e in
+      looked_up_in (λ line. despatched state line.row ≡ line.despatched) (lines_in lines order) x.order_line x.gtin line sums e in
       ap (λ n. goes_on (checked x n line.row (Accept (SetLine (answered x.answer n line.row) ∷ [])))
       (in_order (judge_answer order) rest) state) sent
       ∙ through line (not (waits line.row)) (is_out_of_range x.answer line.despatched line.row) (not (same line.row.gtin x.gtin))
 
-pub answers_alike : (order : List ℕ) (said : List AnswerLine) (state : Tables) (lines : List LineFacts)
+pub answers_alike : (order : List ℕ) (said : List AnswerLine) (state : Tables) (lines : Orders)
     → TellsLines state lines order
-    → TellsDespatched state lines
+    → TellsDespatched state lines order
     → in_order (judge_answer order) said state ≡ answers_from order said lines
 answers_alike order [] state lines told sums = refl
 answers_alike order (x ∷ rest) state lines told sums =
@@ -87,7 +87,7 @@ answers_alike order (x ∷ rest) state lines told sums =
     checked x (despatched state line) line (Accept (SetLine (answered x.answer (despatched state line) line) ∷ []))))
     (in_order (judge_answer order) rest) state) (line_told state lines order x.order_line x.gtin told)
     ∙ one order x rest state lines told sums (λ st ls a b. answers_alike order rest st ls a b)
-    (facts_among (facts_of lines order) x.order_line x.gtin) refl
+    (facts_among (lines_in lines order) x.order_line x.gtin) refl
 
 -- the same answer to all lines that wait
 module _ (answer : LineAnswer) (whatever : (sent : ℕ) (line : LineRow) → answered answer sent line ≡ answered answer 0 line) where
@@ -113,30 +113,28 @@ module _ (answer : LineAnswer) (whatever : (sent : ℕ) (line : LineRow) → ans
         | false ↦ none_alike lines
       ]
 
-  all_alike : (order : List ℕ) (state : Tables) (lines : List LineFacts)
+  all_alike : (order : List ℕ) (state : Tables) (lines : Orders)
       → TellsLines state lines order
-      → judge_all answer order state ≡ all_from answer order lines
+      → judge_all answer order state ≡ all_from answer (lines_in lines order)
   all_alike order state lines told =
       ap (λ ls. refuse_if (is_empty (filter waits ls)) NotWaiting
       (Accept (map (λ line. SetLine (answered answer 0 line)) (filter waits ls)))) told
-      ∙ ap₂ (λ v changes. refuse_if v NotWaiting (Accept changes)) (none_alike (facts_of lines order)) (all_changes (facts_of lines order))
+      ∙ ap₂ (λ v changes. refuse_if v NotWaiting (Accept changes)) (none_alike (lines_in lines order)) (all_changes (lines_in lines order))
 
-said_alike : (answer : Answer) (order : List ℕ) (state : Tables) (lines : List LineFacts)
+said_alike : (answer : Answer) (order : List ℕ) (state : Tables) (lines : Orders)
     → TellsLines state lines order
-    → TellsDespatched state lines
+    → TellsDespatched state lines order
     → judge_answers answer order state ≡ said_from answer order lines
 said_alike AllAccepted order state lines told sums = all_alike Accepted (λ sent line. refl) order state lines told
 said_alike AllRefused order state lines told sums = all_alike Refused (λ sent line. refl) order state lines told
 said_alike (Lines said) order state lines told sums = answers_alike order said state lines told sums
 
 pub response_alike : (known : Known) (response : Response) (state : Tables)
-    → TellsOrder known state response.order
-    → TellsLines state known.lines response.order
-    → TellsDespatched state known.lines
+    → TellsAnswered known response.order state
     → judge_new_response response state ≡ response_from response known
-response_alike known response state order lines sums =
-    ap₂ (λ v rest. refuse_if (not v) NoOrder rest) order
-    (said_alike response.answer response.order state known.lines lines sums)
+response_alike known response state told =
+    ap₂ (λ v rest. refuse_if (not v) NoOrder rest) told.order
+    (said_alike response.answer response.order state known.orders told.lines told.despatched)
 
 -- the row that a book sets is the line after its answer
 same_row : (answer : LineAnswer) (line : LineFacts)
@@ -153,23 +151,11 @@ pub row_is_set : (answer : LineAnswer) (line : LineFacts) (row : LineRow)
 row_is_set answer line row is =
     ap (λ (r : LineRow). answered_row line.row r.open_qty r.refused r.cancelled r.answer) is ∙ same_row answer line ∙ sym is
 
--- lines stay covered where one is set that is
-pub covered_after : (row : LineRow) (lines : List LineFacts)
-    → row.open_qty + row.refused + row.cancelled ≤ row.ordered
-    → AllByRecursion IsCovered lines
-    → AllByRecursion IsCovered (with_row row lines)
-covered_after row [] h all = tt
-covered_after row (line ∷ lines) h all = (
-  elim (same_line row line.row) as (λ v. IsCovered (cond v (record line { row = row }) line))
-      [ true ↦ h | false ↦ all.0 ],
-  covered_after row lines h all.1,
-)
-
 -- one answer judged, and the rest on what it left
 pub answered_next :
-    (order : List ℕ) (said : AnswerLine) (rest : List AnswerLine) (before : List Change) (lines after : List LineFacts)
+    (order : List ℕ) (said : AnswerLine) (rest : List AnswerLine) (before : List Change) (lines after : Orders)
     (line : LineFacts) (row : LineRow)
-    → facts_among (facts_of lines order) said.order_line said.gtin ≡ Some line → row ≡ after_answer said.answer line
+    → facts_among (lines_in lines order) said.order_line said.gtin ≡ Some line → row ≡ after_answer said.answer line
     → ((verdict : Verdict) → answer_checks said line verdict ≡ verdict)
     → after ≡ with_row (answered_row line.row row.open_qty row.refused row.cancelled row.answer) lines
     → joined before (answers_from order (said ∷ rest) lines) ≡ joined (before ++ SetLine row ∷ []) (answers_from order rest after)

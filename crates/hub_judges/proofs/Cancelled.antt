@@ -1,10 +1,9 @@
 -- A cancellation judged from what is known is judged as from a state of which that tells the truth.
 use Rattle.std.proofs.Common.{◌≡◌, not, nat_lt, ◌+◌, ◌-◌, [], ◌∷◌, Option, Some, None, option_map, refl, ◌∙◌, ap, ap₂}
-use Rattle.edi_base.specs.Seen.{is_among}
 use Rattle.hub_tables.specs.Tables.{Tables}
 use Rattle.hub_tables.specs.declared.change.Change.TheVariants.{SetLine}
 use Rattle.hub_tables.specs.declared.rows.LineRow.{LineRow}
-use Rattle.hub_order_lines.specs.Book.{facts_of, facts_among}
+use Rattle.hub_order_lines.specs.Book.{facts_among, has_order, lines_in}
 use Rattle.hub_order_lines.specs.declared.facts.LineFacts.{LineFacts}
 use Rattle.hub_rules.specs.CancellationRules.{judge_new_cancel}
 use Rattle.hub_rules.specs.Judging.{refuse_if, given}
@@ -34,6 +33,6 @@ pub cancel_alike : (known : Known) (cancel : Cancel) (state : Tables)
     → judge_new_cancel cancel state ≡ cancelled_from cancel known
 cancel_alike known cancel state told =
     ap₂ (λ v line. refuse_if (not v) NoOrder (given line NoLine (of_line cancel))) told.order
-    (line_told state known.lines cancel.order (Some cancel.line) [] told.lines)
-    ∙ ap (refuse_if (not (is_among cancel.order known.orders)) NoOrder)
-    (found cancel (facts_among (facts_of known.lines cancel.order) (Some cancel.line) []))
+    (line_told state known.orders cancel.order (Some cancel.line) [] told.lines)
+    ∙ ap (refuse_if (not (has_order known.orders cancel.order)) NoOrder)
+    (found cancel (facts_among (lines_in known.orders cancel.order) (Some cancel.line) []))

@@ -4,7 +4,6 @@ use Rattle.std.proofs.Common.{Some, None, option_map, refl, sym, subst, ◌∙�
 use Rattle.std.specs.List.{AllByRecursion, list_any}
 use Rattle.std.proofs.lemmas.List.{append_assoc}
 use Rattle.std.proofs.Math.Bool.{or-true}
-use Rattle.edi_base.specs.Seen.{is_among}
 use Rattle.edi_base.proofs.Twice.{bytes_eq-sym}
 use Rattle.gs1_ids.specs.Sscc.{under_some}
 use Rattle.edi_goods.specs.declared.despatch.Despatch.{Despatch}
@@ -24,8 +23,9 @@ use Rattle.hub_tables.specs.declared.rows.PalletRow.{PalletRow}
 use Rattle.hub_tables.proofs.Founding.{applied_in_turn}
 use Rattle.hub_tables.proofs.KeyOrder.{any_put}
 use Rattle.hub_tables.proofs.Lists.{all_weaker, all_itself, same_if}
-use Rattle.hub_order_lines.specs.Book.{facts_of, facts_among, with_row, answered_row}
+use Rattle.hub_order_lines.specs.Book.{Orders, facts_among, has_order, lines_in, set_row, with_row, answered_row}
 use Rattle.hub_order_lines.specs.declared.facts.LineFacts.{LineFacts}
+use Rattle.hub_order_lines.proofs.Setting.{has_made}
 use Rattle.hub_rules.specs.DespatchRules.{placed, judge_despatched, judge_unit, judge_new_despatch}
 use Rattle.hub_rules.specs.Judging.{Judge, refuse_if, given, joined, goes_on, in_order}
 use Rattle.hub_rules.specs.declared.code.Code.TheVariants.{NoOrder, NoLine, OtherArticle, MoreThanOpen, OtherPrefix, SsccUsed, AdviceKnown}
@@ -33,7 +33,7 @@ use Rattle.hub_rules.specs.declared.verdict.Verdict.{Verdict}
 use Rattle.hub_rules.specs.declared.verdict.Verdict.TheVariants.{Accept, Refuse}
 use Rattle.hub_judges.specs.FromFacts.{after_despatch, new_content, despatch_checks, lines_from, new_pallet, unit_checks}
 use Rattle.hub_judges.specs.FromFacts.{no_sscc, and_sscc, units_from, despatch_from}
-use Rattle.hub_judges.specs.Known.{TellsOrder, TellsLines, names_order}
+use Rattle.hub_judges.specs.Known.{TellsLines, TellsUnits, names_order}
 use Rattle.hub_judges.specs.declared.known.Known.{Known}
 use Rattle.hub_judges.proofs.Facts.{line_told, lines_told_after}
 
@@ -55,26 +55,25 @@ grouped a (Accept b) third state =
     ∙ joined_grouped a b (third (apply_all b (apply_all a state)))
 
 -- facts that tell the lines of the named orders, in a state with these pallets
-pub record TellsNamed (named : List ℕ → Bool) (orders : List (List ℕ)) (pallets : List PalletRow) (state : Tables)
-    (lines : List LineFacts) : Type 0 where
+pub record TellsNamed (named : List ℕ → Bool) (pallets : List PalletRow) (state : Tables) (lines : Orders) : Type 0 where
   pub pallets_are : state.pallets ≡ pallets
-  pub order : (number : List ℕ) → named number ≡ true → knows_order state number ≡ is_among number orders
+  pub order : (number : List ℕ) → named number ≡ true → knows_order state number ≡ has_order lines number
   pub lines_are : (number : List ℕ) → named number ≡ true → TellsLines state lines number
 
-module _ (named : List ℕ → Bool) (orders : List (List ℕ)) where
-  after_line : (pallets : List PalletRow) (state : Tables) (lines : List LineFacts) (row : LineRow) (content : ContentRow)
-      → TellsNamed named orders pallets state lines
-      → TellsNamed named orders pallets (apply (AddContent content) (apply (SetLine row) state)) (with_row row lines)
+module _ (named : List ℕ → Bool) where
+  after_line : (pallets : List PalletRow) (state : Tables) (lines : Orders) (row : LineRow) (content : ContentRow)
+      → TellsNamed named pallets state lines
+      → TellsNamed named pallets (apply (AddContent content) (apply (SetLine row) state)) (with_row row lines)
   after_line pallets state lines row content t = record {
     pallets_are = t.pallets_are;
-    order = λ number is. t.order number is;
+    order = λ number is. t.order number is ∙ sym (has_made (set_row row) lines number);
     lines_are = λ number is. lines_told_after state lines row number (t.lines_are number is);
   }
 
   -- one line judged, and what follows
-  module _ (sscc : List ℕ) (n : ℕ) (said : DespatchLine) (rest : Judge) (third : Judge) (next : List LineFacts → Verdict)
-      (state : Tables) (lines : List LineFacts) (pallets : List PalletRow) (t : TellsNamed named orders pallets state lines)
-      (ih : (st : Tables) (ls : List LineFacts) → TellsNamed named orders pallets st ls → goes_on (rest st) third st ≡ next ls) where
+  module _ (sscc : List ℕ) (n : ℕ) (said : DespatchLine) (rest : Judge) (third : Judge) (next : Orders → Verdict)
+      (state : Tables) (lines : Orders) (pallets : List PalletRow) (t : TellsNamed named pallets state lines)
+      (ih : (st : Tables) (ls : Orders) → TellsNamed named pallets st ls → goes_on (rest st) third st ≡ next ls) where
     abbrev changes_of : LineFacts → List Change
     changes_of line = SetLine (after_despatch said line) ∷ new_content sscc (n + 1) said line ∷ []
 
@@ -118,8 +117,8 @@ module _ (named : List ℕ → Bool) (orders : List (List ℕ)) where
     known false w x h = h
 
     one_line : named said.order ≡ true → goes_on (goes_on (judge_despatched sscc (n + 1, said) state) rest state) third state
-        ≡ refuse_if (not (is_among said.order orders)) NoOrder
-        (given (facts_among (facts_of lines said.order) said.order_line said.gtin) NoLine (λ line.
+        ≡ refuse_if (not (has_order lines said.order)) NoOrder
+        (given (facts_among (lines_in lines said.order) said.order_line said.gtin) NoLine (λ line.
         despatch_checks said line (joined (changes_of line) (next (with_row (after_despatch said line) lines)))))
     one_line is =
         ap₂ (λ v line. goes_on (goes_on (refuse_if (not v) NoOrder (given line NoLine (λ row.
@@ -129,25 +128,25 @@ module _ (named : List ℕ → Bool) (orders : List (List ℕ)) where
         (record { sscc = sscc; place = n + 1; number = row.number; line = row.line; quantity = said.quantity })
         ∷ [])))))) rest state) third state)
         (t.order said.order is) (line_told state lines said.order said.order_line said.gtin (t.lines_are said.order is))
-        ∙ known (not (is_among said.order orders)) _ _ (found (facts_among (facts_of lines said.order) said.order_line said.gtin))
+        ∙ known (not (has_order lines said.order)) _ _ (found (facts_among (lines_in lines said.order) said.order_line said.gtin))
 
   -- the lines of a unit
-  lines_alike : (sscc : List ℕ) (pallets : List PalletRow) (third : Judge) (next : List LineFacts → Verdict)
-      → ((st : Tables) (ls : List LineFacts) → TellsNamed named orders pallets st ls → third st ≡ next ls)
-      → (n : ℕ) (said : List DespatchLine) (state : Tables) (lines : List LineFacts)
+  lines_alike : (sscc : List ℕ) (pallets : List PalletRow) (third : Judge) (next : Orders → Verdict)
+      → ((st : Tables) (ls : Orders) → TellsNamed named pallets st ls → third st ≡ next ls)
+      → (n : ℕ) (said : List DespatchLine) (state : Tables) (lines : Orders)
       → AllByRecursion (λ line. named line.order ≡ true) said
-      → TellsNamed named orders pallets state lines
-      → goes_on (in_order (judge_despatched sscc) (placed n said) state) third state ≡ lines_from sscc orders n said lines next
+      → TellsNamed named pallets state lines
+      → goes_on (in_order (judge_despatched sscc) (placed n said) state) third state ≡ lines_from sscc n said lines next
   lines_alike sscc pallets third next agree n [] state lines all t = joined_none (third state) ∙ agree state lines t
   lines_alike sscc pallets third next agree n (x ∷ said) state lines all t =
       one_line sscc n x (in_order (judge_despatched sscc) (placed (n + 1) said)) third
-      (λ ls. lines_from sscc orders (n + 1) said ls next) state lines pallets t
+      (λ ls. lines_from sscc (n + 1) said ls next) state lines pallets t
       (λ st ls told. lines_alike sscc pallets third next agree (n + 1) said st ls all.1 told) all.0
 
   -- a new pallet leaves the facts
-  after_pallet : (pallets : List PalletRow) (state : Tables) (lines : List LineFacts) (pallet : PalletRow)
-      → TellsNamed named orders pallets state lines
-      → TellsNamed named orders (apply (AddPallet pallet) state).pallets (apply (AddPallet pallet) state) lines
+  after_pallet : (pallets : List PalletRow) (state : Tables) (lines : Orders) (pallet : PalletRow)
+      → TellsNamed named pallets state lines
+      → TellsNamed named (apply (AddPallet pallet) state).pallets (apply (AddPallet pallet) state) lines
   after_pallet pallets state lines pallet t =
       record { pallets_are = refl; order = λ number is. t.order number is; lines_are = λ number is. t.lines_are number is }
 
@@ -188,27 +187,27 @@ module _ (named : List ℕ → Bool) (orders : List (List ℕ)) where
     checked false true unit third state w x h = refl
     checked false false unit third state w x h = h
 
-    units_alike : (came : List ℕ → Bool) (units : List Unit) (state : Tables) (lines : List LineFacts) (pallets : List PalletRow)
+    units_alike : (came : List ℕ → Bool) (units : List Unit) (state : Tables) (lines : Orders) (pallets : List PalletRow)
         → AllByRecursion (λ unit. AllByRecursion (λ line. named line.order ≡ true) unit.lines) units
         → Used used came pallets
-        → TellsNamed named orders pallets state lines
+        → TellsNamed named pallets state lines
         → in_order (judge_unit s used advice) units state
-        ≡ units_from s advice orders came units (map (λ unit. used unit.sscc) units) lines
+        ≡ units_from s advice came units (map (λ unit. used unit.sscc) units) lines
     units_alike came [] state lines pallets all flags t = refl
     units_alike came (unit ∷ units) state lines pallets all flags t =
         let also : List ℕ → Bool = and_sscc came unit.sscc in
         let first : List Change = AddPallet (pallet_of unit) ∷ [] in
         let third : Judge = in_order (judge_unit s used advice) units in
         let after : Tables = apply (AddPallet (pallet_of unit)) state in
-        let next : List LineFacts → Verdict =
-        λ left. units_from s advice orders also units (map (λ unit. used unit.sscc) units) left in
+        let next : Orders → Verdict =
+        λ left. units_from s advice also units (map (λ unit. used unit.sscc) units) left in
         let flag : (used unit.sscc || has_pallet state unit.sscc) ≡ (used unit.sscc || came unit.sscc) =
         ap (λ ps. used unit.sscc || list_any (λ pallet. same pallet.sscc unit.sscc) ps) t.pallets_are ∙ flags unit.sscc in
         let flags_after : Used used also after.pallets =
         subst (λ ps. Used used also (put pallet_cmp (pallet_of unit) ps)) (sym t.pallets_are)
         (used_after used came (pallet_of unit) pallets flags) in
         let whole : goes_on (joined first (in_order (judge_despatched unit.sscc) (placed 0 unit.lines) after)) third state
-        ≡ joined first (lines_from unit.sscc orders 0 unit.lines lines next) =
+        ≡ joined first (lines_from unit.sscc 0 unit.lines lines next) =
         grouped first (in_order (judge_despatched unit.sscc) (placed 0 unit.lines) after) third state
         ∙ ap (joined first) (lines_alike unit.sscc after.pallets third next
         (λ st ls told. units_alike also units st ls after.pallets all.1 flags_after told) 0 unit.lines after lines
@@ -248,47 +247,46 @@ used_first used state there sscc = by_case (used sscc) (has_pallet state sscc) (
 
 pub despatch_alike : (s : SupplierRow) (used : List ℕ → Bool) (known : Known) (despatch : Despatch) (state : Tables)
     → knows_advice state despatch.number ≡ known.number_known
-    → map (λ unit. used unit.sscc) despatch.units ≡ known.used → ((sscc : List ℕ) → has_pallet state sscc ≡ true → used sscc ≡ true)
-    → ((order : List ℕ) → names_order despatch.units order ≡ true → TellsOrder known state order)
-    → ((order : List ℕ) → names_order despatch.units order ≡ true → TellsLines state known.lines order)
+    → ((sscc : List ℕ) → has_pallet state sscc ≡ true → used sscc ≡ true)
+    → TellsUnits known used despatch.units state
     → judge_new_despatch s used despatch state ≡ despatch_from s despatch known
-despatch_alike s used known despatch state number flags there orders lines =
+despatch_alike s used known despatch state number there told =
     let advice : List Change = AddAdvice (record { supplier = s.gln; number = despatch.number }) ∷ [] in
     ap₂ (λ v rest. refuse_if v AdviceKnown (joined advice rest)) number
-    (units_alike (names_order despatch.units) known.orders s used despatch.number no_sscc despatch.units
-    (apply_all advice state) known.lines state.pallets (names_all despatch.units) (used_first used state there)
-    (record { pallets_are = refl; order = orders; lines_are = lines })
-    ∙ ap (λ us. units_from s despatch.number known.orders no_sscc despatch.units us known.lines) flags)
+    (units_alike (names_order despatch.units) s used despatch.number no_sscc despatch.units
+    (apply_all advice state) known.orders state.pallets (names_all despatch.units) (used_first used state there)
+    (record { pallets_are = refl; order = told.orders; lines_are = told.lines })
+    ∙ ap (λ us. units_from s despatch.number no_sscc despatch.units us known.orders) told.used_told)
 
 -- one line judged by the code, and the rest on what it left
 pub despatched_next :
-    (sscc : List ℕ) (orders : List (List ℕ)) (n : ℕ) (said : DespatchLine) (rest : List DespatchLine) (before : List Change)
-    (lines after : List LineFacts) (line : LineFacts) (row : LineRow) (number : List ℕ) (next : List LineFacts → Verdict)
-    → not (is_among said.order orders) ≡ false
-    → facts_among (facts_of lines said.order) said.order_line said.gtin ≡ Some line
+    (sscc : List ℕ) (n : ℕ) (said : DespatchLine) (rest : List DespatchLine) (before : List Change)
+    (lines after : Orders) (line : LineFacts) (row : LineRow) (number : List ℕ) (next : Orders → Verdict)
+    → not (has_order lines said.order) ≡ false
+    → facts_among (lines_in lines said.order) said.order_line said.gtin ≡ Some line
     → ((verdict : Verdict) → despatch_checks said line verdict ≡ verdict)
     → row ≡ line.row
     → number ≡ row.number
     → after ≡ with_row (answered_row line.row (row.open_qty - said.quantity) row.refused row.cancelled row.answer) lines
-    → joined before (lines_from sscc orders n (said ∷ rest) lines next)
+    → joined before (lines_from sscc n (said ∷ rest) lines next)
     ≡ joined ((before ++ SetLine (record row { open_qty = row.open_qty - said.quantity }) ∷ [])
     ++ AddContent (record { sscc = sscc; place = n + 1; number = number; line = row.line; quantity = said.quantity })
-    ∷ []) (lines_from sscc orders (n + 1) rest after next)
-despatched_next sscc orders n said rest before lines after line row number next known found pass is number_is set =
+    ∷ []) (lines_from sscc (n + 1) rest after next)
+despatched_next sscc n said rest before lines after line row number next known found pass is number_is set =
     let set_line : Change = SetLine (after_despatch said line) in
     let content : Change = new_content sscc (n + 1) said line in
     let left : with_row (after_despatch said line) lines ≡ after =
     sym (set
     ∙ ap (λ (r : LineRow).
     with_row (answered_row line.row (r.open_qty - said.quantity) r.refused r.cancelled r.answer) lines) is) in
-    let tail : Verdict = lines_from sscc orders (n + 1) rest after next in
+    let tail : Verdict = lines_from sscc (n + 1) rest after next in
     let named : number ≡ line.row.number = number_is ∙ ap (λ (r : LineRow). r.number) is in
     ap₂ (λ v one. joined before (refuse_if v NoOrder (given one NoLine (λ line.
     despatch_checks said line (joined (SetLine (after_despatch said line) ∷ new_content sscc (n + 1) said line ∷ [])
-    (lines_from sscc orders (n + 1) rest (with_row (after_despatch said line) lines) next)))))) known found
+    (lines_from sscc (n + 1) rest (with_row (after_despatch said line) lines) next)))))) known found
     ∙ ap (joined before) (pass (joined (set_line ∷ content ∷ [])
-    (lines_from sscc orders (n + 1) rest (with_row (after_despatch said line) lines) next)))
-    ∙ ap (λ ls. joined before (joined (set_line ∷ content ∷ []) (lines_from sscc orders (n + 1) rest ls next))) left
+    (lines_from sscc (n + 1) rest (with_row (after_despatch said line) lines) next)))
+    ∙ ap (λ ls. joined before (joined (set_line ∷ content ∷ []) (lines_from sscc (n + 1) rest ls next))) left
     ∙ ap (joined before) (joined_grouped (set_line ∷ []) (content ∷ []) tail)
     ∙ sym (joined_grouped (before ++ set_line ∷ []) (content ∷ []) tail
     ∙ joined_grouped before (set_line ∷ []) (joined (content ∷ []) tail))
@@ -298,8 +296,8 @@ despatched_next sscc orders n said rest before lines after line row number next 
     tail) (sym is) (sym named)
 
 -- the next unit judged by the code, up to its lines
-pub unit_next : (s : SupplierRow) (advice : List ℕ) (orders : List (List ℕ)) (came later : List ℕ → Bool)
-    (ahead units : List Unit) (flags rest : List Bool) (lines : List LineFacts) (unit : Unit) (flag taken : Bool)
+pub unit_next : (s : SupplierRow) (advice : List ℕ) (came later : List ℕ → Bool)
+    (ahead units : List Unit) (flags rest : List Bool) (lines : Orders) (unit : Unit) (flag taken : Bool)
     (number : List ℕ) (pallet : Change) (before pushed : List Change)
     → ahead ≡ unit ∷ units
     → flags ≡ flag ∷ rest
@@ -309,15 +307,15 @@ pub unit_next : (s : SupplierRow) (advice : List ℕ) (orders : List (List ℕ))
     → number ≡ advice
     → pallet ≡ new_pallet s number unit.sscc
     → pushed ≡ before ++ pallet ∷ []
-    → joined before (units_from s advice orders came ahead flags lines)
-    ≡ joined pushed (lines_from unit.sscc orders 0 unit.lines lines (λ left. units_from s advice orders later units rest left))
-unit_next s advice orders came later ahead units flags rest lines unit flag taken number pallet before pushed is is_flag
+    → joined before (units_from s advice came ahead flags lines)
+    ≡ joined pushed (lines_from unit.sscc 0 unit.lines lines (λ left. units_from s advice later units rest left))
+unit_next s advice came later ahead units flags rest lines unit flag taken number pallet before pushed is is_flag
     is_taken more pass named made put_on =
     let of : (List ℕ → Bool) → Verdict =
-    λ among. lines_from unit.sscc orders 0 unit.lines lines (λ left. units_from s advice orders among units rest left) in
+    λ among. lines_from unit.sscc 0 unit.lines lines (λ left. units_from s advice among units rest left) in
     let behind : Verdict = joined (new_pallet s advice unit.sscc ∷ []) (of (and_sscc came unit.sscc)) in
     let same_came : and_sscc came unit.sscc ≡ later = λ i sscc. sym (more sscc) i in
-    ap₂ (λ us flags. joined before (units_from s advice orders came us flags lines)) is is_flag
+    ap₂ (λ us flags. joined before (units_from s advice came us flags lines)) is is_flag
     ∙ ap (λ v. joined before (unit_checks s unit.sscc v behind)) (sym is_taken)
     ∙ ap (joined before) (pass behind)
     ∙ sym (joined_grouped before (new_pallet s advice unit.sscc ∷ []) (of (and_sscc came unit.sscc)))
@@ -326,43 +324,10 @@ unit_next s advice orders came later ahead units flags rest lines unit flag take
     same_came
 
 -- after the last unit
-pub units_end : (s : SupplierRow) (advice : List ℕ) (orders : List (List ℕ)) (came : List ℕ → Bool) (units : List Unit)
-    (flags : List Bool) (lines : List LineFacts)
+pub units_end : (s : SupplierRow) (advice : List ℕ) (came : List ℕ → Bool) (units : List Unit)
+    (flags : List Bool) (lines : Orders)
     → (units ≡ []) ⊎ (flags ≡ [])
-    → units_from s advice orders came units flags lines ≡ Accept []
-units_end s advice orders came [] flags lines ended = refl
-units_end s advice orders came (unit ∷ units) [] lines ended = refl
-units_end s advice orders came (unit ∷ units) (flag ∷ flags) lines ended = elim ended [ inl e ↦ cc | inr e ↦ cc ]
-
--- the orders matter only by which are among them
-module _ (a b : List (List ℕ)) (same_orders : (order : List ℕ) → is_among order a ≡ is_among order b) where
-  lines_by_orders : (sscc : List ℕ) (f g : List LineFacts → Verdict)
-      → ((lines : List LineFacts) → f lines ≡ g lines)
-      → (n : ℕ) (said : List DespatchLine) (lines : List LineFacts)
-      → lines_from sscc a n said lines f ≡ lines_from sscc b n said lines g
-  lines_by_orders sscc f g alike n [] lines = alike lines
-  lines_by_orders sscc f g alike n (x ∷ said) lines =
-      ap₂ (λ v rest. refuse_if (not v) NoOrder rest) (same_orders x.order)
-      (elim (facts_among (facts_of lines x.order) x.order_line x.gtin) as (λ found. given found NoLine
-      (λ line. despatch_checks x line (joined (SetLine (after_despatch x line) ∷ new_content sscc (n + 1) x line ∷ [])
-      (lines_from sscc a (n + 1) said (with_row (after_despatch x line) lines) f)))
-      ≡ given found NoLine
-      (λ line. despatch_checks x line (joined (SetLine (after_despatch x line) ∷ new_content sscc (n + 1) x line ∷ [])
-      (lines_from sscc b (n + 1) said (with_row (after_despatch x line) lines) g)))) [
-        | None ↦ refl
-        | Some line ↦ ap (λ rest.
-            despatch_checks x line (joined (SetLine (after_despatch x line) ∷ new_content sscc (n + 1) x line ∷ []) rest))
-            (lines_by_orders sscc f g alike (n + 1) said (with_row (after_despatch x line) lines))
-      ])
-
-  pub units_by_orders : (s : SupplierRow) (advice : List ℕ) (came : List ℕ → Bool) (units : List Unit) (used : List Bool)
-      (lines : List LineFacts)
-      → units_from s advice a came units used lines ≡ units_from s advice b came units used lines
-  units_by_orders s advice came [] used lines = refl
-  units_by_orders s advice came (unit ∷ units) [] lines = refl
-  units_by_orders s advice came (unit ∷ units) (flag ∷ used) lines =
-      let also : List ℕ → Bool = and_sscc came unit.sscc in
-      ap (λ rest. unit_checks s unit.sscc (flag || came unit.sscc) (joined (new_pallet s advice unit.sscc ∷ []) rest))
-      (lines_by_orders unit.sscc (λ left. units_from s advice a also units used left)
-      (λ left. units_from s advice b also units used left) (λ left. units_by_orders s advice also units used left) 0
-      unit.lines lines)
+    → units_from s advice came units flags lines ≡ Accept []
+units_end s advice came [] flags lines ended = refl
+units_end s advice came (unit ∷ units) [] lines ended = refl
+units_end s advice came (unit ∷ units) (flag ∷ flags) lines ended = elim ended [ inl e ↦ cc | inr e ↦ cc ]

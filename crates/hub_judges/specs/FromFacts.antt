@@ -3,7 +3,6 @@
 -- proofs; no public clause rests on them.
 use Rattle.std.specs.Prelude.{ℕ, Bool, false, ◌+◌, ◌-◌, nat_lt, not, ◌&&◌, ◌||◌, List, [], ◌∷◌, ◌++◌, map, filter, Option, Some}
 use Rattle.std.specs.Prelude.{Result, Ok, Err}
-use Rattle.edi_base.specs.Seen.{is_among}
 use Rattle.gs1_ids.specs.Sscc.{under_some}
 use Rattle.edi_orders.specs.declared.response.Answer.{Answer}
 use Rattle.edi_orders.specs.declared.response.Answer.TheVariants.{AllAccepted, AllRefused, Lines}
@@ -24,7 +23,7 @@ use Rattle.hub_tables.specs.declared.change.Change.{Change}
 use Rattle.hub_tables.specs.declared.cases.Arrival.TheVariants.{Announced}
 use Rattle.hub_tables.specs.declared.rows.PalletRow.{PalletRow}
 use Rattle.hub_tables.specs.declared.rows.LineRow.{LineRow}
-use Rattle.hub_order_lines.specs.Book.{facts_of, facts_among, with_row}
+use Rattle.hub_order_lines.specs.Book.{Orders, facts_among, has_order, lines_in, with_row}
 use Rattle.hub_order_lines.specs.declared.facts.LineFacts.{LineFacts}
 use Rattle.hub_rules.specs.Judging.{refuse_if, given, joined}
 use Rattle.hub_rules.specs.ReceiptRules.{gtins, new_receipt, arrival_by, cleared}
@@ -50,34 +49,34 @@ abbrev pub after_answer : LineAnswer → LineFacts → LineRow
 after_answer answer line = answered answer line.despatched line.row
 
 -- answers to lines, each on what the earlier ones left
-abbrev pub answers_from : List ℕ → List AnswerLine → List LineFacts → Verdict
+abbrev pub answers_from : List ℕ → List AnswerLine → Orders → Verdict
 answers_from order [] lines = Accept []
 answers_from order (said ∷ rest) lines =
-    given (facts_among (facts_of lines order) said.order_line said.gtin) NoLine (λ line.
+    given (facts_among (lines_in lines order) said.order_line said.gtin) NoLine (λ line.
     answer_checks said line (
     joined (SetLine (after_answer said.answer line)
     ∷ []) (answers_from order rest (with_row (after_answer said.answer line) lines))))
 
--- the lines of an order that wait
-abbrev pub waiting_of : List LineFacts → List ℕ → List LineFacts
-waiting_of lines order = filter (λ line. waits line.row) (facts_of lines order)
+-- the lines that wait
+abbrev pub waiting : List LineFacts → List LineFacts
+waiting lines = filter (λ line. waits line.row) lines
 
 -- the same answer to each of them
-abbrev pub all_from : LineAnswer → List ℕ → List LineFacts → Verdict
-all_from answer order lines =
-    refuse_if (is_empty (waiting_of lines order)) NotWaiting (
-    Accept (map (λ line. SetLine (after_answer answer line)) (waiting_of lines order)))
+abbrev pub all_from : LineAnswer → List LineFacts → Verdict
+all_from answer lines =
+    refuse_if (is_empty (waiting lines)) NotWaiting (
+    Accept (map (λ line. SetLine (after_answer answer line)) (waiting lines)))
 
-abbrev pub said_from : Answer → List ℕ → List LineFacts → Verdict
-said_from AllAccepted order lines = all_from Accepted order lines
-said_from AllRefused order lines = all_from Refused order lines
+abbrev pub said_from : Answer → List ℕ → Orders → Verdict
+said_from AllAccepted order lines = all_from Accepted (lines_in lines order)
+said_from AllRefused order lines = all_from Refused (lines_in lines order)
 said_from (Lines said) order lines = answers_from order said lines
 
 -- what an ORDRSP changes of what is known, or the first of B05 to B09 that it is against
 abbrev pub response_from : Response → Known → Verdict
 response_from response known =
-    refuse_if (not (is_among response.order known.orders)) NoOrder
-    (said_from response.answer response.order known.lines)
+    refuse_if (not (has_order known.orders response.order)) NoOrder
+    (said_from response.answer response.order known.orders)
 
 -- a line that is set, or why not
 abbrev pub of_line : Result LineRow Code → Verdict
@@ -87,8 +86,8 @@ of_line (Err code) = Refuse code
 -- the line that a cancellation names, after it
 abbrev pub cancelled_from : Cancel → Known → Verdict
 cancelled_from cancel known =
-    refuse_if (not (is_among cancel.order known.orders)) NoOrder (
-    given (facts_among (facts_of known.lines cancel.order) (Some cancel.line) []) NoLine (λ line.
+    refuse_if (not (has_order known.orders cancel.order)) NoOrder (
+    given (facts_among (lines_in known.orders cancel.order) (Some cancel.line) []) NoLine (λ line.
     refuse_if (nat_lt line.row.open_qty cancel.quantity) CancelsMoreThanOpen (
     Accept (SetLine (record line.row {
       open_qty = line.row.open_qty - cancel.quantity;
@@ -140,15 +139,14 @@ despatch_checks said line rest =
 
 -- the lines of a unit, whose places go on from a number, each on what the earlier ones left; and what follows on what
 -- all left
-abbrev pub lines_from : List ℕ → List (List ℕ) → ℕ → List DespatchLine → List LineFacts → (List LineFacts → Verdict)
-    → Verdict
-lines_from sscc orders n [] lines next = next lines
-lines_from sscc orders n (said ∷ rest) lines next =
-    refuse_if (not (is_among said.order orders)) NoOrder (
-    given (facts_among (facts_of lines said.order) said.order_line said.gtin) NoLine (λ line.
+abbrev pub lines_from : List ℕ → ℕ → List DespatchLine → Orders → (Orders → Verdict) → Verdict
+lines_from sscc n [] lines next = next lines
+lines_from sscc n (said ∷ rest) lines next =
+    refuse_if (not (has_order lines said.order)) NoOrder (
+    given (facts_among (lines_in lines said.order) said.order_line said.gtin) NoLine (λ line.
     despatch_checks said line (
     joined (SetLine (after_despatch said line) ∷ new_content sscc (n + 1) said line ∷ [])
-    (lines_from sscc orders (n + 1) rest (with_row (after_despatch said line) lines) next))))
+    (lines_from sscc (n + 1) rest (with_row (after_despatch said line) lines) next))))
 
 abbrev pub new_pallet : SupplierRow → List ℕ → List ℕ → Change
 new_pallet s advice sscc =
@@ -162,19 +160,18 @@ unit_checks s sscc used rest =
 
 -- the units of a DESADV, each with whether its SSCC was used before the first of them; an earlier unit of the same SSCC
 -- uses it
-abbrev pub units_from : SupplierRow → List ℕ → List (List ℕ) → (List ℕ → Bool) → List Unit → List Bool → List LineFacts
-    → Verdict
-units_from s advice orders came [] used lines = Accept []
-units_from s advice orders came (unit ∷ units) [] lines = Accept []
-units_from s advice orders came (unit ∷ units) (used ∷ rest) lines =
+abbrev pub units_from : SupplierRow → List ℕ → (List ℕ → Bool) → List Unit → List Bool → Orders → Verdict
+units_from s advice came [] used lines = Accept []
+units_from s advice came (unit ∷ units) [] lines = Accept []
+units_from s advice came (unit ∷ units) (used ∷ rest) lines =
     unit_checks s unit.sscc (used || came unit.sscc) (
     joined (new_pallet s advice unit.sscc ∷ [])
-    (lines_from unit.sscc orders 0 unit.lines lines (λ left.
-    units_from s advice orders (and_sscc came unit.sscc) units rest left)))
+    (lines_from unit.sscc 0 unit.lines lines (λ left.
+    units_from s advice (and_sscc came unit.sscc) units rest left)))
 
 -- what a DESADV changes of what is known, or the first of B13, B11, B12, B05, B06, B09 and B10 that it is against
 abbrev pub despatch_from : SupplierRow → Despatch → Known → Verdict
 despatch_from s despatch known =
     refuse_if known.number_known AdviceKnown (
     joined (AddAdvice (record { supplier = s.gln; number = despatch.number }) ∷ [])
-    (units_from s despatch.number known.orders no_sscc despatch.units known.used known.lines))
+    (units_from s despatch.number no_sscc despatch.units known.used known.orders))

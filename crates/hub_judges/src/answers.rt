@@ -5,12 +5,12 @@ ghost use Rattle.std.specs.Option.{IfSome, IfNone};
 ghost use Rattle.hub_tables.specs.State.{waits};
 ghost use Rattle.hub_tables.specs.declared.change.Change.TheVariants.{SetLine};
 ghost use Rattle.hub_tables.specs.declared.rows.LineRow.{LineRow};
-ghost use Rattle.hub_order_lines.specs.Book.{IsCovered};
+ghost use Rattle.hub_order_lines.specs.Book.{facts_of, IsCovered};
 ghost use Rattle.hub_rules.specs.Judging.{joined};
 ghost use Rattle.hub_rules.specs.ResponseRules.{is_empty, is_out_of_range};
 ghost use Rattle.hub_rules.specs.declared.verdict.Verdict.{Verdict};
 ghost use Rattle.hub_rules.specs.declared.verdict.Verdict.TheVariants.{Refuse};
-ghost use Rattle.hub_judges.specs.FromFacts.{answer_checks, after_answer, answers_from, waiting_of};
+ghost use Rattle.hub_judges.specs.FromFacts.{answer_checks, after_answer, answers_from, waiting};
 
 use edi_base::{Items, MemoryFault};
 use edi_orders::{AnswerLine, LineAnswer};
@@ -28,7 +28,7 @@ fn is_waiting(line: &LineFacts) -> bool
 
 /// Whether a line of an order waits for an answer.
 pub(crate) fn any_waits(lines: &[LineFacts], order: &[u8]) -> bool
-    ensures { result ≡ not (is_empty (waiting_of lines.now order.now)) }
+    ensures { result ≡ not (is_empty (waiting (facts_of lines.now order.now))) }
 {
     for line in lines {
         if line.row.number.as_slice() == order && is_waiting(line) {
@@ -109,7 +109,7 @@ pub(crate) fn answer_all(
     requires covered { AllByRecursion IsCovered lines.now }
     requires range { (sent : ℕ) (row : LineRow) → is_out_of_range answer sent row ≡ false }
     ensures { IfOk result (λ _. changes.new ≡ changes.old
-        ++ map (λ line. SetLine (after_answer answer line)) (waiting_of lines.now order.now)) }
+        ++ map (λ line. SetLine (after_answer answer line)) (waiting (facts_of lines.now order.now))) }
 {
     for line in lines {
         if line.row.number.as_slice() == order && is_waiting(line) {
@@ -122,33 +122,24 @@ pub(crate) fn answer_all(
 /// What comes of answers to lines of an order, after the changes: B06 to B09 are asked of each, on what the earlier ones left.
 pub(crate) fn answer_lines(
     alloc: Global,
-    book: Book,
+    book: Book<'_>,
     order: &[u8],
     said: &[AnswerLine],
     changes: Items<Change>,
 ) -> Result<Verdict, MemoryFault>
-    requires { AllByRecursion IsCovered book }
-    ensures { IfOk result (λ verdict. verdict ≡ joined changes (answers_from order.now said.now book)) }
+    ensures { IfOk result (λ verdict. verdict ≡ joined changes (answers_from order.now said.now book.entry)) }
 {
     let mut book = book;
     let mut changes = changes;
     for answer in said {
-        let place = match book.place_of(order, answer.order_line, &answer.gtin) {
-            Some(place) => place,
-            None => return Ok(Verdict::Refuse(Code::NoLine)),
+        let Some(line) = book.line(order, answer.order_line, &answer.gtin) else {
+            return Ok(Verdict::Refuse(Code::NoLine));
         };
-        let line = book.line(place);
         if let Some(code) = answer_fault(answer, line) {
             return Ok(Verdict::Refuse(code));
         }
         let row = answered_line(alloc, answer.answer, line)?;
-        book.set(
-            place,
-            row.open_qty,
-            row.refused,
-            row.cancelled,
-            row.answer.case(),
-        );
+        book.set(alloc, order, answer.order_line, &answer.gtin, &row)?;
         changes.push(Change::SetLine(row))?;
     }
     Ok(Verdict::Accept(changes))

@@ -9,7 +9,7 @@ use crate::known::Known;
 use crate::party::registered_supplier;
 use crate::remembering::repeats;
 use edi_base::{Items, MemoryFault, copied};
-use hub_order_lines::{copied_row, is_known, line_numbered};
+use hub_order_lines::copied_row;
 use hub_parties::SupplierRow;
 use hub_rules::{Cancel, Code, Verdict};
 use hub_tables::{Change, Column, LineRow, RememberedRow, Side};
@@ -24,10 +24,10 @@ fn cancelled_line(
     ensures { IfOk result (λ line. of_line line ≡ cancelled_from cancel.now known.now) }
 {
     let order = cancel.order.as_slice();
-    if !is_known(known.orders.as_slice(), order) {
+    if !known.orders.has(order) {
         return Ok(Err(Code::NoOrder));
     }
-    let line = match line_numbered(known.lines.as_slice(), order, cancel.line) {
+    let line = match known.orders.line_numbered(order, cancel.line) {
         Some(line) => line,
         None => return Ok(Err(Code::NoLine)),
     };

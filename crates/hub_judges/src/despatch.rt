@@ -5,6 +5,7 @@ ghost use Rattle.gs1_ids.specs.Sscc.{under_some};
 ghost use Rattle.hub_tables.specs.Tables.{Tables};
 ghost use Rattle.hub_tables.specs.declared.cases.Side.TheVariants.{Supplier};
 ghost use Rattle.hub_tables.specs.declared.change.Change.TheVariants.{AddAdvice, Remember};
+ghost use Rattle.hub_order_lines.specs.Book.{Orders};
 ghost use Rattle.hub_order_lines.specs.declared.facts.LineFacts.{LineFacts};
 ghost use Rattle.hub_rules.specs.Judging.{joined};
 ghost use Rattle.hub_rules.specs.RepeatRules.{remembered};
@@ -21,7 +22,7 @@ use crate::remembering::{remember, repeats};
 use edi_base::{Items, MemoryFault, Seen, copied};
 use edi_goods::{Despatch, DespatchLine, Unit};
 use gs1_ids::{Gln, Sscc};
-use hub_order_lines::{Book, LineFacts, OrderNumbers, copied_row};
+use hub_order_lines::{Book, LineFacts, copied_row};
 use hub_parties::SupplierRow;
 use hub_rules::{Code, IncomingMessage, Verdict};
 use hub_tables::{AdviceRow, Arrival, Change, Column, ContentRow, PalletRow, Side};
@@ -44,31 +45,28 @@ fn line_fault(said: &DespatchLine, line: &LineFacts) -> Option<Code>
 }
 
 // Puts the lines of a unit after the changes, and into the book; or the rule that one of them is against: B05, B06, B09, B10.
-fn load<'a>(
+fn load(
     alloc: Global,
-    unit: &'a Unit,
-    orders: &OrderNumbers<'a>,
-    book: &mut Book,
+    unit: &Unit,
+    book: &mut Book<'_>,
     changes: &mut Items<Change>,
 ) -> Result<Option<Code>, MemoryFault>
-    ensures refused { IfOk result (λ fault. IfSome fault (λ code. (next : List LineFacts → Verdict) →
-        joined changes.old (lines_from unit.now.sscc orders.now 0 unit.now.lines book.old next)
+    ensures refused { IfOk result (λ fault. IfSome fault (λ code. (next : Orders → Verdict) →
+        joined changes.old (lines_from unit.now.sscc 0 unit.now.lines book.old next)
         ≡ Refuse code)) }
-    ensures loaded { IfOk result (λ fault. IfNone fault ((next : List LineFacts → Verdict) →
-        joined changes.old (lines_from unit.now.sscc orders.now 0 unit.now.lines book.old next)
+    ensures loaded { IfOk result (λ fault. IfNone fault ((next : Orders → Verdict) →
+        joined changes.old (lines_from unit.now.sscc 0 unit.now.lines book.old next)
         ≡ joined changes.new (next book.new))) }
 {
     let lines = unit.lines.as_slice();
     for (index, said) in lines.iter().enumerate() {
         let order = said.order.as_slice();
-        if !orders.has(order) {
+        if !book.has(order) {
             return Ok(Some(Code::NoOrder));
         }
-        let place = match book.place_of(order, said.order_line, &said.gtin) {
-            Some(place) => place,
-            None => return Ok(Some(Code::NoLine)),
+        let Some(line) = book.line(order, said.order_line, &said.gtin) else {
+            return Ok(Some(Code::NoLine));
         };
-        let line = book.line(place);
         if let Some(code) = line_fault(said, line) {
             return Ok(Some(code));
         }
@@ -81,13 +79,7 @@ fn load<'a>(
             line: row.line,
             quantity: said.quantity,
         };
-        book.set(
-            place,
-            row.open_qty,
-            row.refused,
-            row.cancelled,
-            row.answer.case(),
-        );
+        book.set(alloc, order, said.order_line, &said.gtin, &row)?;
         changes.push(Change::SetLine(row))?;
         changes.push(Change::AddContent(content))?;
     }
@@ -138,17 +130,16 @@ fn announced_pallet(
 
 // What comes of the units after these changes: of each B11 and B12 are asked, and then its lines, on what the earlier ones
 // left. An SSCC is used if the hub or an earlier unit has it.
-fn judge_units<'a>(
+fn judge_units(
     alloc: Global,
     row: &SupplierRow,
-    despatch: &'a Despatch,
-    orders: &OrderNumbers<'a>,
+    despatch: &Despatch,
     used: &[bool],
-    book: Book,
+    book: Book<'_>,
     changes: Items<Change>,
 ) -> Result<Verdict, MemoryFault>
     ensures { IfOk result (λ verdict. verdict ≡ joined changes
-        (units_from row.now despatch.now.number orders.now no_sscc despatch.now.units used.now book)) }
+        (units_from row.now despatch.now.number no_sscc despatch.now.units used.now book.entry)) }
 {
     let mut book = book;
     let mut changes = changes;
@@ -162,7 +153,7 @@ fn judge_units<'a>(
         }
         let pallet = announced_pallet(alloc, row, number, unit.sscc)?;
         changes.push(pallet)?;
-        if let Some(code) = load(alloc, unit, orders, &mut book, &mut changes)? {
+        if let Some(code) = load(alloc, unit, &mut book, &mut changes)? {
             return Ok(Verdict::Refuse(code));
         }
     }
@@ -195,27 +186,19 @@ fn remembered_with_number(
 fn judge_new(
     alloc: Global,
     row: &SupplierRow,
-    known: Known,
+    known: &Known,
     incoming: IncomingMessage,
     despatch: &Despatch,
 ) -> Result<Verdict, MemoryFault>
-    requires { known.number_known ≡ false }
+    requires { known.now.number_known ≡ false }
     ensures { IfOk result (λ verdict.
         verdict ≡ joined (Remember (remembered (rules.referred_by row.now Supplier incoming) incoming.content)
-        ∷ []) (despatch_from row.now despatch.now known)) }
+        ∷ []) (despatch_from row.now despatch.now known.now)) }
 {
     let changes = remembered_with_number(alloc, row, incoming, despatch.number.as_slice())?;
-    let Known {
-        orders,
-        lines,
-        used,
-        ..
-    } = known;
-    let book = Book::new(alloc, lines)?;
-    let orders = orders.as_slice();
-    let numbers = OrderNumbers::new(alloc, orders)?;
-    let used = used.as_slice();
-    let verdict = judge_units(alloc, row, despatch, &numbers, used, book, changes)?;
+    let book = Book::new(alloc, &known.orders);
+    let used = known.used.as_slice();
+    let verdict = judge_units(alloc, row, despatch, used, book, changes)?;
     Ok(verdict)
 }
 
@@ -226,12 +209,12 @@ pub fn judge_despatch(
     alloc: Global,
     retailer: &Gln,
     supplier: Option<&SupplierRow>,
-    known: Known,
+    known: &Known,
     incoming: IncomingMessage,
     despatch: &Despatch,
 ) -> Result<Verdict, MemoryFault>
     ensures { IfOk result (λ verdict. (used : List ℕ → Bool) (state : Tables) →
-        TellsForDespatch known used incoming despatch.now state →
+        TellsForDespatch known.now used incoming despatch.now state →
         verdict ≡ rules.judge_despatch retailer.now
         (option_copied supplier.entry) used incoming despatch.now state) }
 {

@@ -1,6 +1,6 @@
 //! What is known of the tables when a message or a cancellation is judged.
 use edi_base::Items;
-use hub_order_lines::KnownLines;
+use hub_order_lines::KnownOrders;
 use hub_tables::PalletRow;
 
 /// What is known of one supplier's rows when a message or a cancellation is judged. A judge reads what its checks ask for.
@@ -8,10 +8,8 @@ use hub_tables::PalletRow;
 pub struct Known {
     /// The content that is remembered under the references of the message or the cancellation.
     pub remembered: Option<Items<u8>>,
-    /// Which of the order numbers that are named the supplier has.
-    pub orders: Items<Items<u8>>,
-    /// All lines of these orders.
-    pub lines: KnownLines,
+    /// Of each order that is named, whether the supplier has it, and all its lines.
+    pub orders: KnownOrders,
     /// Whether the supplier has the order (ORDERS) or the advice (DESADV) of this number.
     pub number_known: bool,
     /// How many entries the supplier's mailbox has.

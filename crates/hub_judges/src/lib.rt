@@ -19,7 +19,7 @@ mod totals;
 
 pub use cancel::judge_cancel;
 pub use despatch::judge_despatch;
-pub use hub_order_lines::{KnownLines, LineFacts};
+pub use hub_order_lines::{KnownOrders, LineFacts};
 pub use hub_rules::{Cancel, Code, IncomingMessage, Join, Verdict};
 pub use hub_tables::{
     AdviceRow, Answered, Arrival, Case, Change, Column, ContentRow, LineRow, MailKind, MailRow,

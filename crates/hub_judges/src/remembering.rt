@@ -1,5 +1,5 @@
 //! Remembering (B03).
-ghost use Rattle.std.specs.Prelude.{◌≡◌, Option, option_map};
+ghost use Rattle.std.specs.Prelude.{◌≡◌, Option, None, option_map};
 ghost use Rattle.std.specs.Option.{IfSome, IfNone};
 ghost use Rattle.hub_tables.specs.declared.change.Change.TheVariants.{Remember};
 ghost use Rattle.hub_tables.specs.declared.rows.RememberedRow.{RememberedRow};
@@ -22,6 +22,7 @@ pub(crate) fn repeats(
         option_map (λ row. row.content) row ≡ remembered.now → once row content.now fresh ≡ verdict) }
     ensures none { IfNone result ((row : Option RememberedRow) (fresh : Verdict) →
         option_map (λ row. row.content) row ≡ remembered.now → once row content.now fresh ≡ fresh) }
+    ensures new { IfNone result (remembered.now ≡ None) }
 {
     match remembered {
         Some(there) => {

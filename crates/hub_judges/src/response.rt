@@ -3,7 +3,7 @@ ghost use Rattle.std.specs.Prelude.{◌≡◌, ℕ, false, IfOk, option_copied};
 ghost use Rattle.std.specs.List.{AllByRecursion};
 ghost use Rattle.hub_tables.specs.Tables.{Tables};
 ghost use Rattle.hub_tables.specs.declared.rows.LineRow.{LineRow};
-ghost use Rattle.hub_order_lines.specs.Book.{IsCovered};
+ghost use Rattle.hub_order_lines.specs.Book.{facts_of, IsCovered};
 ghost use Rattle.hub_rules.specs.Judging.{joined};
 ghost use Rattle.hub_rules.specs.ResponseRules.{is_out_of_range};
 ghost use Rattle.hub_rules.specs.Rules as rules;
@@ -17,7 +17,7 @@ use crate::remembering::{remember, repeats};
 use edi_base::{Items, MemoryFault};
 use edi_orders::{Answer, LineAnswer, Response};
 use gs1_ids::Gln;
-use hub_order_lines::{Book, LineFacts, is_known};
+use hub_order_lines::{Book, LineFacts};
 use hub_parties::SupplierRow;
 use hub_rules::{Code, IncomingMessage, Verdict};
 use hub_tables::{Change, Side};
@@ -33,7 +33,7 @@ fn respond_to_all(
 ) -> Result<Verdict, MemoryFault>
     requires covered { AllByRecursion IsCovered lines.now }
     requires range { (sent : ℕ) (row : LineRow) → is_out_of_range answer sent row ≡ false }
-    ensures { IfOk result (λ verdict. verdict ≡ joined changes (all_from answer order.now lines.now)) }
+    ensures { IfOk result (λ verdict. verdict ≡ joined changes (all_from answer (facts_of lines.now order.now))) }
 {
     if !any_waits(lines, order) {
         return Ok(Verdict::Refuse(Code::NotWaiting));
@@ -46,33 +46,33 @@ fn respond_to_all(
 // What an answer changes of what is known, after the changes; or the first of B05 to B09 that it is against.
 fn respond(
     alloc: Global,
-    known: Known,
+    known: &Known,
     response: &Response,
     changes: Items<Change>,
 ) -> Result<Verdict, MemoryFault>
-    ensures { IfOk result (λ verdict. verdict ≡ joined changes (response_from response.now known)) }
+    ensures { IfOk result (λ verdict. verdict ≡ joined changes (response_from response.now known.now)) }
 {
     let order = response.order.as_slice();
-    if !is_known(known.orders.as_slice(), order) {
+    if !known.orders.has(order) {
         return Ok(Verdict::Refuse(Code::NoOrder));
     }
     match &response.answer {
         Answer::AllAccepted => respond_to_all(
             alloc,
-            known.lines.as_slice(),
+            known.orders.lines(order),
             order,
             LineAnswer::Accepted,
             changes,
         ),
         Answer::AllRefused => respond_to_all(
             alloc,
-            known.lines.as_slice(),
+            known.orders.lines(order),
             order,
             LineAnswer::Refused,
             changes,
         ),
         Answer::Lines(said) => {
-            let book = Book::new(alloc, known.lines)?;
+            let book = Book::new(alloc, &known.orders);
             answer_lines(alloc, book, order, said.as_slice(), changes)
         }
     }
@@ -84,11 +84,11 @@ pub fn judge_response(
     alloc: Global,
     retailer: &Gln,
     supplier: Option<&SupplierRow>,
-    known: Known,
+    known: &Known,
     incoming: IncomingMessage,
     response: &Response,
 ) -> Result<Verdict, MemoryFault>
-    ensures { IfOk result (λ verdict. (state : Tables) → TellsForResponse known incoming response.now state →
+    ensures { IfOk result (λ verdict. (state : Tables) → TellsForResponse known.now incoming response.now state →
         verdict ≡ rules.judge_response retailer.now
         (option_copied supplier.entry) incoming response.now state) }
 {

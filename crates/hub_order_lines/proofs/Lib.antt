@@ -4,7 +4,12 @@ pub mod FirstLine
 pub mod InOrder
 pub mod IndexArticles
 pub mod ArticleLines
-pub mod Moved
 pub mod Passing
 pub mod StepsUp
 pub mod SetLine
+pub mod Walked
+pub mod Entries
+pub mod RowsOfOrder
+pub mod Follow
+pub mod Once
+pub mod Setting

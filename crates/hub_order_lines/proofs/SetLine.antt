@@ -1,23 +1,25 @@
 -- A line set in its place.
-use Rattle.std.proofs.Common.{◌≡◌, ℕ, zero, suc, ◌<◌, Bool, true, false, cond, ◌&&◌, ◌==◌, inl, inr, List, [], ◌∷◌, length}
-use Rattle.std.proofs.Common.{get_or, slice_get, slice_set, Some, refl, sym, ap, ap₂, subst, ◌∙◌, eq-eqb}
+use Rattle.std.proofs.Common.{◌≡◌, ℕ, zero, suc, ◌+◌, ◌<◌, Bool, true, false, cond, ◌&&◌, ◌==◌, inl, inr, List, [], ◌∷◌, length}
+use Rattle.std.proofs.Common.{find, get_or, slice_get, slice_set, Option, Some, None, refl, sym, ap, ap₂, subst, ◌∙◌, arith}
 use Rattle.std.specs.BTreeMap.{BTreeMap}
 use Rattle.std.specs.List.{AllByRecursion}
+use Rattle.std.specs.Option.{IfSome}
 use Rattle.std.specs.declared.cmp.Ordering.TheVariants.{Less, Equal}
 use Rattle.std.specs.Ordering.{nat_cmp, ordering_then}
+use Rattle.std.proofs.lemmas.Bool.Decides.{nat_tests}
 use Rattle.std.proofs.lemmas.Cmp.{tied_itself}
 use Rattle.std.proofs.lemmas.List.{map-set, set-get_or, get_or-map}
-use Rattle.std.proofs.lemmas.List.Elements.{All-from_recursion, All-get_or}
-use Rattle.std.proofs.lemmas.List.Folds.{map_fixed}
-use Rattle.std.proofs.lemmas.Option.{same_Some, slice_get_within, get_or_from_slice_get}
-use Rattle.hub_parties.specs.KeyOrder.{bytes_cmp, Rises}
-use Rattle.hub_tables.specs.Rows.{same_line}
+use Rattle.std.proofs.lemmas.List.Elements.{All-from_recursion, All-get_or, recursion_from_All, filter_passes}
+use Rattle.std.proofs.lemmas.Option.{same_Some, slice_get_within, slice_get-get_or, get_or_from_slice_get}
+use Rattle.hub_parties.specs.KeyOrder.{bytes_cmp, replace, Rises}
+use Rattle.hub_tables.specs.Rows.{same, same_line}
 use Rattle.hub_tables.specs.declared.rows.LineRow.{LineRow}
 use Rattle.hub_tables.proofs.KindOrders.{line_key}
-use Rattle.hub_tables.proofs.Lists.{decide, same_if, all_weaker}
-use Rattle.hub_order_lines.specs.Book.{facts_cmp, set_row, with_row, answered_row}
+use Rattle.hub_tables.proofs.Lists.{decide, same_is, same_if, all_weaker, all_found}
+use Rattle.hub_order_lines.specs.Book.{facts_cmp, facts_of, rows}
 use Rattle.hub_order_lines.specs.ArticleIndex.{OrderArticle, Indexed, IsArticleIndex}
 use Rattle.hub_order_lines.specs.Key.{key_of, keys_of}
+use Rattle.hub_order_lines.specs.KnownLines.{AddsUp, AreKnown}
 use Rattle.hub_order_lines.specs.declared.by_article.ArticleLines.{ArticleLines}
 use Rattle.hub_order_lines.specs.declared.facts.LineFacts.{LineFacts}
 use Rattle.hub_order_lines.proofs.ByNumber.{key_cmp, key_total}
@@ -39,11 +41,10 @@ not_before row x y less at_y =
 
 unset : (row : LineRow) (lines : List LineFacts)
     → AllByRecursion (λ line. same_line row line.row ≡ false) lines
-    → with_row row lines ≡ lines
-unset row lines all =
-    map_fixed (set_row row) lines (All-from_recursion (λ line. set_row row line ≡ line) lines
-    (all_weaker (λ line. same_line row line.row ≡ false) (λ line. set_row row line ≡ line)
-    (λ line e. ap (λ (v : Bool). cond v (record line { row = row }) line) e) lines all))
+    → rows lines ≡ replace (same_line row) row (rows lines)
+unset row [] all = refl
+unset row (line ∷ lines) all =
+    ap₂ (λ (v : Bool) rest. cond v row line.row ∷ rest) (sym all.0) (unset row lines all.1)
 
 at_place : (P : LineFacts → Type 0) (lines : List LineFacts) (place : ℕ) (line : LineFacts)
     → AllByRecursion P lines
@@ -53,24 +54,25 @@ at_place P lines place line all at =
     subst P (get_or_from_slice_get lines place line line at)
     (All-get_or P lines place line (slice_get_within lines place line at) (All-from_recursion P lines all))
 
--- the line at a place with another row of its key is the row in the place of the one that has its key
-pub set_is : (lines : List LineFacts) (place : ℕ) (line : LineFacts) (row : LineRow)
+-- the rows of lines of which one is set are those with the row in the place of the one that has its key
+pub set_is : (lines : List LineFacts) (place : ℕ) (line new : LineFacts) (row : LineRow)
     → Rises facts_cmp lines
     → slice_get lines place ≡ Some line
     → same_line row line.row ≡ true
-    → slice_set lines place (record line { row = row }) ≡ with_row row lines
-set_is [] place line row rise at alike = absurd (cc)
-set_is (x ∷ xs) zero line row rise at alike =
+    → new.row ≡ row
+    → rows (slice_set lines place new) ≡ replace (same_line row) row (rows lines)
+set_is [] place line new row rise at alike is = absurd (cc)
+set_is (x ∷ xs) zero line new row rise at alike is =
     let here : x ≡ line = same_Some x line at in
     let first : same_line row x.row ≡ true = ap (λ (one : LineFacts). same_line row one.row) here ∙ alike in
-    ap₂ (λ (one : LineFacts) rest. record one { row = row } ∷ rest) (sym here)
-    (sym (unset row xs (all_weaker (λ later. facts_cmp x later ≡ Less) (λ later. same_line row later.row ≡ false)
-    (λ later less. not_both row x later less first) xs rise.0)))
-    ∙ ap (λ (v : Bool). cond v (record x { row = row }) x ∷ with_row row xs) (sym first)
-set_is (x ∷ xs) (suc place) line row rise at alike =
+    ap₂ (λ one rest. one ∷ rest) is
+    (unset row xs (all_weaker (λ later. facts_cmp x later ≡ Less) (λ later. same_line row later.row ≡ false)
+    (λ later less. not_both row x later less first) xs rise.0))
+    ∙ ap (λ (v : Bool). cond v row x.row ∷ replace (same_line row) row (rows xs)) (sym first)
+set_is (x ∷ xs) (suc place) line new row rise at alike is =
     let other : same_line row x.row ≡ false =
     not_before row x line (at_place (λ later. facts_cmp x later ≡ Less) xs place line rise.0 at) alike in
-    ap₂ (λ (v : Bool) rest. cond v (record x { row = row }) x ∷ rest) (sym other) (set_is xs place line row rise.1 at alike)
+    ap₂ (λ (v : Bool) rest. cond v row x.row ∷ rest) (sym other) (set_is xs place line new row rise.1 at alike is)
 
 -- Lines with the same keys.
 later_kept : (x y : LineFacts) (xs ys : List LineFacts)
@@ -111,25 +113,89 @@ indexed_kept xs ys articles same_keys old = record {
   index = subst (λ keys. IsArticleIndex keys articles) (sym same_keys) old.index;
 }
 
-pub answered_kept : (lines : List LineFacts) (articles : BTreeMap OrderArticle ArticleLines) (place : ℕ) (line : LineFacts)
-    (open_qty refused cancelled answer : ℕ)
-    → Indexed lines articles
-    → place < length lines
-    → line ≡ get_or lines place line
-    → Indexed (slice_set lines place (record line { row = answered_row line.row open_qty refused cancelled answer })) articles
-answered_kept lines articles place line open_qty refused cancelled answer old within at =
-    let new = record line { row = answered_row line.row open_qty refused cancelled answer } in
-    indexed_kept lines (slice_set lines place new) articles (keys_kept lines place line new within at refl) old
+all_set : (P : LineFacts → Type 0) (lines : List LineFacts) (place : ℕ) (new : LineFacts)
+    → AllByRecursion P lines
+    → P new
+    → AllByRecursion P (slice_set lines place new)
+all_set P [] place new all it = all
+all_set P (x ∷ xs) zero new all it = (it, all.1)
+all_set P (x ∷ xs) (suc place) new all it = (all.0, all_set P xs place new all.1 it)
 
-pub answered_is : (lines : List LineFacts) (place : ℕ) (line : LineFacts) (open_qty refused cancelled answer : ℕ)
-    → Rises facts_cmp lines
-    → slice_get lines place ≡ Some line
-    → slice_set lines place (record line { row = answered_row line.row open_qty refused cancelled answer })
-    ≡ with_row (answered_row line.row open_qty refused cancelled answer) lines
-answered_is lines place line open_qty refused cancelled answer rise at =
-    let row = line.row in
-    let key : same_line (answered_row row open_qty refused cancelled answer) row ≡ true =
-    ap₂ (λ a b. a && (b && (row.line == row.line))) (same_if row.supplier row.supplier refl)
-    (same_if row.number row.number refl)
-    ∙ eq-eqb row.line row.line refl in
-    set_is lines place line (answered_row row open_qty refused cancelled answer) rise at key
+-- A line that a search finds by its order number and its line number, and a row with its key.
+module _ (lines : List LineFacts) (row : LineRow) (place : ℕ) (line : LineFacts)
+    (within : place < length lines) (at : line ≡ get_or lines place line)
+    (found : find (λ (line : LineFacts). line.row.line == row.line) (facts_of lines row.number) ≡ slice_get lines place) where
+  at_it : slice_get lines place ≡ Some line
+  at_it = slice_get-get_or lines place line within ∙ ap Some (sym at)
+
+  both : (same line.row.number row.number ≡ true) × ((line.row.line == row.line) ≡ true)
+  both =
+      all_found (λ line. same line.row.number row.number ≡ true) (λ line. line.row.line == row.line) (facts_of lines row.number) line
+      (recursion_from_All (λ line. same line.row.number row.number ≡ true) (facts_of lines row.number)
+      (filter_passes (λ line. same line.row.number row.number) lines)) (found ∙ at_it)
+
+  number_is : line.row.number ≡ row.number
+  number_is = same_is line.row.number row.number both.0
+
+  line_is : line.row.line ≡ row.line
+  line_is = grind (arith, nat_tests, both.1)
+
+  -- another row of the key in its place
+  module _ (supplier_is : line.row.supplier ≡ row.supplier) (gtin_is : line.row.gtin ≡ row.gtin)
+      (ordered open_qty refused cancelled answer despatched : ℕ)
+      (same_ordered : ordered ≡ row.ordered) (same_open : open_qty ≡ row.open_qty) (same_refused : refused ≡ row.refused)
+      (same_cancelled : cancelled ≡ row.cancelled) (same_answer : answer ≡ row.answer) where
+    abbrev pub new : LineFacts
+    new = record {
+      row = record {
+        supplier = line.row.supplier;
+        number = line.row.number;
+        line = line.row.line;
+        gtin = line.row.gtin;
+        ordered = ordered;
+        open_qty = open_qty;
+        refused = refused;
+        cancelled = cancelled;
+        answer = answer;
+      };
+      despatched = despatched;
+    }
+
+    row_is : new.row ≡ row
+    row_is i = record {
+      supplier = supplier_is i;
+      number = number_is i;
+      line = line_is i;
+      gtin = gtin_is i;
+      ordered = same_ordered i;
+      open_qty = same_open i;
+      refused = same_refused i;
+      cancelled = same_cancelled i;
+      answer = same_answer i;
+    }
+
+    alike : same_line row line.row ≡ true
+    alike =
+        ap₂ (λ a b. a && (b && (line.row.line == row.line))) (same_if line.row.supplier row.supplier supplier_is) both.0 ∙ both.1
+
+    pub rows_set : Rises facts_cmp lines → rows (slice_set lines place new) ≡ replace (same_line row) row (rows lines)
+    rows_set rise = set_is lines place line new row rise at_it alike row_is
+
+    pub keys_stay : keys_of (slice_set lines place new) ≡ keys_of lines
+    keys_stay = keys_kept lines place line new within at refl
+
+    pub known_still : row.ordered ≡ row.open_qty + row.refused + row.cancelled + despatched
+        → AreKnown lines
+        → AreKnown (slice_set lines place new)
+    known_still adds known = record {
+      rise = rise_kept lines (slice_set lines place new) (sym keys_stay) known.rise;
+      adds_up = all_set AddsUp lines place new known.adds_up
+          (subst (λ (one : LineRow). one.ordered ≡ one.open_qty + one.refused + one.cancelled + despatched) (sym row_is) adds);
+    }
+
+pub still_indexed : (xs ys : List LineFacts) (articles : Option (BTreeMap OrderArticle ArticleLines))
+    → keys_of ys ≡ keys_of xs
+    → IfSome articles (Indexed xs)
+    → IfSome articles (Indexed ys)
+still_indexed xs ys None same_keys old = tt
+still_indexed xs ys (Some articles) same_keys old = indexed_kept xs ys articles same_keys old

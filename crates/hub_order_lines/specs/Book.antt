@@ -1,5 +1,6 @@
--- The lines of the orders that a message names, while it is judged.
-use Rattle.std.specs.Prelude.{ℕ, ◌+◌, ◌≤◌, ◌==◌, List, map, filter, find, if◌then◌else◌, Option, Some, None}
+-- The orders that a message names, and their lines, while it is judged.
+use Rattle.std.specs.Prelude.{ℕ, ◌+◌, ◌≤◌, ◌==◌, Bool, false, List, [], map, filter, find, if◌then◌else◌, Option, Some, None, option_map}
+use Rattle.std.specs.Option.{unwrap_or}
 use Rattle.std.specs.declared.cmp.Ordering.{Ordering}
 use Rattle.std.specs.Ordering.{nat_cmp, ordering_then}
 use Rattle.hub_parties.specs.KeyOrder.{bytes_cmp}
@@ -29,13 +30,33 @@ abbrev pub facts_among : List LineFacts → Option ℕ → List ℕ → Option L
 facts_among lines (Some number) gtin = find (λ line. line.row.line == number) lines
 facts_among lines None gtin = the_only (filter (λ line. same line.row.gtin gtin) lines)
 
+-- orders that are known: of each its number, whether the supplier has it, and its lines
+abbrev pub Orders : Type 0
+Orders = List (List ℕ × (Bool × List LineFacts))
+
+-- what is known of an order
+abbrev pub order_in : Orders → List ℕ → Option (Bool × List LineFacts)
+order_in orders order = option_map (λ known. known.1) (find (λ known. same order known.0) orders)
+
+-- the supplier has it, as far as is known
+abbrev pub has_order : Orders → List ℕ → Bool
+has_order orders order = unwrap_or (option_map (λ known. known.0) (order_in orders order)) false
+
+-- the lines that are known of it
+abbrev pub lines_in : Orders → List ℕ → List LineFacts
+lines_in orders order = unwrap_or (option_map (λ known. known.1) (order_in orders order)) []
+
+-- each line of each order as the function makes it
+abbrev pub each_line : (LineFacts → LineFacts) → Orders → Orders
+each_line make orders = map (λ known. (known.0, (known.1.0, map make known.1.1))) orders
+
 -- a line, or the row that has its key in its place
 abbrev pub set_row : LineRow → LineFacts → LineFacts
 set_row row line = if same_line row line.row then record line { row = row } else line
 
--- the lines with a row in the place of the one that has its key
-abbrev pub with_row : LineRow → List LineFacts → List LineFacts
-with_row row lines = map (set_row row) lines
+-- the orders with a row in the place of the one that has its key
+abbrev pub with_row : LineRow → Orders → Orders
+with_row row orders = each_line (set_row row) orders
 
 -- a row with these quantities and this answer
 abbrev pub answered_row : LineRow → ℕ → ℕ → ℕ → ℕ → LineRow

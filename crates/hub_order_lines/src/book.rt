@@ -1,89 +1,113 @@
-//! The lines of the orders that a message names, while it is judged.
-ghost use Rattle.std.specs.Prelude.{◌≡◌, ◌<◌, length, slice_get, IfOk, Some, None};
-ghost use Rattle.std.specs.List.{AllByRecursion};
-ghost use Rattle.std.specs.Option.{IfSome, IfNone};
-ghost use Rattle.hub_tables.specs.Cases.{answer_letter};
-ghost use Rattle.hub_order_lines.specs.Book.{facts_of, facts_among, with_row, answered_row, IsCovered};
+//! The orders that a message names, while it is judged.
+ghost use Rattle.std.specs.Prelude.{◌≡◌, ◌+◌, ◌≤◌, IfOk, OnOk, Some, option_map};
+ghost use Rattle.std.specs.Option.{IfSome};
+ghost use Rattle.hub_order_lines.specs.Book.{answered_row, facts_among, has_order, lines_in, with_row, IsCovered};
 ghost use Rattle.hub_order_lines.specs.declared.facts.LineFacts.{LineFacts};
 
-use crate::by_article::{ArticleIndex, index_articles, place_by_article};
-use crate::by_number::place_by_number;
 use crate::facts::LineFacts;
-use crate::known_lines::KnownLines;
+use crate::known_orders::KnownOrders;
+use crate::lines::copied_row;
 use edi_base::MemoryFault;
 use gs1_ids::Gtin;
-use hub_tables::{Answered, Column};
+use hub_tables::{Column, LineRow};
 use std::alloc::Global;
+use std::collections::BTreeMap;
 use std::marker::Model;
 
-/// The lines of the orders that a message names, as the message has left them so far.
-#[derive(Debug, Drop)]
-pub struct Book {
-    lines: Vec<LineFacts>,
-    articles: ArticleIndex,
+/// The orders that a message names and their lines, as the message has left them so far. The orders themselves stay as they
+/// are.
+#[derive(Drop)]
+pub struct Book<'a> {
+    orders: &'a KnownOrders,
+    // the lines that were set, by order number and line number
+    changed: BTreeMap<(&'a [u8], u32), LineFacts>,
 }
 
-impl Model for Book {
-    ghost use Rattle.std.specs.Prelude.{List};
-    ghost use Rattle.hub_order_lines.specs.ArticleIndex.{Indexed};
+impl<'a> Model for Book<'a> {
+    ghost use Rattle.std.specs.Prelude.{ℕ, Bool, List};
+    ghost use Rattle.hub_order_lines.specs.Changed.{now_of, KeepKeys};
+    ghost use Rattle.hub_order_lines.specs.Book.{each_line};
     ghost use Rattle.hub_order_lines.specs.declared.facts.LineFacts.{LineFacts};
 
-    ghost Value = { List LineFacts };
+    ghost Value = { List (List ℕ × (Bool × List LineFacts)) };
 
-    ghost view = { λ book. book.lines.items };
+    ghost view = { λ book. each_line (now_of book.changed) book.orders.now };
 
-    ghost invariant = { λ book. Indexed book.lines.items book.articles };
+    ghost invariant = { λ book. KeepKeys book.changed book.orders.now };
 }
 
-impl Book {
-    /// The book of lines. Of each no more is open, refused and cancelled than is ordered.
-    pub fn new(alloc: Global, lines: KnownLines) -> Result<Book, MemoryFault>
-        ensures value { IfOk result (λ book. book ≡ lines) }
-        ensures covered { IfOk result (AllByRecursion IsCovered) }
-    {
-        let lines = lines.into_items().into_vec();
-        let articles = index_articles(alloc, lines.as_slice())?;
-        Ok(Book { lines, articles })
-    }
+// A copy of a row with the quantities and the answer of another.
+fn with_quantities(alloc: Global, row: &LineRow, other: &LineRow) -> Result<LineRow, MemoryFault>
+    ensures { IfOk result (λ copy. copy ≡ answered_row row.now other.now.open_qty other.now.refused
+        other.now.cancelled other.now.answer) }
+{
+    let mut copy = copied_row(alloc, row)?;
+    copy.open_qty = other.open_qty;
+    copy.refused = other.refused;
+    copy.cancelled = other.cancelled;
+    copy.answer = Column::of(other.answer.case());
+    Ok(copy)
+}
 
-    /// The place of the line of an order: of the number, or where none is given of the only one with the article.
-    pub fn place_of(&self, order: &[u8], line_number: Option<u32>, gtin: &Gtin) -> Option<usize>
-        ensures some { IfSome result (λ place. (place < length self.now)
-            × (facts_among (facts_of self.now order.now) line_number gtin.now ≡ slice_get self.now place)) }
-        ensures none { IfNone result (facts_among (facts_of self.now order.now) line_number gtin.now ≡ None) }
+impl<'a> Book<'a> {
+    /// The book of orders.
+    pub fn new(alloc: Global, orders: &'a KnownOrders) -> Book<'a>
+        ensures { result ≡ orders.now }
     {
-        match line_number {
-            Some(line_number) => place_by_number(self.lines.as_slice(), order, line_number),
-            None => place_by_article(self.lines.as_slice(), &self.articles, order, gtin),
+        Book {
+            orders,
+            changed: BTreeMap::new(alloc),
         }
     }
 
-    /// The line at a place.
-    pub fn line(&self, place: usize) -> &LineFacts
-        requires { place < length self.now }
-        ensures { slice_get self.now place ≡ Some result.now }
+    /// Whether the supplier has an order.
+    pub fn has(&self, order: &[u8]) -> bool
+        ensures { result ≡ has_order self.now order.now }
     {
-        &self.lines[place]
+        self.orders.has(order)
     }
 
-    /// Sets what is open and refused of the line at a place, what is cancelled, and how it is answered.
+    /// The line of an order: of the number, or where none is given the only one with the article. Of it no more is open,
+    /// refused and cancelled than is ordered.
+    pub fn line(&self, order: &[u8], number: Option<u32>, gtin: &Gtin) -> Option<&LineFacts>
+        ensures line { option_map (λ line. line.now) result
+            ≡ facts_among (lines_in self.now order.now) number gtin.now }
+        ensures covered { IfSome result (λ line. IsCovered line.now) }
+    {
+        let line = self.orders.line(order, number, gtin)?;
+        let key = (line.row.number.as_slice(), line.row.line);
+        match self.changed.get(&key) {
+            Some(changed) => Some(changed),
+            None => Some(line),
+        }
+    }
+
+    /// Sets what is open, refused and cancelled of a line of an order, and how it is answered, as a row has them. Where there is no
+    /// such line nothing is set.
     pub fn set(
         &mut self,
-        place: usize,
-        open_qty: u32,
-        refused: u32,
-        cancelled: u32,
-        answer: Answered,
-    )
-        requires { place < length self.old }
-        ensures { (line : LineFacts) → slice_get self.old place ≡ Some line →
-            self.new ≡ with_row (answered_row line.row open_qty refused cancelled
-            (answer_letter answer)) self.old }
+        alloc: Global,
+        order: &[u8],
+        number: Option<u32>,
+        gtin: &Gtin,
+        row: &LineRow,
+    ) -> Result<(), MemoryFault>
+        requires covered { (line : LineFacts) →
+            facts_among (lines_in self.old order.now) number gtin.now ≡ Some line →
+            row.now.open_qty + row.now.refused + row.now.cancelled ≤ line.row.ordered }
+        ensures set { (line : LineFacts) → facts_among (lines_in self.old order.now) number gtin.now ≡ Some line →
+            OnOk result (self.new ≡ with_row (answered_row line.row row.now.open_qty row.now.refused
+            row.now.cancelled row.now.answer) self.old) }
     {
-        let line = &mut self.lines[place];
-        line.row.open_qty = open_qty;
-        line.row.refused = refused;
-        line.row.cancelled = cancelled;
-        line.row.answer = Column::of(answer);
+        let Some(line) = self.orders.line(order, number, gtin) else {
+            return Ok(());
+        };
+        let key = (line.row.number.as_slice(), line.row.line);
+        let changed = LineFacts {
+            row: with_quantities(alloc, &line.row, row)?,
+            despatched: line.despatched,
+        };
+        self.changed.insert(key, changed)?;
+        Ok(())
     }
 }

@@ -1,5 +1,5 @@
 //! Lines by order number and article.
-ghost use Rattle.std.specs.Prelude.{◌≡◌, ◌<◌, None, filter, length, slice_get, IfOk};
+ghost use Rattle.std.specs.Prelude.{◌≡◌, ◌<◌, ◌&&◌, None, filter, length, slice_get, IfOk};
 ghost use Rattle.std.specs.BTreeMap.{get};
 ghost use Rattle.std.specs.Option.{IfSome, IfNone};
 ghost use Rattle.hub_tables.specs.Rows.{same};
@@ -91,4 +91,32 @@ pub(crate) fn place_by_article(
         Some(ArticleLines::One(place)) if is_of(&lines[place], order) => Some(place),
         _ => None,
     }
+}
+
+// Whether a line is of an order and has an article.
+fn is_of_article(line: &LineFacts, order: &[u8], gtin: &Gtin) -> bool
+    ensures { result ≡ (same line.now.row.number order.now && same line.now.row.gtin gtin.now) }
+{
+    is_of(line, order) && line.row.gtin == *gtin
+}
+
+/// The same without an index, by a walk over all lines.
+pub(crate) fn place_by_walk(lines: &[LineFacts], order: &[u8], gtin: &Gtin) -> Option<usize>
+    ensures some { IfSome result (λ place. (place < length lines.now)
+        × (the_only (filter (λ (line : LineFacts). same line.row.gtin gtin.now)
+        (facts_of lines.now order.now))
+        ≡ slice_get lines.now place)) }
+    ensures none { IfNone result (the_only (filter (λ (line : LineFacts).
+        same line.row.gtin gtin.now) (facts_of lines.now order.now)) ≡ None) }
+{
+    let mut found = None;
+    for (place, line) in lines.iter().enumerate() {
+        if is_of_article(line, order, gtin) {
+            if found.is_some() {
+                return None;
+            }
+            found = Some(place);
+        }
+    }
+    found
 }

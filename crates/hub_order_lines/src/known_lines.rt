@@ -1,15 +1,19 @@
 //! What is known of lines, from rows that pass.
-ghost use Rattle.std.specs.Prelude.{◌≡◌, ◌∷◌, ◌++◌, [], false, IfOk, OnOk};
+ghost use Rattle.std.specs.Prelude.{◌≡◌, ◌∷◌, ◌++◌, ◌+◌, [], false, IsTrue, IfOk, OnOk};
 ghost use Rattle.std.specs.List.{AllByRecursion, list_all};
 ghost use Rattle.std.specs.Option.{IfSome, IfNone};
 ghost use Rattle.hub_parties.specs.KeyOrder.{Rises};
+ghost use Rattle.hub_parties.specs.KeyOrder.{replace};
+ghost use Rattle.hub_tables.specs.Rows.{same_line};
 ghost use Rattle.hub_order_lines.specs.Book.{facts_cmp, rows, IsCovered};
+ghost use Rattle.hub_order_lines.specs.Key.{keys_of};
 ghost use Rattle.hub_order_lines.specs.KnownLines.{AddsUp, AreUnclean, is_covered};
 
+use crate::by_number::place_by_number;
 use crate::facts::LineFacts;
 use crate::rising::rise;
 use edi_base::{Items, MemoryFault};
-use hub_tables::LineRow;
+use hub_tables::{Column, LineRow};
 use std::alloc::Global;
 use std::marker::Model;
 
@@ -17,7 +21,7 @@ use std::marker::Model;
 /// together what is ordered. They are made only of rows that pass.
 #[derive(Debug, Drop)]
 pub struct KnownLines {
-    lines: Items<LineFacts>,
+    lines: Vec<LineFacts>,
 }
 
 impl Model for KnownLines {
@@ -27,22 +31,38 @@ impl Model for KnownLines {
 
     ghost Value = { List LineFacts };
 
-    ghost view = { λ known. known.lines };
+    ghost view = { λ known. known.lines.items };
 
-    ghost invariant = { λ known. AreKnown known.lines };
+    ghost invariant = { λ known. AreKnown known.lines.items };
+}
+
+// What of a line is despatched: what is neither open nor refused nor cancelled. None where more is than was ordered.
+#[tactic(auto, using(crate::proofs::Passing::uncovered))]
+fn despatched_of(row: &LineRow) -> Option<u32>
+    ensures adds_up { IfSome result (λ despatched.
+        row.now.ordered ≡ row.now.open_qty + row.now.refused + row.now.cancelled + despatched) }
+    ensures uncovered { IfNone result (is_covered row.now ≡ false) }
+{
+    let rest = row.ordered.checked_sub(row.open_qty)?;
+    let rest = rest.checked_sub(row.refused)?;
+    rest.checked_sub(row.cancelled)
 }
 
 // What is known of a line. Of a row of which more is open, refused and cancelled than is ordered nothing is.
-#[tactic(auto, using(crate::proofs::Passing::uncovered))]
 fn fact_of(row: LineRow) -> Option<LineFacts>
     ensures row { IfSome result (λ line. line.row ≡ row) }
     ensures adds_up { IfSome result AddsUp }
     ensures uncovered { IfNone result (is_covered row ≡ false) }
 {
-    let rest = row.ordered.checked_sub(row.open_qty)?;
-    let rest = rest.checked_sub(row.refused)?;
-    let despatched = rest.checked_sub(row.cancelled)?;
+    let despatched = despatched_of(&row)?;
     Some(LineFacts { row, despatched })
+}
+
+// Whether a row has the supplier and the article of a line.
+fn is_alike(line: &LineRow, row: &LineRow) -> bool
+    ensures alike { IsTrue result → (line.now.supplier ≡ row.now.supplier) × (line.now.gtin ≡ row.now.gtin) }
+{
+    line.supplier == row.supplier && line.gtin == row.gtin
 }
 
 // Puts a line after others.
@@ -79,7 +99,7 @@ impl KnownLines {
         ensures { result ≡ [] }
     {
         KnownLines {
-            lines: Items::new(alloc),
+            lines: Vec::new(alloc),
         }
     }
 
@@ -95,7 +115,9 @@ impl KnownLines {
             return Ok(None);
         }
         match facts_of_each(alloc, lines)? {
-            Some(lines) => Ok(Some(KnownLines { lines })),
+            Some(lines) => Ok(Some(KnownLines {
+                lines: lines.into_vec(),
+            })),
             None => Ok(None),
         }
     }
@@ -111,14 +133,30 @@ impl KnownLines {
         self.lines.as_slice()
     }
 
-    /// The lines as a list.
-    #[tactic(auto, using(crate::proofs::Passing::covered_if_adds))]
-    pub(crate) fn into_items(self) -> Items<LineFacts>
-        ensures value { result ≡ self }
-        ensures rise { Rises facts_cmp self }
-        ensures covered { AllByRecursion IsCovered self }
+    /// Sets the row in the place of the one that has its key. False, and nothing is set, where no line has the key, the article
+    /// is another, or the row does not pass.
+    pub(crate) fn set(&mut self, row: &LineRow) -> bool
+        ensures set { IsTrue result → rows self.new ≡ replace (same_line row.now) row.now (rows self.old) }
+        ensures not_set { result ≡ false → self.new ≡ self.old }
+        ensures keys { keys_of self.new ≡ keys_of self.old }
     {
-        let KnownLines { lines } = self;
-        lines
+        let number = row.number.as_slice();
+        let Some(place) = place_by_number(self.lines.as_slice(), number, row.line) else {
+            return false;
+        };
+        let Some(despatched) = despatched_of(row) else {
+            return false;
+        };
+        let line = &mut self.lines[place];
+        if !is_alike(&line.row, row) {
+            return false;
+        }
+        line.row.ordered = row.ordered;
+        line.row.open_qty = row.open_qty;
+        line.row.refused = row.refused;
+        line.row.cancelled = row.cancelled;
+        line.row.answer = Column::of(row.answer.case());
+        line.despatched = despatched;
+        true
     }
 }

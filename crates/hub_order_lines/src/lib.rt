@@ -7,13 +7,14 @@ mod by_article;
 mod by_number;
 mod facts;
 mod known_lines;
+mod known_orders;
 mod lines;
-mod order_numbers;
+mod order_lines;
 mod rising;
 
 pub use book::Book;
 pub use facts::LineFacts;
 pub use known_lines::KnownLines;
-pub use lines::{copied_row, is_known, line_numbered};
-pub use order_numbers::OrderNumbers;
+pub use known_orders::KnownOrders;
+pub use lines::copied_row;
 pub use rising::rise;

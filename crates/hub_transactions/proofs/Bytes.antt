@@ -85,7 +85,8 @@ byte_written b h = elim (is_usual b) as (λ v. Bytes (cond v (63 ∷ b ∷ []) (
 ]
 
 component_written : (component : List ℕ) → Bytes component → Bytes (component_text component)
-component_written component all = bytes_flat byte_text component (all_each (λ b. b < 256) (λ b. Bytes (byte_text b)) byte_written component all)
+component_written component all =
+    bytes_flat byte_text component (all_each (λ b. b < 256) (λ b. Bytes (byte_text b)) byte_written component all)
 
 components_written : (components : List (List ℕ)) → AllByRecursion Bytes components → Bytes (components_text components)
 components_written [] all = tt

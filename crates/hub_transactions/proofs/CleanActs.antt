@@ -1,5 +1,6 @@
 -- What the rules accept of clean rows can be made, and leaves clean rows.
-use Rattle.std.proofs.Common.{◌≡◌, ◌≢◌, inl, inr, ℕ, ◌==◌, Bool, true, false, cond, List, [], ◌∷◌, map, Option, Some, None, Result, Ok, Err, IfOk, OnOk, OnErr}
+use Rattle.std.proofs.Common.{◌≡◌, ◌≢◌, inl, inr, ℕ, ◌==◌, Bool, true, false, cond, List, [], ◌∷◌, map}
+use Rattle.std.proofs.Common.{Option, Some, None, Result, Ok, Err, IfOk, OnOk, OnErr}
 use Rattle.std.proofs.Common.{refl, sym, subst, ap, ◌∙◌}
 use Rattle.std.specs.List.{AllByRecursion, list_all}
 use Rattle.std.proofs.lemmas.Bool.{and_parts, true≢false}
@@ -52,7 +53,8 @@ use Rattle.hub_transactions.specs.declared.judged.Judged.{Judged}
 use Rattle.hub_transactions.proofs.Bytes.{cancel_bytes}
 use Rattle.hub_transactions.proofs.CleanJudges.{cleans_order, cleans_response, cleans_despatch, cleans_receipt, cleans_cancel}
 use Rattle.hub_transactions.proofs.CleanVerdicts.{cleaned, cleaned_join, cleaned_taken}
-use Rattle.hub_transactions.proofs.Placing.{order_there, response_there, despatch_there, receipt_there, cancel_there, joins_there, taking_there}
+use Rattle.hub_transactions.proofs.Placing.{order_there, response_there, despatch_there, receipt_there, cancel_there}
+use Rattle.hub_transactions.proofs.Placing.{joins_there, taking_there}
 use Rattle.hub_transactions.proofs.ReadWithin.{order_within, despatch_within, receipt_within}
 
 -- Faults.

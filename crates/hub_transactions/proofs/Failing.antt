@@ -80,3 +80,33 @@ after_judging plain cause other old middle new deliver judged (Err fault) first 
       after = breaks_by cause old new fault then.after;
       only_memory = λ p. ((then.only_memory p).0, elim (then.only_memory p).1 [ inl e ↦ inl e | inr e ↦ absurd e.1 ]);
     }
+
+-- a fault that is told with another cause
+breaks_with : (cause other : Type 0) (old new : Option LastingFault) (fault : StoreFault)
+    → (cause → other)
+    → BreaksBy cause old new fault
+    → BreaksBy other old new fault
+breaks_with cause other old new Memory weaker after = after
+breaks_with cause other old new Disk weaker after = after
+breaks_with cause other old new Unclean weaker after = elim after [ inl e ↦ inl e | inr e ↦ inr (e.0, weaker e.1) ]
+breaks_with cause other old new Version weaker after = absurd after
+
+pub fails_with : {X Y : Type 0} (plain : Bool) (cause other : Type 0) (may : X → Type 0) (may_also : Y → Type 0)
+    (before old new : Option LastingFault) (fault : StoreFault) (result : Result Y StoreFault)
+    → before ≡ old
+    → result ≡ Err fault
+    → (cause → other)
+    → FailsWith plain cause may before new (Err fault)
+    → FailsWith plain other may_also old new result
+fails_with plain cause other may may_also before old new fault result same is weaker earlier =
+    let fails = subst (λ o. FailsWith plain cause may o new (Err fault)) same earlier in
+    subst (λ r. FailsWith plain other may_also old new r) (sym is) (record {
+      again = again old fails.again;
+      after = breaks_with cause other old new fault weaker fails.after;
+      only_memory = λ p. ((fails.only_memory p).0, elim (fails.only_memory p).1 [ inl e ↦ inl e | inr e ↦ inr (e.0, weaker e.1) ]);
+    })
+  where
+    again : (o : Option LastingFault)
+        → IfSome o (λ broken. (fault ≡ Memory) ⊎ (fault ≡ fault_of broken))
+        → IfSome o (λ broken. (fault ≡ Memory) ⊎ (fault ≡ fault_of broken))
+    again o h = h

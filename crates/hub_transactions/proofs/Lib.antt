@@ -18,3 +18,4 @@ pub mod Reading
 pub mod Reports
 pub mod SoundLines
 pub mod SoundPallets
+pub mod Moved

@@ -305,7 +305,8 @@ places_received replaces unit state changes h =
     let row = record pallet { received = arrival_number (arrival_by replaces) } in
     let later = map (new_receipt unit.sscc unit.lines) (gtins unit.lines) in
     accepted (SetPallet row ∷ cleared replaces unit.sscc ++ later) changes state a.1
-    (and_from _ _ there (cleared_there replaces unit.sscc later (apply (SetPallet row) state) (new_receipts unit.sscc unit (gtins unit.lines))))
+    (and_from _ _ there
+    (cleared_there replaces unit.sscc later (apply (SetPallet row) state) (new_receipts unit.sscc unit (gtins unit.lines))))
 
 places_new_receipt : (supplier : List ℕ) (incoming : IncomingMessage) (body : List ℕ) (receipt : Receipt)
     → Places (judge_new_receipt supplier incoming body receipt)

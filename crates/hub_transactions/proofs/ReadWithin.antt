@@ -25,7 +25,8 @@ use Rattle.edi_messages.specs.Header.{begins_as, document_number}
 use Rattle.edi_messages.specs.Lines.{line, number, number_or_zero, gtin, is_sub_line, is_line as is_lin_line, is_piece}
 use Rattle.edi_messages.specs.Lines.{from_least, amount, quantity_of}
 use Rattle.edi_messages.specs.Parts.{is_lin, is_cps, up_to_next, parts_of, ends_part, line_groups, only_qualified}
-use Rattle.edi_messages.specs.Values.{is_document_number, is_line_number, line_number, whole_part, is_quantity as is_quantity_text, quantity}
+use Rattle.edi_messages.specs.Values.{is_document_number, is_line_number, line_number, whole_part, quantity}
+use Rattle.edi_messages.specs.Values.{is_quantity as is_quantity_text}
 use Rattle.edi_messages.specs.declared.fault.MessageFault.TheVariants as fault
 use Rattle.edi_messages.proofs.Valid.{content_is, no_fault_holds}
 use Rattle.edi_orders.specs.Order as orders
@@ -317,7 +318,8 @@ receipt_units_within (part ∷ parts) right lines quantities =
     let one = and_parts (is_unit part) (list_all is_unit parts) right in
     let items = and_parts (has_lines part) (list_all has_lines parts) lines in
     let many = and_parts (receipts.has_quantities part) (list_all receipts.has_quantities parts) quantities in
-    let sums = (and_parts (list_all receipts.is_received (line_groups part)) (receipts.has_sums (receipts.lines_in_unit part)) many.0).1 in (
+    let sums =
+    (and_parts (list_all receipts.is_received (line_groups part)) (receipts.has_sums (receipts.lines_in_unit part)) many.0).1 in (
       record {
         sscc = unit_is part one.0;
         lines = sums_are_within (receipts.lines_in_unit part) (receipt_items (line_groups part) items.0) sums;

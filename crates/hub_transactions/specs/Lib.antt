@@ -6,3 +6,4 @@ pub mod Messages
 pub mod Named
 pub mod StaysClean
 pub mod Status
+pub mod Orders

@@ -1,6 +1,5 @@
 -- The orders that a message names, where nothing can be known of their lines.
-use Rattle.std.specs.Prelude.{◌≡◌, ◌⊎◌, ℕ, List, Ok}
-use Rattle.std.specs.List.{flat_map}
+use Rattle.std.specs.Prelude.{◌≡◌, ◌⊎◌, ℕ, true, List, Ok}
 use Rattle.std.specs.Borrow.{Bor}
 use Rattle.std.specs.declared.cmp.Ordering.{Ordering}
 use Rattle.edi_base.specs.Seen.{is_among}
@@ -10,7 +9,7 @@ use Rattle.edi_orders.specs.declared.response.Response.{Response}
 use Rattle.edi_goods.specs.Despatch.{despatch_of}
 use Rattle.edi_goods.specs.declared.despatch.Despatch.{Despatch}
 use Rattle.edi_goods.specs.declared.despatch.Unit.{Unit}
-use Rattle.hub_parties.specs.KeyOrder.{bytes_cmp, Rises}
+use Rattle.hub_parties.specs.KeyOrder.{bytes_cmp}
 use Rattle.hub_tables.specs.State.{lines_of}
 use Rattle.hub_tables.specs.Tables.{Tables}
 use Rattle.hub_order_lines.specs.KnownLines.{AreUnclean}
@@ -20,12 +19,17 @@ use Rattle.hub_judges.specs.Known.{names_order}
 abbrev pub by_number : Bor (List ℕ) → Bor (List ℕ) → Ordering
 by_number a b = bytes_cmp a.now b.now
 
--- of the lines of the orders that units name, each order once and in the order of their numbers, nothing can be known
+-- of the lines of one of these orders nothing can be known
+pub record SomeUnclean (numbers : List (List ℕ)) (state : Tables) : Type 0 where
+  pub order : List ℕ
+  pub among : is_among order numbers ≡ true
+  pub lines : AreUnclean (lines_of state order)
+
+-- of the lines of an order that units name nothing can be known
 pub record NamedUnclean (units : List Unit) (state : Tables) : Type 0 where
-  pub orders : List (List ℕ)
-  pub named : (order : List ℕ) → is_among order orders ≡ names_order units order
-  pub rise : Rises bytes_cmp orders
-  pub lines : AreUnclean (flat_map (lines_of state) orders)
+  pub order : List ℕ
+  pub named : names_order units order ≡ true
+  pub lines : AreUnclean (lines_of state order)
 
 -- a message is an ORDRSP, and of the lines of its order nothing can be known
 pub record ResponseUnclean (message : RawMessage) (state : Tables) : Type 0 where

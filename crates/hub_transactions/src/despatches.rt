@@ -1,79 +1,72 @@
 //! What is known of a supplier's rows when a despatch advice is judged.
-ghost use Rattle.std.specs.Prelude.{◌≡◌, ◌≢◌, true, None, Err, ◌∷◌, ◌++◌, [], map, filter, if◌then◌else◌, IfOk, OnOk};
-ghost use Rattle.std.specs.List.{flat_map};
-ghost use Rattle.hub_tables.specs.State.{knows_order, lines_of};
+ghost use Rattle.std.specs.Prelude.{◌≡◌, ◌≢◌, ℕ, true, None, Err, List, ◌∷◌, ◌++◌, [], map, IfOk, OnOk};
+ghost use Rattle.edi_base.specs.Seen.{is_among};
 ghost use Rattle.hub_tables.specs.Tables.{view, has_pallet};
 ghost use Rattle.hub_store.specs.Clean.{are_clean};
 ghost use Rattle.hub_store.specs.declared.fault.StoreFault.TheVariants.{Unclean};
 ghost use Rattle.hub_rules.specs.Sound.{Kept};
 ghost use Rattle.hub_judges.specs.Known.{TellsForDespatch};
 ghost use Rattle.hub_transactions.specs.Acts.{FailsWith, NoCause, Stays, any_answer, no_answer};
-ghost use Rattle.hub_transactions.specs.Named.{NamedUnclean};
+ghost use Rattle.hub_order_lines.specs.KnownOrders.{is_kept};
+ghost use Rattle.hub_transactions.specs.Named.{NamedUnclean, SomeUnclean};
+ghost use Rattle.hub_transactions.specs.Orders.{KeepsOrders};
 
-use crate::knowing::lines_of_rows;
+use crate::knowing::{keep_order, known_before};
 use crate::naming::orders_named;
-use edi_base::{Items, MemoryFault, copied};
+use edi_base::{Items, MemoryFault};
 use edi_goods::{Despatch, Unit};
 use gs1_ids::Gln;
 use hub_judges::{IncomingMessage, Known};
+use hub_order_lines::KnownOrders;
 use hub_store::{Store, StoreFault};
-use hub_tables::{LineRow, Side};
+use hub_tables::Side;
 use std::alloc::Global;
 use std::collections::BTreeSet;
 
-// Puts the number of an order after others, where the order is there.
-fn put_if_there(
-    alloc: Global,
-    numbers: &mut Items<Items<u8>>,
-    number: &[u8],
-    is_there: bool,
-) -> Result<(), MemoryFault>
-    ensures { OnOk result (numbers.new ≡ numbers.old ++ (if is_there then number.now ∷ [] else [])) }
-{
-    if is_there {
-        numbers.push(copied(alloc, number)?)?;
-    }
-    Ok(())
-}
-
-// Puts rows after others.
-fn put_rows(rows: &mut Items<LineRow>, more: Items<LineRow>) -> Result<(), MemoryFault>
-    ensures { OnOk result (rows.new ≡ rows.old ++ more) }
-{
-    for row in more.into_vec() {
-        rows.push(row)?;
-    }
-    Ok(())
-}
-
-// Puts those of the orders that are there, and the lines of each, after others.
-fn put_known<S: Store>(
+// Looks up each of the orders, and puts them after others.
+fn keep_orders<S: Store>(
     alloc: Global,
     store: &mut S,
     supplier: &Gln,
     named: &BTreeSet<&[u8]>,
-    orders: &mut Items<Items<u8>>,
-    lines: &mut Items<LineRow>,
+    orders: &mut KnownOrders,
 ) -> Result<(), StoreFault>
-    ensures orders { S.honest store.new →
-        OnOk result (orders.new ≡ orders.old
-        ++ filter (knows_order (view supplier.now (S.content store.old)))
-        (map (λ number. number.now) named.now.keys)) }
-    ensures rows { S.honest store.new →
-        OnOk result (lines.new ≡ lines.old
-        ++ flat_map (lines_of (view supplier.now (S.content store.old)))
-        (map (λ number. number.now) named.now.keys)) }
+    ensures kept { S.honest store.new → KeepsOrders orders.old (view supplier.now (S.content store.old)) →
+        OnOk result (KeepsOrders orders.new (view supplier.now (S.content store.old))) }
+    ensures all { OnOk result ((order : List ℕ) →
+        is_among order (map (λ number. number.now) named.now.keys) ≡ true → is_kept orders.new order ≡ true) }
     ensures unclean { S.honest store.new → S.broken store.old ≡ None →
-        are_clean (S.content store.old) ≡ true → result ≢ Err Unclean }
-    ensures fails { FailsWith S.plain NoCause any_answer (S.broken store.old) (S.broken store.new) result }
+        are_clean (S.content store.old) ≡ true → result ≡ Err Unclean →
+        SomeUnclean (map (λ number. number.now) named.now.keys) (view supplier.now (S.content store.old)) }
+    ensures fails { FailsWith S.plain (S.honest store.new →
+        SomeUnclean (map (λ number. number.now) named.now.keys) (view supplier.now (S.content store.old)))
+        any_answer (S.broken store.old) (S.broken store.new) result }
     ensures stays { Stays S.content S.honest S.left store.old store.new }
 {
     for number in named {
-        let number = *number;
-        let is_there = store.order_known(supplier, number)?;
-        put_if_there(alloc, orders, number, is_there)?;
-        let rows = store.lines_of(supplier, number)?;
-        put_rows(lines, rows)?;
+        keep_order(alloc, store, supplier, number, orders)?;
+    }
+    Ok(())
+}
+
+// Makes it quick to find the lines of a unit that are named by their articles.
+fn index_unit(alloc: Global, unit: &Unit, orders: &mut KnownOrders) -> Result<(), MemoryFault>
+    ensures { orders.new ≡ orders.old }
+{
+    for line in unit.lines.as_slice() {
+        if line.order_line.is_none() {
+            orders.index(alloc, line.order.as_slice())?;
+        }
+    }
+    Ok(())
+}
+
+// The same of each unit.
+fn index_units(alloc: Global, units: &[Unit], orders: &mut KnownOrders) -> Result<(), MemoryFault>
+    ensures { orders.new ≡ orders.old }
+{
+    for unit in units {
+        index_unit(alloc, unit, orders)?;
     }
     Ok(())
 }
@@ -108,9 +101,9 @@ fn used_of<S: Store>(
     Ok(used)
 }
 
-/// What is known for a DESADV, by two look-ups, one for each unit and two for each order that it names. Where lines do
-/// not rise by order number and line number, or more of one is open, refused and cancelled than is ordered, it is
-/// unknown: `Unclean`.
+/// What is known for a DESADV, by two look-ups; and, where nothing is remembered and its number is not known, by one for each
+/// unit and two for each order that it names. Where the lines of an order do not rise by line number, or more of one is open,
+/// refused and cancelled than is ordered, it is unknown: `Unclean`.
 pub(crate) fn known_for_despatch<S: Store>(
     alloc: Global,
     store: &mut S,
@@ -136,16 +129,17 @@ pub(crate) fn known_for_despatch<S: Store>(
     let remembered = store.remembered(supplier, Side::Supplier, control, message)?;
     let number = despatch.number.as_slice();
     let number_known = store.advice_known(supplier, number)?;
+    if remembered.is_some() || number_known {
+        return Ok(known_before(alloc, remembered, number_known));
+    }
     let used = used_of(alloc, store, units)?;
     let named = orders_named(alloc, units)?;
-    let mut orders = Items::new(alloc);
-    let mut rows = Items::new(alloc);
-    put_known(alloc, store, supplier, &named, &mut orders, &mut rows)?;
-    let lines = lines_of_rows(alloc, rows)?;
+    let mut orders = KnownOrders::new(alloc);
+    keep_orders(alloc, store, supplier, &named, &mut orders)?;
+    index_units(alloc, units, &mut orders)?;
     Ok(Known {
         remembered,
         orders,
-        lines,
         number_known,
         mails: 0,
         used,

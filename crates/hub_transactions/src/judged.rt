@@ -129,7 +129,7 @@ fn judged_response<S: Store>(
     };
     let known = known_for_response(alloc, store, &supplier.gln, &incoming, &response)?;
     let retailer = register.retailer();
-    let verdict = judge_response(alloc, retailer, Some(supplier), known, incoming, &response)?;
+    let verdict = judge_response(alloc, retailer, Some(supplier), &known, incoming, &response)?;
     Ok(Judged::Read(verdict))
 }
 
@@ -160,7 +160,7 @@ fn judged_despatch<S: Store>(
     };
     let known = known_for_despatch(alloc, store, &supplier.gln, &incoming, &despatch)?;
     let retailer = register.retailer();
-    let verdict = judge_despatch(alloc, retailer, Some(supplier), known, incoming, &despatch)?;
+    let verdict = judge_despatch(alloc, retailer, Some(supplier), &known, incoming, &despatch)?;
     Ok(Judged::Read(verdict))
 }
 

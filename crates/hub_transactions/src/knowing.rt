@@ -1,24 +1,23 @@
 //! What is known of a supplier's rows when a message or a cancellation is judged.
-ghost use Rattle.std.specs.Prelude.{◌≡◌, ◌≢◌, ◌⊎◌, [], ◌∷◌, ◌++◌, map, true, None, Err, IfOk, IfErr, OnOk};
-ghost use Rattle.std.specs.List.{AllByRecursion};
-ghost use Rattle.edi_base.specs.Seen.{is_among};
+ghost use Rattle.std.specs.Prelude.{◌≡◌, ◌≢◌, ◌⊎◌, ℕ, List, [], ◌∷◌, ◌++◌, map, true, None, Err, IfOk, IfErr, OnOk};
 ghost use Rattle.hub_tables.specs.State.{lines_of, pallet_of};
 ghost use Rattle.hub_tables.specs.Tables.{view};
 ghost use Rattle.hub_store.specs.Clean.{are_clean};
 ghost use Rattle.hub_store.specs.declared.fault.StoreFault.TheVariants.{Memory, Unclean};
-ghost use Rattle.hub_order_lines.specs.Book.{rows};
-ghost use Rattle.hub_order_lines.specs.KnownLines.{AddsUp, AreUnclean};
+ghost use Rattle.hub_order_lines.specs.KnownLines.{AreUnclean};
+ghost use Rattle.hub_order_lines.specs.KnownOrders.{is_kept, AddsOrder};
 ghost use Rattle.hub_rules.specs.Sound.{Kept};
 ghost use Rattle.hub_judges.specs.Known.{TellsDespatched, TellsForCancel, TellsForOrder, TellsForReceipt, TellsForResponse, TellsLines};
 ghost use Rattle.hub_judges.specs.Known.{TellsOrder};
 ghost use Rattle.hub_transactions.specs.Acts.{FailsWith, NoCause, Stays, any_answer, no_answer};
+ghost use Rattle.hub_transactions.specs.Orders.{KeepsOrders};
 
-use edi_base::{Items, MemoryFault, copied};
+use edi_base::{Items, MemoryFault};
 use edi_goods::{Receipt, ReceiptUnit};
-use edi_orders::{Order, Response};
+use edi_orders::{Answer, Order, Response};
 use gs1_ids::Gln;
 use hub_judges::{Cancel, IncomingMessage, Known};
-use hub_order_lines::KnownLines;
+use hub_order_lines::KnownOrders;
 use hub_store::{Store, StoreFault};
 use hub_tables::{LineRow, PalletRow, Side};
 use std::alloc::Global;
@@ -48,8 +47,7 @@ pub(crate) fn known_for_order<S: Store>(
     let mails = store.last_mail(supplier)?;
     Ok(Known {
         remembered,
-        orders: Items::new(alloc),
-        lines: KnownLines::new(alloc),
+        orders: KnownOrders::new(alloc),
         number_known,
         mails,
         used: Items::new(alloc),
@@ -57,49 +55,39 @@ pub(crate) fn known_for_order<S: Store>(
     })
 }
 
-// The order alone, where it is there.
-fn order_if_there(
+// Puts what was looked up of an order after others. Where its lines do not pass it is unknown: `Unclean`.
+fn put_order(
     alloc: Global,
     order: &[u8],
     is_there: bool,
-) -> Result<Items<Items<u8>>, MemoryFault>
-    ensures { IfOk result (λ orders. is_there ≡ is_among order.now orders) }
-{
-    let mut orders = Items::new(alloc);
-    if is_there {
-        orders.push(copied(alloc, order)?)?;
-    }
-    Ok(orders)
-}
-
-/// The lines of which these are the rows. Where the rows do not pass there are none: `Unclean`.
-pub(crate) fn lines_of_rows(alloc: Global, given: Items<LineRow>) -> Result<KnownLines, StoreFault>
-    ensures rows { IfOk result (λ lines. rows lines ≡ given) }
-    ensures adds_up { IfOk result (AllByRecursion AddsUp) }
+    given: Items<LineRow>,
+    orders: &mut KnownOrders,
+) -> Result<(), StoreFault>
+    ensures put { OnOk result (AddsOrder order.now is_there given orders.old orders.new) }
     ensures unclean { result ≡ Err Unclean → AreUnclean given }
     ensures faults { IfErr result (λ fault. (fault ≡ Memory) ⊎ ((fault ≡ Unclean) × AreUnclean given)) }
 {
-    match KnownLines::of_rows(alloc, given)? {
-        Some(lines) => Ok(lines),
-        None => Err(StoreFault::Unclean),
+    if orders.put(alloc, order, is_there, given)? {
+        Ok(())
+    } else {
+        Err(StoreFault::Unclean)
     }
 }
 
-// What is known of an order and its lines, by two look-ups, beside what is remembered. Where lines do not rise by line
-// number, or more of one is open, refused and cancelled than is ordered, it is unknown: `Unclean`.
-fn known_of_order<S: Store>(
+/// Looks up an order and its lines, by two look-ups, and puts them after others. Where lines do not rise by line number, or
+/// more of one is open, refused and cancelled than is ordered, it is unknown: `Unclean`.
+pub(crate) fn keep_order<S: Store>(
     alloc: Global,
     store: &mut S,
     supplier: &Gln,
     order: &[u8],
-    remembered: Option<Items<u8>>,
-) -> Result<Known, StoreFault>
-    ensures told { S.honest store.new →
-        IfOk result (λ known. TellsOrder known (view supplier.now (S.content store.old)) order.now
-        × TellsLines (view supplier.now (S.content store.old)) known.lines order.now
-        × (Kept (view supplier.now (S.content store.old)) →
-        TellsDespatched (view supplier.now (S.content store.old)) known.lines)) }
-    ensures remembered { IfOk result (λ known. known.remembered ≡ remembered) }
+    orders: &mut KnownOrders,
+) -> Result<(), StoreFault>
+    ensures kept { S.honest store.new → KeepsOrders orders.old (view supplier.now (S.content store.old)) →
+        OnOk result (KeepsOrders orders.new (view supplier.now (S.content store.old))) }
+    ensures also { OnOk result (is_kept orders.new order.now ≡ true) }
+    ensures still { OnOk result ((other : List ℕ) →
+        is_kept orders.old other ≡ true → is_kept orders.new other ≡ true) }
     ensures unclean { S.honest store.new → S.broken store.old ≡ None →
         are_clean (S.content store.old) ≡ true →
         result ≡ Err Unclean → AreUnclean (lines_of (view supplier.now (S.content store.old)) order.now) }
@@ -110,12 +98,36 @@ fn known_of_order<S: Store>(
 {
     let is_there = store.order_known(supplier, order)?;
     let rows = store.lines_of(supplier, order)?;
-    let orders = order_if_there(alloc, order, is_there)?;
-    let lines = lines_of_rows(alloc, rows)?;
+    put_order(alloc, order, is_there, rows, orders)
+}
+
+// What is known of an order and its lines beside what is remembered; `Unclean` as `keep_order` says.
+fn known_of_order<S: Store>(
+    alloc: Global,
+    store: &mut S,
+    supplier: &Gln,
+    order: &[u8],
+    remembered: Option<Items<u8>>,
+) -> Result<Known, StoreFault>
+    ensures told { S.honest store.new →
+        IfOk result (λ known. TellsOrder known (view supplier.now (S.content store.old)) order.now
+        × TellsLines (view supplier.now (S.content store.old)) known.orders order.now
+        × (Kept (view supplier.now (S.content store.old)) →
+        TellsDespatched (view supplier.now (S.content store.old)) known.orders order.now)) }
+    ensures remembered { IfOk result (λ known. known.remembered ≡ remembered) }
+    ensures unclean { S.honest store.new → S.broken store.old ≡ None →
+        are_clean (S.content store.old) ≡ true →
+        result ≡ Err Unclean → AreUnclean (lines_of (view supplier.now (S.content store.old)) order.now) }
+    ensures fails { FailsWith S.plain (S.honest store.new →
+        AreUnclean (lines_of (view supplier.now (S.content store.old)) order.now))
+        no_answer (S.broken store.old) (S.broken store.new) result }
+    ensures stays { Stays S.content S.honest S.left store.old store.new }
+{
+    let mut orders = KnownOrders::new(alloc);
+    keep_order(alloc, store, supplier, order, &mut orders)?;
     Ok(Known {
         remembered,
         orders,
-        lines,
         number_known: false,
         mails: 0,
         used: Items::new(alloc),
@@ -123,8 +135,35 @@ fn known_of_order<S: Store>(
     })
 }
 
-/// What is known for an ORDRSP, by three look-ups. `Unclean` where the order's lines do not rise by line number, or more
-/// of one is open, refused and cancelled than is ordered.
+/// What is known of a message on which what is remembered, or that its number is known, decides.
+pub(crate) fn known_before(
+    alloc: Global,
+    remembered: Option<Items<u8>>,
+    number_known: bool,
+) -> Known
+    ensures remembered { result.remembered ≡ remembered }
+    ensures number { result.number_known ≡ number_known }
+{
+    Known {
+        remembered,
+        orders: KnownOrders::new(alloc),
+        number_known,
+        mails: 0,
+        used: Items::new(alloc),
+        pallets: Items::new(alloc),
+    }
+}
+
+// Whether a line is answered by its article alone.
+fn names_an_article(answer: &Answer) -> bool {
+    match answer {
+        Answer::AllAccepted | Answer::AllRefused => false,
+        Answer::Lines(said) => said.as_slice().iter().any(|line| line.order_line.is_none()),
+    }
+}
+
+/// What is known for an ORDRSP, by one look-up, and two more where nothing is remembered. `Unclean` where the order's lines do
+/// not rise by line number, or more of one is open, refused and cancelled than is ordered.
 pub(crate) fn known_for_response<S: Store>(
     alloc: Global,
     store: &mut S,
@@ -148,7 +187,13 @@ pub(crate) fn known_for_response<S: Store>(
     let control = incoming.control.as_slice();
     let message = incoming.message.as_slice();
     let remembered = store.remembered(supplier, Side::Supplier, control, message)?;
-    let known = known_of_order(alloc, store, supplier, order, remembered)?;
+    if remembered.is_some() {
+        return Ok(known_before(alloc, remembered, false));
+    }
+    let mut known = known_of_order(alloc, store, supplier, order, remembered)?;
+    if names_an_article(&response.answer) {
+        known.orders.index(alloc, order)?;
+    }
     Ok(known)
 }
 
@@ -238,8 +283,7 @@ pub(crate) fn known_for_receipt<S: Store>(
     let pallets = pallets_of(alloc, store, supplier, units)?;
     Ok(Known {
         remembered,
-        orders: Items::new(alloc),
-        lines: KnownLines::new(alloc),
+        orders: KnownOrders::new(alloc),
         number_known: false,
         mails,
         used: Items::new(alloc),

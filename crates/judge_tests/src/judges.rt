@@ -84,23 +84,6 @@ const WAITING: Line = ("128576", 1, [48, 36, 0, 0], Answered::Waiting);
 
 const BEHIND: Line = ("128577", 1, [48, 36, 0, 0], Answered::Waiting);
 
-fn push_orders(
-    orders: &mut Items<Items<u8>>,
-    alloc: Global,
-    lines: [Line; 3],
-) -> Result<(), MemoryFault> {
-    for (order, _, _, _) in lines {
-        orders.push(copied(alloc, order.as_bytes())?)?;
-    }
-    Ok(())
-}
-
-fn orders_of(alloc: Global, lines: [Line; 3]) -> Result<Items<Items<u8>>, MemoryFault> {
-    let mut orders = Items::new(alloc);
-    push_orders(&mut orders, alloc, lines)?;
-    Ok(orders)
-}
-
 fn content_of(alloc: Global, remembered: Option<&str>) -> Result<Option<Items<u8>>, MemoryFault> {
     Ok(match remembered {
         Some(content) => Some(copied(alloc, content.as_bytes())?),
@@ -108,12 +91,11 @@ fn content_of(alloc: Global, remembered: Option<&str>) -> Result<Option<Items<u8
     })
 }
 
-// What is known: these lines and their orders, and what is remembered.
+// What is known: the orders of these lines, and what is remembered.
 fn known(alloc: Global, lines: [Line; 3], remembered: Option<&str>) -> Result<Known, Fail> {
     Ok(Known {
         remembered: content_of(alloc, remembered)?,
-        orders: orders_of(alloc, lines)?,
-        lines: rising(alloc, lines)?,
+        orders: rising(alloc, lines)?,
         number_known: false,
         mails: 0,
         used: Items::new(alloc),

@@ -1,53 +1,101 @@
-use crate::rising::{ITEM, Line, OTHER_ITEM, gtin, rising};
-use hub_order_lines::Book;
-use hub_tables::Answered;
+mod followed;
+mod looked_up;
+mod set;
+
+use crate::rising::{ITEM, Line, OTHER_ITEM, gtin, put, row_of, rows};
+use edi_base::Items;
+use hub_order_lines::{KnownOrders, LineFacts};
+use hub_tables::{Answered, Column, LineRow};
 use std::alloc::Global;
 use std::test::Fail;
 
-// Three lines of one item: the only one of order 128575, and two of order 128576.
-const LINES: [Line; 3] = [
-    ("128575", 1, [48, 30, 4, 2], Answered::Changed),
-    ("128576", 1, [48, 30, 4, 2], Answered::Changed),
-    ("128576", 2, [48, 30, 4, 2], Answered::Changed),
-];
+// Lines of one item: the only one of order 128575, and two of order 128576; and a line of another item there.
+const ONLY: Line = ("128575", 1, [48, 30, 4, 2], Answered::Changed);
 
-fn book(alloc: Global) -> Result<Book, Fail> {
-    let lines = rising(alloc, LINES)?;
-    Ok(Book::new(alloc, lines)?)
+const FIRST: Line = ("128576", 1, [48, 30, 4, 2], Answered::Changed);
+
+const SECOND: Line = ("128576", 2, [48, 29, 4, 2], Answered::Changed);
+
+const OTHERS: Line = ("128576", 5, [48, 36, 0, 0], Answered::Waiting);
+
+// What is asked of a line: how much is ordered, open, refused, cancelled and despatched, and its answer.
+type State = ([u32; 5], Answered);
+
+fn state(line: &LineFacts) -> State {
+    let (row, despatched) = (&line.row, line.despatched);
+    let quantities = [
+        row.ordered,
+        row.open_qty,
+        row.refused,
+        row.cancelled,
+        despatched,
+    ];
+    (quantities, row.answer.case())
 }
 
-type Place = (&'static [u8; 6], Option<u32>, &'static str, Option<usize>);
+// An order, a line's number or none, and an item.
+type Named = (&'static [u8; 6], Option<u32>, &'static str);
 
-// Whether the line that an order, a number and an item name stands there.
-fn is_found(book: &Book, named: &Place) -> Result<bool, Fail> {
-    let (order, number, item, place) = named;
-    let item = gtin(item)?;
-    Ok(book.place_of(order.as_slice(), *number, &item) == *place)
+fn rows_of_two_items(alloc: Global) -> Result<Items<LineRow>, Fail> {
+    let mut rows = rows(alloc, &[FIRST, SECOND])?;
+    rows.push(row_of(alloc, OTHERS, OTHER_ITEM)?)?;
+    Ok(rows)
 }
 
-// An order, a line's number or none, and an item; and the place of the line that they name.
-static PLACES: [Place; 9] = [
-    (b"128575", Some(1), ITEM, Some(0)),
-    (b"128576", Some(1), OTHER_ITEM, Some(1)),
-    (b"128576", Some(2), ITEM, Some(2)),
-    (b"128576", Some(3), ITEM, None),
-    (b"128577", Some(1), ITEM, None),
-    (b"128575", None, ITEM, Some(0)),
-    (b"128575", None, OTHER_ITEM, None),
-    (b"128576", None, ITEM, None),
-    (b"128577", None, ITEM, None),
-];
+// Puts an order with rows that have to pass.
+fn put_passing(
+    orders: &mut KnownOrders,
+    alloc: Global,
+    order: &str,
+    is_there: bool,
+    rows: Items<LineRow>,
+) -> Result<(), Fail> {
+    let is_put = put(orders, alloc, order, is_there, rows)?;
+    Ok(is_put.then_some(()).ok_or("rows that pass")?)
+}
 
-#[test]
-fn a_book_finds_its_lines(rt: HostRuntime) -> Result<(), Fail> {
-    let book = book(rt.alloc())?;
-    for named in &PLACES {
-        assert!(rt;
-            is_found(&book, named)?,
-            "line {:?} of {:?}",
-            named.1,
-            named.0
-        );
+fn put_two(orders: &mut KnownOrders, alloc: Global) -> Result<(), Fail> {
+    let (of_one, of_two) = (rows(alloc, &[ONLY])?, rows_of_two_items(alloc)?);
+    put_passing(orders, alloc, "128576", true, of_two)?;
+    put_passing(orders, alloc, "128575", true, of_one)
+}
+
+// Orders 128575 and 128576, and order 128574 that was looked up and is not there.
+fn two_orders(alloc: Global) -> Result<KnownOrders, Fail> {
+    let mut orders = KnownOrders::new(alloc);
+    put_two(&mut orders, alloc)?;
+    put_passing(&mut orders, alloc, "128574", false, Items::new(alloc))?;
+    Ok(orders)
+}
+
+fn index_each(orders: &mut KnownOrders, alloc: Global) -> Result<(), Fail> {
+    for order in [b"128574", b"128575", b"128576", b"128577"] {
+        orders.index(alloc, order.as_slice())?;
     }
     Ok(())
+}
+
+// The same, with an index by article or without one.
+fn two_indexed(alloc: Global, is_indexed: bool) -> Result<KnownOrders, Fail> {
+    let mut orders = two_orders(alloc)?;
+    if is_indexed {
+        index_each(&mut orders, alloc)?;
+    }
+    Ok(orders)
+}
+
+// Whether this is the line of an order with a number, or no line where none is wanted.
+fn is_line(line: Option<&LineFacts>, order: &[u8], want: Option<u32>) -> bool {
+    match line {
+        Some(line) => line.row.number.as_slice() == order && want == Some(line.row.line),
+        None => want.is_none(),
+    }
+}
+
+// Whether a line is known, and is so.
+fn is_so(line: Option<&LineFacts>, want: &State) -> bool {
+    match line {
+        Some(line) => state(line) == *want,
+        None => false,
+    }
 }

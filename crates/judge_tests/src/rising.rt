@@ -2,7 +2,7 @@
 
 use edi_base::{Items, MemoryFault, copied};
 use gs1_ids::{Gln, Gtin};
-use hub_order_lines::KnownLines;
+use hub_order_lines::KnownOrders;
 use hub_tables::{Answered, Column, LineRow};
 use std::alloc::Global;
 use std::test::Fail;
@@ -25,10 +25,10 @@ pub(crate) fn gtin(digits: &str) -> Result<Gtin, Fail> {
     Ok(Gtin::parse(digits.as_bytes()).ok_or("a GTIN")?)
 }
 
-/// The row of alpha's line.
-pub(crate) fn row(alloc: Global, line: Line) -> Result<LineRow, Fail> {
+/// The row of alpha's line of an item.
+pub(crate) fn row_of(alloc: Global, line: Line, item: &str) -> Result<LineRow, Fail> {
     let (order, number, [ordered, open_qty, refused, cancelled], answer) = line;
-    let (supplier, gtin) = (gln(ALPHA)?, gtin(ITEM)?);
+    let (supplier, gtin) = (gln(ALPHA)?, gtin(item)?);
     Ok(LineRow {
         supplier,
         number: copied(alloc, order.as_bytes())?,
@@ -42,21 +42,55 @@ pub(crate) fn row(alloc: Global, line: Line) -> Result<LineRow, Fail> {
     })
 }
 
-fn push_rows(rows: &mut Items<LineRow>, alloc: Global, lines: [Line; 3]) -> Result<(), Fail> {
+fn push_rows(rows: &mut Items<LineRow>, alloc: Global, lines: &[Line]) -> Result<(), Fail> {
     for line in lines {
-        rows.push(row(alloc, line)?)?;
+        rows.push(row_of(alloc, *line, ITEM)?)?;
     }
     Ok(())
 }
 
-// Alone, so that what the contract says burdens no other goal.
-fn known_of(alloc: Global, rows: Items<LineRow>) -> Result<Option<KnownLines>, MemoryFault> {
-    KnownLines::of_rows(alloc, rows)
-}
-
-/// Alpha's three lines of one item, of which the rows have to pass.
-pub(crate) fn rising(alloc: Global, lines: [Line; 3]) -> Result<KnownLines, Fail> {
+/// The rows of alpha's lines of one item.
+pub(crate) fn rows(alloc: Global, lines: &[Line]) -> Result<Items<LineRow>, Fail> {
     let mut rows = Items::new(alloc);
     push_rows(&mut rows, alloc, lines)?;
-    Ok(known_of(alloc, rows)?.ok_or("rows that pass")?)
+    Ok(rows)
+}
+
+/// Puts alone, so that what the contract says burdens no other goal.
+pub(crate) fn put(
+    orders: &mut KnownOrders,
+    alloc: Global,
+    order: &str,
+    is_there: bool,
+    rows: Items<LineRow>,
+) -> Result<bool, MemoryFault> {
+    orders.put(alloc, order.as_bytes(), is_there, rows)
+}
+
+// Puts an order that is there with all these lines, of which the rows have to pass.
+fn put_there(
+    orders: &mut KnownOrders,
+    alloc: Global,
+    order: &str,
+    lines: &[Line],
+) -> Result<(), Fail> {
+    let rows = rows(alloc, lines)?;
+    if !put(orders, alloc, order, true, rows)? {
+        return Err(Fail::from("rows that pass"));
+    }
+    Ok(())
+}
+
+fn put_each(orders: &mut KnownOrders, alloc: Global, lines: &[Line]) -> Result<(), Fail> {
+    for (order, _, _, _) in lines {
+        put_there(orders, alloc, order, lines)?;
+    }
+    Ok(())
+}
+
+/// The orders of alpha's three lines of one item. With each order the others' lines are put too, as they may be.
+pub(crate) fn rising(alloc: Global, lines: [Line; 3]) -> Result<KnownOrders, Fail> {
+    let mut orders = KnownOrders::new(alloc);
+    put_each(&mut orders, alloc, &lines)?;
+    Ok(orders)
 }

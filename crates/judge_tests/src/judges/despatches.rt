@@ -229,7 +229,7 @@ fn known_of(alloc: Global, case: &DespatchCase) -> Result<Known, Fail> {
 fn judged(
     alloc: Global,
     setting: Setting,
-    known: Known,
+    known: &Known,
     despatch: &Despatch,
 ) -> Result<Verdict, Fail> {
     let Setting {
@@ -245,7 +245,7 @@ fn verdict(alloc: Global, case: &DespatchCase) -> Result<Verdict, Fail> {
     let despatch = despatch(alloc, case)?;
     let known = known_of(alloc, case)?;
     let setting = usual_setting(alloc)?;
-    judged(alloc, setting, known, &despatch)
+    judged(alloc, setting, &known, &despatch)
 }
 
 #[test]

@@ -233,7 +233,7 @@ fn response(alloc: Global, case: &ResponseCase) -> Result<Response, Fail> {
 fn judged(
     alloc: Global,
     setting: Setting,
-    known: Known,
+    known: &Known,
     response: &Response,
 ) -> Result<Verdict, Fail> {
     let Setting {
@@ -249,7 +249,7 @@ fn verdict(alloc: Global, case: &ResponseCase) -> Result<Verdict, Fail> {
     let response = response(alloc, case)?;
     let setting = usual_setting(alloc)?;
     let known = known(alloc, *case.lines, None)?;
-    judged(alloc, setting, known, &response)
+    judged(alloc, setting, &known, &response)
 }
 
 // The table, so that its rows do not stand in the proof of the test.

@@ -1,15 +1,10 @@
 use Rattle.std.proofs.Common.{◌≡◌, drop}
-use Rattle.std.specs.List.{AllByRecursion}
-use Rattle.hub_order_lines.specs.Book.{IsCovered}
 use Rattle.hub_rules.specs.Judging.{joined}
 use Rattle.hub_judges.specs.FromFacts.{answers_from}
 use Rattle.hub_judges.proofs.answers.answer_lines.Given as goal
 
 -- the answers that are left, on what the earlier ones left
 abbrev pub invariant-loop-answer : goal.invariant-loop-answer
-invariant-loop-answer l = record {
-  verdict :
-      joined l.initial.changes (answers_from l.order l.said l.initial.book)
-      ≡ joined l.changes (answers_from l.order (drop l.answer-index l.said) l.book);
-  covered : AllByRecursion IsCovered l.book;
-}
+invariant-loop-answer l =
+    joined l.initial.changes (answers_from l.order l.said l.initial.book)
+    ≡ joined l.changes (answers_from l.order (drop l.answer-index l.said) l.book)

@@ -12,10 +12,11 @@ pub returns : goal.returns
 returns c used state told =
     let incoming = c.args.incoming in
     let despatch = c.args.despatch.now in
-    let known = c.args.known in
+    let known = c.args.known.now in
     let s = c.in-Ok.row.now in
+    let units = told.units c.in_default.ensures.new c.if-known.false in
     let judged = despatch_alike s used known despatch (apply_all (first_of s sides.Supplier incoming) state) told.number
-    told.used_told told.used_there told.orders told.lines in
+    told.used_there (record { used_told = units.used_told; orders = units.orders; lines = units.lines }) in
     let whole = judged_message c.args.retailer.now (option_copied c.args.supplier) sides.Supplier incoming despatch.buyer
     despatch.supplier (λ s. judge_new_despatch s used despatch) s state c.as_slice.result.now
     (despatch_from s despatch known) c.in-Ok.ensures.ok c.as_slice.ensures (λ fresh.

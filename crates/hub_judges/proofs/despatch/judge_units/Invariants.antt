@@ -9,6 +9,6 @@ use Rattle.hub_judges.proofs.despatch.judge_units.Given as goal
 -- the units that are left, on what the earlier ones left
 abbrev pub invariant-loop-unit : goal.invariant-loop-unit
 invariant-loop-unit l =
-    joined l.initial.changes (units_from l.row l.despatch.number l.orders no_sscc l.despatch.units l.used l.initial.book)
-    ≡ joined l.changes (units_from l.row l.despatch.number l.orders (λ sscc. is_among sscc l.seen)
+    joined l.initial.changes (units_from l.row l.despatch.number no_sscc l.despatch.units l.used l.initial.book)
+    ≡ joined l.changes (units_from l.row l.despatch.number (λ sscc. is_among sscc l.seen)
     (iter_rest (zip_first l.unit-iterator)) (iter_rest (zip_second l.unit-iterator)) l.book)

@@ -7,5 +7,5 @@ returns-in-AllAccepted c = search rules
 pub returns-in-AllRefused : goal.returns-in-AllRefused
 returns-in-AllRefused c = search rules
 
-pub returns-in_ok-book-in-Lines : goal.returns-in_ok-book-in-Lines
-returns-in_ok-book-in-Lines c = search rules
+pub returns-in-Lines : goal.returns-in-Lines
+returns-in-Lines c = search rules

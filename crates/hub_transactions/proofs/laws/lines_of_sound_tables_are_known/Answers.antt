@@ -1,12 +1,10 @@
 use Rattle.std.proofs.Common.{inl, inr, sym, ◌∙◌, arith}
-use Rattle.std.specs.List.{flat_map}
 use Rattle.std.proofs.lemmas.Bool.{true≢false}
 use Rattle.hub_tables.specs.Rows.{same}
-use Rattle.hub_tables.specs.State.{lines_of}
 use Rattle.hub_tables.specs.Tables.{view}
 use Rattle.hub_rules.proofs.Rising.{view_rises}
 use Rattle.hub_transactions.proofs.CleanRows.{clean_rows, clean_view}
-use Rattle.hub_transactions.proofs.SoundLines.{steps_if_rise, named_rise, named_covered}
+use Rattle.hub_transactions.proofs.SoundLines.{steps_if_rise}
 use Rattle.hub_transactions.proofs.SoundPallets.{all_named_of, pieces_fit}
 use Rattle.hub_transactions.proofs.laws.lines_of_sound_tables_are_known.Goals as goal
 
@@ -21,13 +19,7 @@ returns-clause-order c suppliers gln order t sound unclean =
 
 pub returns-clause-named : goal.returns-clause-named
 returns-clause-named c suppliers gln t units sound unclean =
-    let state = view gln t in
-    elim unclean.lines [
-      | inl e ↦ true≢false (sym (steps_if_rise (flat_map (lines_of state) unclean.orders)
-          (named_rise state unclean.orders (c.status_is_given_what_it_asks.ensures.rise suppliers gln t sound) unclean.rise)) ∙ e)
-      | inr e ↦ true≢false (sym (named_covered state unclean.orders
-          (λ test. c.judges_are_given_what_they_ask.ensures.rows_covered suppliers gln t test sound)) ∙ e)
-    ]
+    returns-clause-order c suppliers gln unclean.order t sound unclean.lines
 
 pub returns-clause-message : goal.returns-clause-message
 returns-clause-message c suppliers gln t message sound unclean =

@@ -4,7 +4,7 @@ use Rattle.std.proofs.lemmas.List.{drop_more}
 use Rattle.edi_base.specs.Seen.{is_among}
 use Rattle.edi_base.proofs.Twice.{is_among-insert, text_of, bytes_eq-sym}
 use Rattle.hub_tables.specs.Rows.{same}
-use Rattle.hub_order_lines.proofs.Moved.{or_moved}
+use Rattle.hub_transactions.proofs.Moved.{or_moved}
 use Rattle.hub_transactions.proofs.naming.put_orders.Goals as goal
 
 pub loop-line-preserved : goal.loop-line-preserved

@@ -1,26 +1,75 @@
-use Rattle.std.proofs.Common.{◌≡◌, ◌<◌, List, length, slice_get, Some, sym, ap, ap₂, subst, ◌∙◌}
-use Rattle.std.proofs.lemmas.Option.{same_Some, slice_get-get_or}
-use Rattle.hub_tables.specs.Cases.{answer_letter}
-use Rattle.hub_order_lines.specs.Book.{with_row, answered_row}
+use Rattle.std.proofs.Common.{◌≡◌, ◌+◌, ◌≤◌, None, Some, refl, sym, ap, ap₂, subst, ◌∙◌}
+use Rattle.std.specs.Option.{option_map}
+use Rattle.std.proofs.lemmas.Option.{same_Some}
+use Rattle.hub_order_lines.specs.Book.{facts_among, lines_in, with_row, answered_row}
+use Rattle.hub_order_lines.specs.Changed.{now_of, IsSetOf}
 use Rattle.hub_order_lines.specs.declared.facts.LineFacts.{LineFacts}
-use Rattle.hub_order_lines.proofs.SetLine.{answered_kept, answered_is}
+use Rattle.hub_order_lines.proofs.Setting.{now_found, now_ordered, becomes_set, is_set_of, keeps_after, keeps_same, set_is}
 use Rattle.hub_order_lines.proofs.book.Book.set.Goals as goal
+
+pub returns-in_default : goal.returns-in_default
+returns-in_default c = record {
+  set = λ line at.
+      let changed = c.self.inside.changed in
+      let none : facts_among (lines_in c.args.self.now c.args.order.now) c.args.number c.args.gtin.now ≡ None =
+      ap (λ book. facts_among (lines_in book c.args.order.now) c.args.number c.args.gtin.now) (sym c.self.view_is)
+      ∙ now_found c.self.inside.orders.now changed c.self.invariant c.args.order.now c.args.number c.args.gtin.now
+      ∙ ap (option_map (now_of changed))
+      (sym c.line.ensures.line ∙ ap (λ o. option_map (λ line. line.now) o) c.in_default.is) in
+      absurd (cc);
+}
 
 pub invariant_of-self : goal.invariant_of-self
 invariant_of-self c =
-    answered_kept c.self.inside.lines.items c.self.inside.articles c.args.place c.index_mut-line.result.now c.args.open_qty
-    c.args.refused c.args.cancelled c.of-line.result c.self.invariant
-    (subst (λ (lines : List LineFacts). c.args.place < length lines) (sym c.self.view_is) c.requires) c.index_mut-line.ensures.value
+    keeps_same c.self.inside.changed c.insert.new.self c.in_err-insert.ensures.err c.self.inside.orders.now c.self.invariant
+
+-- the line that is set, and what it is set to
+base_found : (c : goal.Joined-branch-3)
+    → facts_among (lines_in c.self.inside.orders.now c.args.order.now) c.args.number c.args.gtin.now ≡ Some c.in-Some.line.now
+base_found c = sym c.line.ensures.line ∙ ap (λ o. option_map (λ line. line.now) o) c.in-Some.is
+
+found_now : (c : goal.Joined-branch-3)
+    → facts_among (lines_in c.args.self.now c.args.order.now) c.args.number c.args.gtin.now
+    ≡ Some (now_of c.self.inside.changed c.in-Some.line.now)
+found_now c =
+    ap (λ book. facts_among (lines_in book c.args.order.now) c.args.number c.args.gtin.now) (sym c.self.view_is)
+    ∙ now_found c.self.inside.orders.now c.self.inside.changed c.self.invariant c.args.order.now c.args.number c.args.gtin.now
+    ∙ ap (option_map (now_of c.self.inside.changed)) (base_found c)
+
+abbrev set_to : goal.Joined-branch-3 → LineFacts
+set_to c = record { row = c.in_ok-with_quantities.field-0; despatched = c.in-Some.line.now.despatched }
+
+it_is : (c : goal.Joined-branch-3) → IsSetOf c.in-Some.line.now (set_to c)
+it_is c =
+    let base = c.in-Some.line.now in
+    let row = c.args.row.now in
+    is_set_of base (set_to c) row.open_qty row.refused row.cancelled row.answer c.in_ok-with_quantities.ensures refl
+    (subst (λ ordered. row.open_qty + row.refused + row.cancelled ≤ ordered)
+    (now_ordered c.self.inside.orders.now c.self.inside.changed c.self.invariant c.args.order.now c.args.number c.args.gtin.now base
+    (base_found c))
+    (c.requires.covered (now_of c.self.inside.changed base) (found_now c)))
+
+pub invariant_of-self-2 : goal.invariant_of-self-2
+invariant_of-self-2 c =
+    let base = c.in-Some.line.now in
+    let orders = c.self.inside.orders.now in
+    keeps_after orders c.args.order.now c.args.number c.args.gtin.now base c.line.ensures.once c.line.ensures.rise (base_found c)
+    c.self.inside.changed c.insert.new.self c.self.invariant (set_to c)
+    (becomes_set c.self.inside.changed c.insert.new.self c.as_slice.result base (set_to c) c.as_slice.ensures
+    c.in_ok-insert.ensures.updates.0) (it_is c)
 
 pub returns : goal.returns
-returns c = λ line at.
-    let lines = c.self.inside.lines.items in
-    let old = c.index_mut-line.result.now in
-    let within = subst (λ (xs : List LineFacts). c.args.place < length xs) (sym c.self.view_is) c.requires in
-    let here : slice_get lines c.args.place ≡ Some old =
-    slice_get-get_or lines c.args.place old within ∙ ap Some (sym c.index_mut-line.ensures.value) in
-    let it : old ≡ line = same_Some old line (sym here ∙ ap (λ xs. slice_get xs c.args.place) c.self.view_is ∙ at) in
-    answered_is lines c.args.place old c.args.open_qty c.args.refused c.args.cancelled c.of-line.result c.self.invariant.rise here
-    ∙ ap₂ (λ (one : LineFacts) letter.
-    with_row (answered_row one.row c.args.open_qty c.args.refused c.args.cancelled letter) lines) it c.of-line.ensures
-    ∙ ap (with_row (answered_row line.row c.args.open_qty c.args.refused c.args.cancelled (answer_letter c.args.answer))) c.self.view_is
+returns c = record {
+  set = λ line at.
+      let base = c.in-Some.line.now in
+      let row = c.args.row.now in
+      let orders = c.self.inside.orders.now in
+      let changed = c.self.inside.changed in
+      let it : now_of changed base ≡ line = same_Some (now_of changed base) line (sym (found_now c) ∙ at) in
+      set_is orders c.args.order.now c.args.number c.args.gtin.now base c.line.ensures.once c.line.ensures.rise (base_found c) changed
+      c.insert.new.self c.self.invariant (set_to c)
+      (becomes_set changed c.insert.new.self c.as_slice.result base (set_to c) c.as_slice.ensures c.in_ok-insert.ensures.updates.0)
+      row.open_qty row.refused row.cancelled row.answer c.in_ok-with_quantities.ensures refl
+      ∙ ap₂ (λ (one : LineFacts) book. with_row (answered_row one.row row.open_qty row.refused row.cancelled row.answer) book) it
+      c.self.view_is;
+}

@@ -1,0 +1,44 @@
+-- Orders that are kept from message to message.
+use Rattle.std.specs.Prelude.{◌≡◌, ℕ, Bool, true, false, List, [], ◌∷◌, is_some, Some}
+use Rattle.std.specs.List.{AllByRecursion}
+use Rattle.hub_parties.specs.KeyOrder.{replace}
+use Rattle.hub_tables.specs.Rows.{same, same_line}
+use Rattle.hub_tables.specs.declared.change.Change.{Change}
+use Rattle.hub_tables.specs.declared.change.Change.TheVariants.{SetLine}
+use Rattle.hub_tables.specs.declared.rows.LineRow.{LineRow}
+use Rattle.hub_order_lines.specs.Book.{Orders, facts_of, has_order, lines_in, order_in, rows}
+use Rattle.hub_order_lines.specs.KnownLines.{AddsUp}
+use Rattle.hub_order_lines.specs.declared.facts.LineFacts.{LineFacts}
+
+-- an order is kept
+abbrev pub is_kept : Orders → List ℕ → Bool
+is_kept orders order = is_some (order_in orders order)
+
+-- an order is known once, and its lines are its own
+pub record IsKnownOnce (orders : Orders) (known : List ℕ × (Bool × List LineFacts)) : Type 0 where
+  pub once : lines_in orders known.0 ≡ known.1.1
+  pub own : AllByRecursion (λ line. line.row.number ≡ known.0) known.1.1
+
+abbrev pub AreKnownOnce : Orders → Type 0
+AreKnownOnce orders = AllByRecursion (IsKnownOnce orders) orders
+
+-- one more order is known, by its rows, and of all others what was known
+pub record AddsOrder (number : List ℕ) (is_there : Bool) (given : List LineRow) (old new : Orders) : Type 0 where
+  pub facts : List LineFacts
+  pub rows_are : rows facts ≡ given
+  pub adds_up : AllByRecursion AddsUp facts
+  pub known : order_in new number ≡ Some (is_there, facts_of facts number)
+  pub others : (order : List ℕ) → same order number ≡ false → order_in new order ≡ order_in old order
+
+-- the rows of lines after changes of lines that are there
+abbrev pub rows_after : List Change → List LineRow → List LineRow
+rows_after [] given = given
+rows_after (SetLine row ∷ changes) given = rows_after changes (replace (same_line row) row given)
+rows_after (change ∷ changes) given = rows_after changes given
+
+-- each order that is still kept was, and its rows are those from before after the changes
+pub record Follows (changes : List Change) (old new : Orders) : Type 0 where
+  pub was : (order : List ℕ) → is_kept new order ≡ true → is_kept old order ≡ true
+  pub there : (order : List ℕ) → is_kept new order ≡ true → has_order new order ≡ has_order old order
+  pub lines : (order : List ℕ) → is_kept new order ≡ true
+      → rows (lines_in new order) ≡ rows_after changes (rows (lines_in old order))

@@ -1,0 +1,200 @@
+//! Orders as they are known, and kept while messages are judged.
+ghost use Rattle.std.specs.Prelude.{◌≡◌, ◌∷◌, [], false, Some, IsTrue, IfOk, option_map};
+ghost use Rattle.std.specs.List.{AllByRecursion};
+ghost use Rattle.std.specs.Option.{IfSome};
+ghost use Rattle.hub_parties.specs.KeyOrder.{Rises};
+ghost use Rattle.hub_tables.specs.declared.change.Change.TheVariants.{SetLine};
+ghost use Rattle.hub_order_lines.specs.Book.{facts_cmp, facts_of, facts_among, has_order, lines_in, IsCovered};
+ghost use Rattle.hub_order_lines.specs.KnownLines.{AreUnclean};
+ghost use Rattle.hub_order_lines.specs.KnownOrders.{is_kept, AddsOrder, AreKnownOnce, Follows};
+
+use crate::facts::LineFacts;
+use crate::known_lines::KnownLines;
+use crate::order_lines::OrderLines;
+use edi_base::{Items, MemoryFault};
+use gs1_ids::Gtin;
+use hub_tables::{Change, LineRow};
+use std::alloc::Global;
+use std::collections::BTreeMap;
+use std::marker::Model;
+
+// What is known of an order.
+#[derive(Debug, Drop)]
+struct KnownOrder {
+    is_there: bool,
+    lines: OrderLines,
+}
+
+/// Orders of one supplier that were looked up, each with all its lines. They can be kept from message to message.
+#[derive(Debug, Drop)]
+pub struct KnownOrders {
+    orders: BTreeMap<Vec<u8>, KnownOrder>,
+    // how many lines they have
+    size: usize,
+}
+
+impl Model for KnownOrders {
+    ghost use Rattle.std.specs.Prelude.{ℕ, Bool, List, map};
+    ghost use Rattle.std.specs.BTreeMap.{IsOrdered};
+    ghost use Rattle.hub_parties.specs.KeyOrder.{bytes_cmp};
+    ghost use Rattle.hub_order_lines.specs.Book.{facts_of};
+    ghost use Rattle.hub_order_lines.specs.declared.facts.LineFacts.{LineFacts};
+
+    ghost Value = { List (List ℕ × (Bool × List LineFacts)) };
+
+    ghost view = { λ known.
+        map (λ e. (e.0.items, (e.1.is_there, facts_of e.1.lines e.0.items))) known.orders.entries };
+
+    ghost invariant = { λ known. IsOrdered (λ a b. bytes_cmp a.items b.items) known.orders };
+}
+
+impl KnownOrders {
+    /// No orders. Takes no memory.
+    pub fn new(alloc: Global) -> KnownOrders
+        ensures { result ≡ [] }
+    {
+        KnownOrders {
+            orders: BTreeMap::new(alloc),
+            size: 0,
+        }
+    }
+
+    /// Whether an order was looked up.
+    pub fn is_kept(&self, order: &[u8]) -> bool
+        ensures { result ≡ is_kept self.now order.now }
+    {
+        self.orders.contains_key(order)
+    }
+
+    /// Whether the supplier has an order, as far as is known.
+    pub fn has(&self, order: &[u8]) -> bool
+        ensures { result ≡ has_order self.now order.now }
+    {
+        match self.orders.get(order) {
+            Some(known) => known.is_there,
+            None => false,
+        }
+    }
+
+    /// All lines of an order, and perhaps others.
+    pub fn lines(&self, order: &[u8]) -> &[LineFacts]
+        ensures lines { facts_of result.now order.now ≡ lines_in self.now order.now }
+        ensures covered { AllByRecursion IsCovered result.now }
+    {
+        match self.orders.get(order) {
+            Some(known) => known.lines.as_slice(),
+            None => &[],
+        }
+    }
+
+    /// The line of an order: of the number, or where none is given the only one with the article.
+    pub fn line(&self, order: &[u8], number: Option<u32>, gtin: &Gtin) -> Option<&LineFacts>
+        ensures line { option_map (λ line. line.now) result
+            ≡ facts_among (lines_in self.now order.now) number gtin.now }
+        ensures covered { IfSome result (λ line. IsCovered line.now) }
+        ensures rise { Rises facts_cmp (lines_in self.now order.now) }
+        ensures once { AreKnownOnce self.now }
+    {
+        let known = self.orders.get(order)?;
+        known.lines.line(order, number, gtin)
+    }
+
+    /// The line of an order with a number.
+    pub fn line_numbered(&self, order: &[u8], number: u32) -> Option<&LineFacts>
+        ensures line { option_map (λ line. line.now) result
+            ≡ facts_among (lines_in self.now order.now) (Some number) [] }
+        ensures covered { IfSome result (λ line. IsCovered line.now) }
+    {
+        let known = self.orders.get(order)?;
+        known.lines.line_numbered(order, number)
+    }
+
+    /// Makes it quick to find lines of an order by their articles.
+    pub fn index(&mut self, alloc: Global, order: &[u8]) -> Result<(), MemoryFault>
+        ensures { self.new ≡ self.old }
+    {
+        match self.orders.get_mut(order) {
+            Some(known) => known.lines.index(alloc),
+            None => Ok(()),
+        }
+    }
+
+    /// Puts what was looked up of an order after the others: whether the supplier has it, and the rows of its lines. False, and
+    /// nothing is put, where the rows do not rise by order number and line number, or more of one is open, refused and cancelled
+    /// than is ordered.
+    pub fn put(
+        &mut self,
+        alloc: Global,
+        order: &[u8],
+        is_there: bool,
+        given: Items<LineRow>,
+    ) -> Result<bool, MemoryFault>
+        ensures put { IfOk result (λ put. IsTrue put → AddsOrder order.now is_there given self.old self.new) }
+        ensures unclean { IfOk result (λ put. (put ≡ false) → AreUnclean given) }
+    {
+        let count = given.len();
+        let Some(lines) = KnownLines::of_rows(alloc, given)? else {
+            return Ok(false);
+        };
+        let key = Vec::from_slice(alloc, order)?;
+        let known = KnownOrder {
+            is_there,
+            lines: OrderLines::new(lines),
+        };
+        self.orders.insert(key, known)?;
+        self.size = self.size.saturating_add(count);
+        Ok(true)
+    }
+
+    /// Forgets all orders, where they have more lines than so many.
+    pub fn forget_past(&mut self, most: usize)
+        ensures { Follows [] self.old self.new }
+    {
+        if self.size > most {
+            self.forget();
+        }
+    }
+
+    // Forgets all orders.
+    fn forget(&mut self)
+        ensures { self.new ≡ [] }
+    {
+        self.orders.clear();
+        self.size = 0;
+    }
+
+    // Sets a row of a line of an order that is kept. False where it may not have been.
+    fn set(&mut self, row: &LineRow) -> bool
+        ensures { IsTrue result → Follows (SetLine row.now ∷ []) self.old self.new }
+    {
+        match self.orders.get_mut(row.number.as_slice()) {
+            Some(known) => known.lines.set(row),
+            None => true,
+        }
+    }
+
+    // Follows a change.
+    fn follow_one(&mut self, change: &Change)
+        ensures { Follows (change.now ∷ []) self.old self.new }
+    {
+        match change {
+            Change::SetLine(row) => {
+                if !self.set(row) {
+                    self.forget();
+                }
+            }
+            Change::AddOrder(_) | Change::AddLine(_) => self.forget(),
+            _ => {}
+        }
+    }
+
+    /// Follows changes that were made of the tables, so that what is kept is as it was looked up now. What cannot follow is
+    /// forgotten.
+    pub fn follow(&mut self, changes: &[Change])
+        ensures { Follows changes.now self.old self.new }
+    {
+        for change in changes {
+            self.follow_one(change);
+        }
+    }
+}
