@@ -2,7 +2,7 @@
 EXAMPLE = 5412345000006 4012345500004 1748942400 1
 PROVED = crates/edihub/out/edihub
 
-.PHONY: run day serve page page-test page-pictures try case test wrong split-commit hostile fuzz year crowd hubs bench
+.PHONY: run day serve page page-test page-pictures try case test wrong split-commit hostile fuzz year crowd worst hubs bench
 .PHONY: edihub trial_script tests_of_calls install uninstall clean
 
 # The main job, proved: the example's ORDERS interchange becomes the supplier's mailbox interchange. The program that does this
@@ -117,6 +117,12 @@ year: edihub
 # 1,000 suppliers at once, through HAProxy as examples/front has it; no part of the gate.
 crowd: edihub
 	python3 -m bench.crowd crates/edihub/out/edihub
+
+# The most expensive requests beside a typical upload, some 10 minutes; no part of the gate. LONG=--long sends the longest in full.
+LONG =
+
+worst: edihub
+	python3 -m bench.worst crates/edihub/out/edihub $(LONG)
 
 # One hub, and three behind HAProxy as examples/hubs has them, asked the same; no part of the gate.
 hubs: edihub

@@ -1,6 +1,7 @@
 """Connections of HTTP to `edihub serve`, and to a plain Rust server over the system's SQLite (server.rs): ratios of processor
-time a connection, for a mail item, a mail list, an upload of one order, a cancellation, and a status of ten lines and of 10,000. Then
-what it takes to begin, over a file with 1,000 suppliers and no order; and the memory of the server over many connections.
+time a connection, for a mail item, a mail list, an upload of one order, a cancellation, and a status of ten lines, of 10,000, and
+of 10,000 and 1,000 pallets. Then what it takes to begin, over a file with 1,000 suppliers and no order; and the memory of the
+server over many connections.
 
     python3 -m bench.server crates/trial_script/out/trial_script PLAIN EDIHUB"""
 import os
@@ -10,9 +11,10 @@ import sys
 import tempfile
 
 from bench.figures import Figures
+from bench.hub import despatch
 from bench.sql import base, close, copied, orders_text, run
 from tests.harness.http_texts import asking
-from tests.harness.hub_scripts import TWO_SUPPLIERS
+from tests.harness.hub_scripts import TWO_SUPPLIERS, Play, interchange
 from tests.harness.register_texts import ALPHA, RETAILER, crowd
 
 FEW, LINES, MANY = 10, 10_000, 100_000
@@ -28,17 +30,30 @@ def each_the_same(request, count):
     return [request] * count
 
 
-# each load, the order lines of its file, its requests, and its bounds
+def despatched(lines):
+    """The script of orders of ten lines each, and of a pallet with a line of each order."""
+    play = Play()
+    play.script = base(lines)
+    for k in range(lines // 10):
+        play.upload(ALPHA, interchange(ALPHA, f"S{k}", despatch(k, f"{k:08}", 1)))
+    return play.script
+
+
+# the scripts of the files
+FILES = {"few": lambda: base(FEW), "many": lambda: base(LINES), "despatched": lambda: despatched(LINES)}
+STATUS_OF_ALPHA = asking("GET", f"/p/{ALPHA}/status", ALPHA)
+# each load, its file, its requests, and its bounds
 LOADS = {
-    "a mail item": (LINES, each_the_same(asking("GET", f"/p/{ALPHA}/mail/item/7", ALPHA), 3_000), READS),
-    "a mail list of 100 entries": (LINES, each_the_same(asking("GET", f"/p/{ALPHA}/mail/after/0", ALPHA), 2_000), READS),
-    f"a status of {FEW} lines": (FEW, each_the_same(asking("GET", f"/p/{ALPHA}/status", ALPHA), 3_000), READS),
-    f"a status of {LINES:,} lines": (LINES, each_the_same(asking("GET", f"/p/{ALPHA}/status", ALPHA), 40), STATUS),
+    "a mail item": ("many", each_the_same(asking("GET", f"/p/{ALPHA}/mail/item/7", ALPHA), 3_000), READS),
+    "a mail list of 100 entries": ("many", each_the_same(asking("GET", f"/p/{ALPHA}/mail/after/0", ALPHA), 2_000), READS),
+    f"a status of {FEW} lines": ("few", each_the_same(STATUS_OF_ALPHA, 3_000), READS),
+    f"a status of {LINES:,} lines": ("many", each_the_same(STATUS_OF_ALPHA, 40), STATUS),
+    f"a status of {LINES:,} lines and {LINES // 10:,} pallets": ("despatched", each_the_same(STATUS_OF_ALPHA, 40), STATUS),
     "an upload of one order": (
-        LINES, [asking("POST", f"/p/{RETAILER}/interchanges", RETAILER, orders_text(1, 50_000 + k)) for k in range(999)], WRITES
+        "many", [asking("POST", f"/p/{RETAILER}/interchanges", RETAILER, orders_text(1, 50_000 + k)) for k in range(999)], WRITES
     ),
     "a cancellation": (
-        LINES, [asking("POST", f"/p/{RETAILER}/cancellations", RETAILER, f"{ALPHA}\nC{k}\n{k:08}\n1\n1\n") for k in range(999)], WRITES
+        "many", [asking("POST", f"/p/{RETAILER}/cancellations", RETAILER, f"{ALPHA}\nC{k}\n{k:08}\n1\n1\n") for k in range(999)], WRITES
     ),
 }
 NOTHING = asking("GET", f"/p/{ALPHA}/mail/item/999999", ALPHA)
@@ -102,10 +117,10 @@ def grows(words, folder, top):
     return found
 
 
-def file_of(script, lines, top):
-    """A hub's file with so many order lines, and its register."""
+def file_of(script, name, top):
+    """A hub's file, and its register."""
     folder = tempfile.mkdtemp(dir=top)
-    run(script, base(lines), folder)
+    run(script, FILES[name](), folder)
     close(folder)
     with open(os.path.join(folder, "register.toml"), "w", encoding="ascii") as file:
         file.write(TWO_SUPPLIERS)
@@ -130,9 +145,9 @@ def main(figures, script, plain, edihub):
         lambda port, count: [plain, "register.toml", "hub.db", str(port), str(count)],
     )
     with tempfile.TemporaryDirectory() as top:
-        folders = {lines: file_of(script, lines, top) for lines in (FEW, LINES)}
-        for name, (lines, requests, (bound, at_most)) in LOADS.items():
-            (time, answer), (plain_time, plain_answer) = (cost(it, folders[lines], requests, top) for it in words)
+        folders = {name: file_of(script, name, top) for name in FILES}
+        for name, (file, requests, (bound, at_most)) in LOADS.items():
+            (time, answer), (plain_time, plain_answer) = (cost(it, folders[file], requests, top) for it in words)
             if answer != plain_answer:
                 sys.exit(f"{name}: the two servers answer otherwise")
             each = 1e6 / len(requests)
@@ -141,7 +156,7 @@ def main(figures, script, plain, edihub):
         time, plain_time = starts(words, edihub, top)
         print(f"a start: {1e3 * time:.1f} milliseconds of processor time, {1e3 * plain_time:.1f} of the plain server's", flush=True)
         figures.tell(f"serve, a start with {SUPPLIERS:,} suppliers: times the plain server", time / plain_time, *START)
-        early, late = grows(words[0], folders[LINES], top)
+        early, late = grows(words[0], folders["many"], top)
         print(f"memory: {early:.1f} MB after {MANY // 100:,} connections, {late:.1f} MB after {MANY:,}")
         figures.tell("serve, memory over many connections: growth", late / early, MOST_GROWTH)
 

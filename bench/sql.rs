@@ -11,11 +11,11 @@ use hub::plain::{Message, write_segment};
 use hub::{Gln, header, line_groups, next_line, suppliers_of, uploaded, valid_digits};
 use std::ffi::{CStr, CString, c_char, c_int, c_void};
 use std::io::{Read, Write};
-use std::ptr::null_mut;
+use std::ptr::{null, null_mut};
 
 #[link(name = "sqlite3")]
 unsafe extern "C" {
-    fn sqlite3_open(path: *const c_char, db: *mut *mut c_void) -> c_int;
+    fn sqlite3_open_v2(path: *const c_char, db: *mut *mut c_void, flags: c_int, system: *const c_char) -> c_int;
     fn sqlite3_exec(db: *mut c_void, sql: *const c_char, call: *mut c_void, to: *mut c_void, error: *mut *mut c_char) -> c_int;
     fn sqlite3_prepare_v2(db: *mut c_void, sql: *const c_char, length: c_int, it: *mut *mut c_void, rest: *mut *const c_char) -> c_int;
     fn sqlite3_bind_blob(it: *mut c_void, at: c_int, bytes: *const u8, length: c_int, free: *const c_void) -> c_int;
@@ -30,6 +30,8 @@ unsafe extern "C" {
 
 const ROW: c_int = 100;
 const DONE: c_int = 101;
+/// To read and write, to make it where it is not there, and without a lock for each call, since there is one thread alone.
+const OPEN: c_int = 0x2 | 0x4 | 0x8000;
 
 #[derive(Clone, Copy)]
 pub enum Value<'a> {
@@ -67,8 +69,18 @@ impl Statement {
         unsafe { sqlite3_reset(self.0) };
     }
 
+    /// The bytes of a column, until the next row.
+    pub fn lent(&self, at: c_int) -> &[u8] {
+        let bytes = unsafe { sqlite3_column_blob(self.0, at) };
+        // no bytes are no pointer
+        if bytes.is_null() {
+            return &[];
+        }
+        unsafe { std::slice::from_raw_parts(bytes, sqlite3_column_bytes(self.0, at) as usize) }
+    }
+
     pub fn bytes(&self, at: c_int) -> Vec<u8> {
-        unsafe { std::slice::from_raw_parts(sqlite3_column_blob(self.0, at), sqlite3_column_bytes(self.0, at) as usize).to_vec() }
+        self.lent(at).to_vec()
     }
 
     pub fn number(&self, at: c_int) -> u64 {
@@ -108,7 +120,7 @@ const TABLES: &str = include_str!("tables.sql");
 impl Hub {
     pub fn over(path: &str, suppliers: Vec<Gln>) -> Hub {
         let (mut db, path) = (null_mut(), CString::new(path).unwrap());
-        assert!(unsafe { sqlite3_open(path.as_ptr(), &mut db) } == 0);
+        assert!(unsafe { sqlite3_open_v2(path.as_ptr(), &mut db, OPEN, null()) } == 0);
         let exec = |text: &CStr| assert!(unsafe { sqlite3_exec(db, text.as_ptr(), null_mut(), null_mut(), null_mut()) } == 0);
         exec(c"PRAGMA journal_mode = WAL");
         exec(c"PRAGMA synchronous = FULL");
