@@ -18,7 +18,8 @@ from tests.cases import connections, corrections, hub_commands, hub_files, hub_r
 from tests.harness import processor_time
 from tests.harness.case import SECONDS
 from tests.harness.tree import ROOT
-from tests.trials import disturbed_commands, documents, failing_openings, files_brought_over, held_file, lines_of_status_3, random_runs
+from tests.trials import disturbed_commands, documents, failing_openings, files_brought_over, held_file, kept_orders, lines_of_status_3
+from tests.trials import random_runs
 from tests.trials import refused_in_scripts, served_limits, serving, stopped_machine, stopped_program
 
 
@@ -46,6 +47,7 @@ TRIALS = [
     ),
     (built("trial_script"), "a file that another program holds open", held_file.held_open),
     (built("trial_script"), "made runs", random_runs.made_runs),
+    (built("trial_script"), "messages together and alone", kept_orders.kept_orders),
     (built("trial_script"), "changes of files stopped in turn", stopped_program.stops),
     (built("trial_script"), "a machine that stops", stopped_machine.machine),
     (built("trial_script"), "a machine that stops while a file of schema 1 is brought over", stopped_machine.migrations),

@@ -7,7 +7,7 @@ from tests.harness.first_order import ORDERS
 from tests.harness.hub_scripts import CHANGED, DESPATCH, FIRST_MAIL, MOMENT, OTHER_PALLET, PALLET, PALLET_OF_BETA
 from tests.harness.hub_scripts import RECEIPT, RESPONSE, SECOND, SECOND_MAIL, SPELLED, STATUS, THIRD_MAIL
 from tests.harness.hub_scripts import THIRD_PALLET, Play, accepted, advice, despatch, goods_in_turn, interchange
-from tests.harness.hub_scripts import line_status, order, ordered, receipt, response
+from tests.harness.hub_scripts import line_status, message, order, ordered, parties, receipt, response
 from tests.harness.register_texts import ALPHA, BETA, DELTA, HUB, RETAILER
 
 
@@ -254,6 +254,11 @@ def runs():
     return alone.case("a run of one supplier"), between.case("the same run, with another supplier's inputs between")
 
 
+def whole_answer(reference, number):
+    head = (f"BGM+231+R{reference}+27", "DTM+137:20250603:102", f"RFF+ON:{number}", *parties(ALPHA))
+    return message("ORDRSP:D:01B:UN:EAN009", reference, *head, "UNS+S")
+
+
 def counted():
     """The look-ups and commits of each message."""
     play = ordered().counts(3, 1)
@@ -282,7 +287,14 @@ def counted():
         play, RETAILER, "1006", "RECADV", interchange(RETAILER, "1006", receipt("G2", OTHER_PALLET, THIRD_PALLET))
     ).counts(4, 1).say("mend")
     text = interchange(RETAILER, "1007", receipt("G3", "340123455000000043", OTHER_PALLET, THIRD_PALLET))
-    return play.upload(RETAILER, text, "interchange 1007 messages 1", "1 RECADV refused B14").counts(5, 0)
+    play.upload(RETAILER, text, "interchange 1007 messages 1", "1 RECADV refused B14").counts(5, 0).say("mend")
+    # parties that are refused, for which no order is asked for
+    text = interchange(ALPHA, "S4", response("R4", 27, order="128578", supplier=BETA))
+    play.upload(ALPHA, text, "interchange S4 messages 1", "1 ORDRSP refused B02").counts(1, 0).say("mend")
+    # in one upload an order is looked up once
+    text = interchange(ALPHA, "S5", whole_answer(1, "128578"), whole_answer(2, "128578"), whole_answer(3, "none"), whole_answer(4, "none"))
+    told = ("1 ORDRSP accepted", "2 ORDRSP refused B07", "3 ORDRSP refused B05", "4 ORDRSP refused B05")
+    return play.upload(ALPHA, text, "interchange S5 messages 4", *told).counts(8, 1)
 
 
 def stopped_once(calls, fault):

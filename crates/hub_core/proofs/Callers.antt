@@ -1,11 +1,11 @@
 -- Who asks, and what it may.
-use Rattle.std.proofs.Common.{◌≡◌, ℕ, List, Some, Result, Ok, Err, sym, ap, subst, ◌∙◌}
+use Rattle.std.proofs.Common.{◌≡◌, ℕ, List, [], Some, Result, Ok, Err, sym, ap, subst, ◌∙◌}
 use Rattle.hub_parties.specs.Rows.{RegisterRows, row_of}
 use Rattle.hub_parties.specs.declared.role.Role.TheVariants as roles
 use Rattle.hub_rules.proofs.Prefixes.{gln_found}
 use Rattle.hub_rules.specs.Laws.{SoundUnder, PartiesRise}
 use Rattle.hub_tables.specs.Register.{register_of}
-use Rattle.hub_tables.specs.Tables.{Tables}
+use Rattle.hub_tables.specs.Tables.{Tables, view}
 use Rattle.hub_store.specs.declared.fault.StoreFault.{StoreFault}
 use Rattle.hub_tables.specs.Sets.{Rising}
 use Rattle.hub_law.proofs.Agreeing.{sound_rises}
@@ -18,7 +18,8 @@ use Rattle.hub_requests.specs.declared.reply.Reply.{Reply}
 use Rattle.hub_requests.specs.declared.request.Input.{Input}
 use Rattle.hub_requests.specs.declared.request.Request.TheVariants.{Upload}
 use Rattle.hub_transactions.specs.Acts.{Carried, Unharmed}
-use Rattle.hub_core.specs.Callers.{delivered, addressed_by, MayDeliver, IsCaller, acts_by, request_of}
+use Rattle.hub_transactions.proofs.LookUps.{none_kept}
+use Rattle.hub_core.specs.Callers.{delivered, addressed_by, KeepsFor, MayDeliver, IsCaller, acts_by, request_of}
 use Rattle.hub_core.specs.Steps.{Does, Asked, SoundWith, acts_of}
 use Rattle.hub_core.specs.declared.caller.Caller.{Caller}
 use Rattle.hub_core.specs.declared.caller.Caller.TheVariants.{Retailer, Supplier}
@@ -35,6 +36,11 @@ holds_after holds content honest left old new act seen (Ok x) carried unharmed h
     subst holds (ap (λ r. r.1) (carried.done h)) after
 holds_after holds content honest left old new act seen (Err fault) carried unharmed h before after =
     subst holds (sym (unharmed.same h)) before
+
+-- at first no order is kept
+pub none_kept_for : (caller : Caller) (t : Tables) → KeepsFor caller [] t
+none_kept_for Retailer t = tt
+none_kept_for (Supplier s) t = none_kept (view s.now.gln t)
 
 -- an upload of bytes, by what they are
 pub opened_asked : {S : Type 0} (content : S → Tables) (honest : S → Type 0) (left : S → Tables → Type 0) (old new : S)

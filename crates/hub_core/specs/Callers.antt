@@ -1,9 +1,10 @@
 -- Who asks, what becomes of its messages, and what it is answered.
-use Rattle.std.specs.Prelude.{◌≡◌, ℕ, List, [], ◌∷◌, Some}
+use Rattle.std.specs.Prelude.{◌≡◌, ⊤, ℕ, List, [], ◌∷◌, Some}
 use Rattle.edi_envelope.specs.declared.interchange.RawMessage.{RawMessage}
 use Rattle.hub_parties.specs.Rows.{RegisterRows, parties_of, role_of, row_of}
 use Rattle.hub_parties.specs.declared.role.Role.TheVariants as roles
 use Rattle.hub_tables.specs.Tables.{Tables, view}
+use Rattle.hub_order_lines.specs.Book.{Orders}
 use Rattle.hub_rules.specs.Laws.{SoundUnder, Registered, PartiesRise}
 use Rattle.hub_rules.specs.declared.incoming.IncomingMessage.{IncomingMessage}
 use Rattle.hub_law.specs.Messages.{deliver_suppliers}
@@ -12,6 +13,7 @@ use Rattle.hub_law.specs.Requests.{deliver_named, retailer_request, supplier_req
 use Rattle.hub_law.specs.Stops.{upload_from}
 use Rattle.hub_law.specs.Told.{Act}
 use Rattle.hub_requests.specs.declared.request.Request.{Request}
+use Rattle.hub_transactions.specs.Orders.{KeepsOrders}
 use Rattle.hub_core.specs.Steps.{Does, acts_of}
 use Rattle.hub_core.specs.declared.caller.Caller.{Caller}
 use Rattle.hub_core.specs.declared.caller.Caller.TheVariants.{Retailer, Supplier}
@@ -26,6 +28,11 @@ delivered register (Supplier s) = deliver_suppliers (view s.now.gln) (parties_of
 abbrev pub MayDeliver : RegisterRows → Caller → Tables → Type 0
 MayDeliver register Retailer t = SoundUnder register.suppliers t × PartiesRise t
 MayDeliver register (Supplier s) t = Registered register.suppliers s.now t × PartiesRise t
+
+-- the orders that are kept of a supplier are those that it sees; the retailer's messages ask for none
+abbrev pub KeepsFor : Caller → Orders → Tables → Type 0
+KeepsFor Retailer orders t = ⊤
+KeepsFor (Supplier s) orders t = KeepsOrders orders (view s.now.gln t)
 
 -- it is known so, by a GLN and a key
 abbrev pub IsCaller : RegisterRows → List ℕ → List ℕ → Caller → Type 0

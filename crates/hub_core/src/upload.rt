@@ -1,5 +1,5 @@
 //! The messages of an upload, one after another.
-ghost use Rattle.std.specs.Prelude.{◌≡◌, ◌||◌, length, Ok};
+ghost use Rattle.std.specs.Prelude.{◌≡◌, ◌||◌, length, Ok, OnOk};
 ghost use Rattle.hub_law.specs.Messages.{incoming};
 ghost use Rattle.hub_law.specs.Replies.{interchange_line};
 ghost use Rattle.hub_law.specs.Requests.{uploaded};
@@ -8,13 +8,14 @@ ghost use Rattle.hub_transactions.specs.Acts.{Carried, FailsWith, AnyCause, OfAn
 ghost use Rattle.hub_transactions.specs.Messages.{AddsLine, MayStop};
 ghost use Rattle.hub_texts.specs.Decision.{told_of};
 ghost use Rattle.hub_core.specs.Broken.{Breaks};
-ghost use Rattle.hub_core.specs.Callers.{delivered, MayDeliver};
+ghost use Rattle.hub_core.specs.Callers.{delivered, KeepsFor, MayDeliver};
 ghost use Rattle.hub_core.specs.Steps.{Answered};
 
 use crate::caller::Caller;
 use edi_base::Items;
 use edi_envelope::{Interchange, Moment, RawMessage};
 use hub_law::acts_stay_sound;
+use hub_order_lines::KnownOrders;
 use hub_register::Register;
 use hub_requests::{Outcome, Reply};
 use hub_store::{Store, StoreFault};
@@ -31,24 +32,29 @@ pub(crate) struct OpenedUpload<'a> {
     pub(crate) interchange: &'a Interchange,
 }
 
-// Takes a message of whoever sends it.
+// Takes a message of whoever sends it. Orders that are kept of a supplier follow what is committed.
 fn take_message<S: Store>(
     alloc: Global,
     upload: &OpenedUpload<'_>,
     store: &mut S,
     message: &RawMessage,
+    orders: &mut KnownOrders,
     reply: &mut Vec<u8>,
 ) -> Result<Decision, StoreFault>
-    ensures carried { MayDeliver upload.now.register.now upload.now.caller (S.content store.old) →
+    ensures carried { KeepsFor upload.now.caller orders.old (S.content store.old) →
+        MayDeliver upload.now.register.now upload.now.caller (S.content store.old) →
         Carried S.content S.honest S.left store.old store.new (delivered upload.now.register.now upload.now.caller
         (message.now, incoming upload.now.moment upload.now.interchange.now message.now)) told_of result }
     ensures fails { FailsWith S.plain AnyCause (OfAny (delivered upload.now.register.now upload.now.caller
         (message.now, incoming upload.now.moment upload.now.interchange.now message.now)) told_of)
         (S.broken store.old) (S.broken store.new) result }
     ensures unharmed { Unharmed S.content S.honest store.old store.new result }
-    ensures may { S.honest store.new →
+    ensures may { S.honest store.new → KeepsFor upload.now.caller orders.old (S.content store.old) →
         MayDeliver upload.now.register.now upload.now.caller (S.content store.old) →
         MayDeliver upload.now.register.now upload.now.caller (S.content store.new) }
+    ensures kept { S.honest store.new → KeepsFor upload.now.caller orders.old (S.content store.old) →
+        MayDeliver upload.now.register.now upload.now.caller (S.content store.old) →
+        OnOk result (KeepsFor upload.now.caller orders.new (S.content store.new)) }
     ensures reply { AddsLine message.now reply.old reply.new result }
 {
     acts_stay_sound();
@@ -70,6 +76,7 @@ fn take_message<S: Store>(
             moment,
             interchange,
             message,
+            orders,
             reply,
         ),
     }
@@ -82,7 +89,7 @@ fn either_refused(before: bool, told: Decision) -> bool
     before || told.is_refused()
 }
 
-/// Takes the messages one after another, until one is stopped. The reply begins as the line of the interchange, with
+/// Takes the messages one after another, until one is stopped. An order of the supplier that they name is looked up once. The reply begins as the line of the interchange, with
 /// room for the line `stopped`.
 pub(crate) fn take_messages<S: Store>(
     alloc: Global,
@@ -102,8 +109,9 @@ pub(crate) fn take_messages<S: Store>(
     ensures was_honest { S.honest store.new → S.honest store.old }
 {
     let mut refused = false;
+    let mut orders = KnownOrders::new(alloc);
     for message in upload.interchange.messages.as_slice() {
-        let Ok(told) = take_message(alloc, upload, store, message, &mut reply) else {
+        let Ok(told) = take_message(alloc, upload, store, message, &mut orders, &mut reply) else {
             reply.extend_from_slice(STOPPED).unwrap();
             return Reply {
                 outcome: Outcome::Stopped,

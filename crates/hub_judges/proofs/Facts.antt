@@ -13,7 +13,7 @@ use Rattle.hub_tables.specs.declared.rows.ContentRow.{ContentRow}
 use Rattle.hub_tables.proofs.KindOrders.{line_key}
 use Rattle.hub_order_lines.specs.Book.{Orders, facts_among, lines_in, rows, with_row, set_row}
 use Rattle.hub_order_lines.specs.declared.facts.LineFacts.{LineFacts}
-use Rattle.hub_order_lines.proofs.RowsOfOrder.{filter_rows, filter_replace}
+use Rattle.hub_order_lines.proofs.RowsOfOrder.{filter_rows, set_among_order}
 use Rattle.hub_order_lines.proofs.Setting.{lines_made}
 use Rattle.hub_judges.specs.Known.{TellsLines, TellsDespatched}
 
@@ -56,7 +56,7 @@ pub lines_told_after : (state : Tables) (lines : Orders) (row : LineRow) (order 
     → TellsLines state lines order
     → TellsLines (apply (SetLine row) state) (with_row row lines) order
 lines_told_after state lines row order told =
-    filter_replace row order state.lines
+    set_among_order row order state.lines
     ∙ ap (replace (same_line row) row) told
     ∙ sym (ap rows (lines_made (set_row row) lines order) ∙ rows_set row (lines_in lines order))
 

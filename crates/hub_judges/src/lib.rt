@@ -29,5 +29,6 @@ pub use join::judge_join;
 pub use known::Known;
 pub use laws::judges_are_given_what_they_ask;
 pub use order::judge_order;
+pub use party::party_fault;
 pub use receipt::judge_receipt;
 pub use response::judge_response;

@@ -1,5 +1,6 @@
 //! The parties of a message (B01, B02).
 ghost use Rattle.std.specs.Prelude.{◌≡◌, IfOk, IfErr, option_copied};
+ghost use Rattle.std.specs.Option.{IfSome, IfNone};
 ghost use Rattle.hub_parties.specs.declared.row.SupplierRow.{SupplierRow};
 ghost use Rattle.hub_rules.specs.Judging.{refuse_if};
 ghost use Rattle.hub_rules.specs.PartyRules.{is_other_buyer, if_registered};
@@ -53,4 +54,25 @@ pub(crate) fn admitted<'a>(
         return Err(Code::Buyer);
     }
     registered_supplier(supplier, named)
+}
+
+/// Why a message is refused whatever is known: another buyer than the retailer is named (B01), or its supplier is not
+/// registered or not named (B02). None where neither is so.
+pub fn party_fault(
+    retailer: &Gln,
+    supplier: Option<&SupplierRow>,
+    buyer: Option<Gln>,
+    named: &Gln,
+) -> Option<Code>
+    ensures some { IfSome result (λ code. (rest : SupplierRow → Verdict) →
+        refuse_if (is_other_buyer retailer.now buyer) Buyer
+        (if_registered (option_copied supplier.entry) named.now rest) ≡ Refuse code) }
+    ensures none { IfNone result ((row : SupplierRow) × ((rest : SupplierRow → Verdict) →
+        refuse_if (is_other_buyer retailer.now buyer) Buyer
+        (if_registered (option_copied supplier.entry) named.now rest) ≡ rest row)) }
+{
+    match admitted(retailer, supplier, buyer, named) {
+        Ok(_) => None,
+        Err(code) => Some(code),
+    }
 }

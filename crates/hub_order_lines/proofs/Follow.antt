@@ -1,6 +1,6 @@
 -- Orders that are kept follow changes.
 use Rattle.std.proofs.Common.{◌≡◌, ◌⊎◌, ℕ, Bool, true, false, cond, List, [], ◌∷◌, map, inl, inr, Option, Some, None, is_some}
-use Rattle.std.proofs.Common.{refl, sym, ap, ◌∙◌, subst, Vec}
+use Rattle.std.proofs.Common.{◌||◌, refl, sym, ap, ◌∙◌, subst, Vec}
 use Rattle.std.specs.BTreeMap.{insert_entry}
 use Rattle.std.specs.List.{AllByRecursion}
 use Rattle.std.specs.Map.{lookup, set_value}
@@ -11,10 +11,10 @@ use Rattle.hub_tables.specs.declared.change.Change.TheVariants.{AddHub, AddKey, 
 use Rattle.hub_tables.specs.declared.change.Change.TheVariants.{AddPallet, SetPallet, AddContent, AddReceipt, ClearReceipts}
 use Rattle.hub_tables.specs.declared.change.Change.TheVariants.{Remember, AddMail, SetMail}
 use Rattle.hub_tables.specs.declared.rows.LineRow.{LineRow}
-use Rattle.hub_tables.proofs.Lists.{decide, same_is, same_if}
+use Rattle.hub_tables.proofs.Lists.{decide, same_is, same_if, all_filter}
 use Rattle.hub_order_lines.specs.Book.{Orders, facts_of, has_order, lines_in, rows}
 use Rattle.hub_order_lines.specs.KnownLines.{AddsUp}
-use Rattle.hub_order_lines.specs.KnownOrders.{is_kept, rows_after, AddsOrder, Follows}
+use Rattle.hub_order_lines.specs.KnownOrders.{is_kept, rows_after, adds_lines, AddsOrder, Follows}
 use Rattle.hub_order_lines.specs.declared.known_orders.KnownOrder.{KnownOrder}
 use Rattle.hub_order_lines.proofs.Entries.{Entry, shown, at, key_cmp, kept_is, has_is, lines_are, put_known, put_others, set_found}
 use Rattle.hub_order_lines.proofs.RowsOfOrder.{set_of_order, other_untouched}
@@ -38,7 +38,9 @@ module _ {Z : Type 0} (row : LineRow) (es : List (Entry Z)) where
   pub not_kept : lookup (at row.number) es ≡ None → Follows (SetLine row ∷ []) (map shown es) (map shown es)
   not_kept none = record {
     was = λ order kept. kept;
+    none_added = λ order kept. refl;
     there = λ order kept. refl;
+    add_up = λ order kept add. add;
     lines = λ order kept. elim (decide (same order row.number)) [
       | inl its ↦
           let here : is_kept (map shown es) order ≡ false =
@@ -54,10 +56,13 @@ module _ {Z : Type 0} (row : LineRow) (es : List (Entry Z)) where
       → new ≡ set_value (at row.number) es w
       → w.is_there ≡ known.is_there
       → rows w.lines ≡ replace (same_line row) row (rows known.lines)
+      → AllByRecursion AddsUp w.lines
       → Follows (SetLine row ∷ []) (map shown es) (map shown new)
-  kept_set known w new found becomes there set =
+  kept_set known w new found becomes there set adds =
       subst (λ new. Follows (SetLine row ∷ []) (map shown es) (map shown new)) (sym becomes) (record {
         was = λ order kept. was_kept order (decide (same order row.number)) kept;
+        none_added = λ order kept. refl;
+        add_up = λ order kept add. still_add_up order (decide (same order row.number)) add;
         there = λ order kept. there_still order (decide (same order row.number));
         lines = λ order kept. lines_set order (decide (same order row.number));
       })
@@ -96,6 +101,18 @@ module _ {Z : Type 0} (row : LineRow) (es : List (Entry Z)) where
           ∙ sym (lines_are order es (lookup (at order) es) refl))
           ∙ untouched order apart
 
+      still_add_up : (order : List ℕ) → (same order row.number ≡ true) ⊎ (same order row.number ≡ false)
+          → AllByRecursion AddsUp (lines_in (map shown es) order)
+          → AllByRecursion AddsUp (lines_in (map shown (set_value (at row.number) es w)) order)
+      still_add_up order (inl its) add =
+          subst (AllByRecursion AddsUp)
+          (sym (lines_are order (set_value (at row.number) es w) (Some w) (found_after order true its)))
+          (all_filter AddsUp (λ line. same line.row.number order) w.lines adds)
+      still_add_up order (inr apart) add =
+          subst (AllByRecursion AddsUp)
+          (sym (lines_are order (set_value (at row.number) es w) (lookup (at order) es) (found_after order false apart)
+          ∙ sym (lines_are order es (lookup (at order) es) refl))) add
+
 -- an order that is put
 pub put_ok : {Z : Type 0} (order : List ℕ) (is_there : Bool) (given : List LineRow) (es new : List (Entry Z)) (key : Vec ℕ Z)
     (known : KnownOrder)
@@ -115,37 +132,46 @@ put_ok order is_there given es new key known number becomes there rows_are adds_
       others = λ other apart. put_others key known other es (ap (same other) number ∙ apart);
     })
 
--- one change after another
+-- one change and then others
+pub in_turn : (change : Change) (changes : List Change) (given : List LineRow)
+    → rows_after (change ∷ changes) given ≡ rows_after changes (rows_after (change ∷ []) given)
+in_turn (SetLine row) changes given = refl
+in_turn (AddHub row) changes given = refl
+in_turn (AddKey row) changes given = refl
+in_turn (AddPrefix row) changes given = refl
+in_turn (AddOrder row) changes given = refl
+in_turn (AddLine row) changes given = refl
+in_turn (AddAdvice row) changes given = refl
+in_turn (AddPallet row) changes given = refl
+in_turn (SetPallet row) changes given = refl
+in_turn (AddContent row) changes given = refl
+in_turn (AddReceipt row) changes given = refl
+in_turn (ClearReceipts sscc) changes given = refl
+in_turn (Remember row) changes given = refl
+in_turn (AddMail row) changes given = refl
+in_turn (SetMail row) changes given = refl
+
 pub follows_on : (change : Change) (changes : List Change) (a b c : Orders)
     → Follows (change ∷ []) a b
     → Follows changes b c
     → Follows (change ∷ changes) a c
 follows_on change changes a b c first rest = record {
   was = λ order kept. first.was order (rest.was order kept);
+  none_added = λ order kept. ap (λ v. adds_lines change || v) (rest.none_added order kept)
+      ∙ first.none_added order (rest.was order kept);
   there = λ order kept. rest.there order kept ∙ first.there order (rest.was order kept);
   lines = λ order kept. rest.lines order kept
       ∙ ap (rows_after changes) (first.lines order (rest.was order kept))
       ∙ sym (in_turn change changes (rows (lines_in a order)));
+  add_up = λ order kept add. rest.add_up order kept (first.add_up order (rest.was order kept) add);
 }
-  where
-    in_turn : (change : Change) (changes : List Change) (given : List LineRow)
-        → rows_after (change ∷ changes) given ≡ rows_after changes (rows_after (change ∷ []) given)
-    in_turn (SetLine row) changes given = refl
-    in_turn (AddHub row) changes given = refl
-    in_turn (AddKey row) changes given = refl
-    in_turn (AddPrefix row) changes given = refl
-    in_turn (AddOrder row) changes given = refl
-    in_turn (AddLine row) changes given = refl
-    in_turn (AddAdvice row) changes given = refl
-    in_turn (AddPallet row) changes given = refl
-    in_turn (SetPallet row) changes given = refl
-    in_turn (AddContent row) changes given = refl
-    in_turn (AddReceipt row) changes given = refl
-    in_turn (ClearReceipts sscc) changes given = refl
-    in_turn (Remember row) changes given = refl
-    in_turn (AddMail row) changes given = refl
-    in_turn (SetMail row) changes given = refl
 
 -- with no change all is as it was
 pub follows_itself : (orders : Orders) → Follows [] orders orders
-follows_itself orders = record { was = λ order kept. kept; there = λ order kept. refl; lines = λ order kept. refl }
+follows_itself orders = record {
+  was = λ order kept. kept;
+  none_added = λ order kept. refl;
+  there = λ order kept. refl;
+  lines = λ order kept. refl;
+  add_up = λ order kept add. add;
+}

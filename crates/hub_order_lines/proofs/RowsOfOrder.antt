@@ -17,19 +17,32 @@ filter_rows p (line ∷ lines) =
       | false ↦ filter_rows p lines
     ]
 
--- a row that is set among the lines of an order
-pub filter_replace : (row : LineRow) (order : List ℕ) (ls : List LineRow)
-    → filter (λ line. same line.number order) (replace (same_line row) row ls)
-    ≡ replace (same_line row) row (filter (λ line. same line.number order) ls)
-filter_replace row order [] = refl
-filter_replace row order (old ∷ ls) =
-    let ih = filter_replace row order ls in
+-- a row that is set among those that pass a test, which its key decides
+pub filter_replace : (row : LineRow) (p : LineRow → Bool) (ls : List LineRow)
+    → ((old : LineRow) → same_line row old ≡ true → p old ≡ p row)
+    → filter p (replace (same_line row) row ls) ≡ replace (same_line row) row (filter p ls)
+filter_replace row p [] by_key = refl
+filter_replace row p (old ∷ ls) by_key =
+    let ih = filter_replace row p ls by_key in
     elim (decide (same_line row old)) [
       | inl e ↦
-          let both : same old.number order ≡ same row.number order = ap (λ v. same v order) (line_key row old e).1 in
-          elim (decide (same row.number order)) [ inl k ↦ grind (arith, e, both, k, ih) | inr k ↦ grind (arith, e, both, k, ih) ]
-      | inr e ↦ elim (decide (same old.number order)) [ inl k ↦ grind (arith, e, k, ih) | inr k ↦ grind (arith, e, k, ih) ]
+          let both : p old ≡ p row = by_key old e in
+          elim (decide (p row)) [ inl k ↦ grind (arith, e, both, k, ih) | inr k ↦ grind (arith, e, both, k, ih) ]
+      | inr e ↦ elim (decide (p old)) [ inl k ↦ grind (arith, e, k, ih) | inr k ↦ grind (arith, e, k, ih) ]
     ]
+
+-- a row that is set among the lines of an order, and among those of a supplier
+pub set_among_order : (row : LineRow) (order : List ℕ) (ls : List LineRow)
+    → filter (λ line. same line.number order) (replace (same_line row) row ls)
+    ≡ replace (same_line row) row (filter (λ line. same line.number order) ls)
+set_among_order row order ls =
+    filter_replace row (λ line. same line.number order) ls (λ old e. ap (λ v. same v order) (line_key row old e).1)
+
+pub set_among_suppliers : (row : LineRow) (supplier : List ℕ) (ls : List LineRow)
+    → filter (λ line. same line.supplier supplier) (replace (same_line row) row ls)
+    ≡ replace (same_line row) row (filter (λ line. same line.supplier supplier) ls)
+set_among_suppliers row supplier ls =
+    filter_replace row (λ line. same line.supplier supplier) ls (λ old e. ap (λ v. same v supplier) (line_key row old e).0)
 
 -- rows that are set of all lines are set of those of an order
 pub set_of_order : (row : LineRow) (order : List ℕ) (old new : List LineFacts)
@@ -38,7 +51,7 @@ pub set_of_order : (row : LineRow) (order : List ℕ) (old new : List LineFacts)
 set_of_order row order old new set =
     sym (filter_rows (λ line. same line.number order) new)
     ∙ ap (filter (λ line. same line.number order)) set
-    ∙ filter_replace row order (rows old)
+    ∙ set_among_order row order (rows old)
     ∙ ap (replace (same_line row) row) (filter_rows (λ line. same line.number order) old)
 
 -- a row of one order sets none of another's

@@ -1,10 +1,10 @@
 -- Orders that are kept from message to message.
 use Rattle.std.specs.Prelude.{◌≡◌, ℕ, Bool, true, false, List, [], ◌∷◌, is_some, Some}
-use Rattle.std.specs.List.{AllByRecursion}
+use Rattle.std.specs.List.{AllByRecursion, list_any}
 use Rattle.hub_parties.specs.KeyOrder.{replace}
 use Rattle.hub_tables.specs.Rows.{same, same_line}
 use Rattle.hub_tables.specs.declared.change.Change.{Change}
-use Rattle.hub_tables.specs.declared.change.Change.TheVariants.{SetLine}
+use Rattle.hub_tables.specs.declared.change.Change.TheVariants.{AddOrder, AddLine, SetLine}
 use Rattle.hub_tables.specs.declared.rows.LineRow.{LineRow}
 use Rattle.hub_order_lines.specs.Book.{Orders, facts_of, has_order, lines_in, order_in, rows}
 use Rattle.hub_order_lines.specs.KnownLines.{AddsUp}
@@ -36,9 +36,19 @@ rows_after [] given = given
 rows_after (SetLine row ∷ changes) given = rows_after changes (replace (same_line row) row given)
 rows_after (change ∷ changes) given = rows_after changes given
 
--- each order that is still kept was, and its rows are those from before after the changes
+-- the change adds an order or a line
+abbrev pub adds_lines : Change → Bool
+adds_lines (AddOrder row) = true
+adds_lines (AddLine row) = true
+adds_lines change = false
+
+-- Each order that is still kept was, and its rows are those from before after the changes, which add no order and no line.
+-- Lines that added up do so still.
 pub record Follows (changes : List Change) (old new : Orders) : Type 0 where
   pub was : (order : List ℕ) → is_kept new order ≡ true → is_kept old order ≡ true
+  pub none_added : (order : List ℕ) → is_kept new order ≡ true → list_any adds_lines changes ≡ false
   pub there : (order : List ℕ) → is_kept new order ≡ true → has_order new order ≡ has_order old order
   pub lines : (order : List ℕ) → is_kept new order ≡ true
       → rows (lines_in new order) ≡ rows_after changes (rows (lines_in old order))
+  pub add_up : (order : List ℕ) → is_kept new order ≡ true
+      → AllByRecursion AddsUp (lines_in old order) → AllByRecursion AddsUp (lines_in new order)

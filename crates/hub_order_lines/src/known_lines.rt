@@ -139,6 +139,7 @@ impl KnownLines {
         ensures set { IsTrue result → rows self.new ≡ replace (same_line row.now) row.now (rows self.old) }
         ensures not_set { result ≡ false → self.new ≡ self.old }
         ensures keys { keys_of self.new ≡ keys_of self.old }
+        ensures adds_up { AllByRecursion AddsUp self.new }
     {
         let number = row.number.as_slice();
         let Some(place) = place_by_number(self.lines.as_slice(), number, row.line) else {

@@ -5,6 +5,7 @@ ghost use Rattle.std.specs.Option.{IfSome, IfNone};
 ghost use Rattle.hub_parties.specs.KeyOrder.{replace, Rises};
 ghost use Rattle.hub_tables.specs.Rows.{same_line};
 ghost use Rattle.hub_order_lines.specs.Book.{facts_cmp, facts_of, facts_among, rows, IsCovered};
+ghost use Rattle.hub_order_lines.specs.KnownLines.{AddsUp};
 
 use crate::by_article::{ArticleIndex, index_articles, place_by_article, place_by_walk};
 use crate::by_number::place_by_number;
@@ -110,6 +111,7 @@ impl OrderLines {
     pub(crate) fn set(&mut self, row: &LineRow) -> bool
         ensures set { IsTrue result → rows self.new ≡ replace (same_line row.now) row.now (rows self.old) }
         ensures not_set { result ≡ false → self.new ≡ self.old }
+        ensures adds_up { AllByRecursion AddsUp self.new }
     {
         self.lines.set(row)
     }

@@ -9,6 +9,7 @@ pub mod CleanVerdicts
 pub mod Failing
 pub mod Fitted
 pub mod Joins
+pub mod KeptOrders
 pub mod LookUps
 pub mod Named
 pub mod OpenedWithin

@@ -1,5 +1,5 @@
 -- What is read of a message, and what comes of it.
-use Rattle.std.proofs.Common.{◌≡◌, Option, Some, None, Ok, sym, ap}
+use Rattle.std.proofs.Common.{◌≡◌, Option, Some, None, Ok, sym, ap, ◌∙◌}
 use Rattle.edi_envelope.specs.declared.interchange.RawMessage.{RawMessage}
 use Rattle.edi_messages.specs.Fault.{unless}
 use Rattle.edi_messages.specs.declared.fault.MessageFault.{MessageFault}
@@ -8,9 +8,14 @@ use Rattle.edi_orders.specs.declared.order.Order.{Order}
 use Rattle.edi_goods.specs.Receipt as receipts
 use Rattle.edi_goods.specs.declared.receipt.Receipt.{Receipt}
 use Rattle.hub_tables.specs.Tables.{Tables}
+use Rattle.hub_rules.specs.declared.code.Code.{Code}
 use Rattle.hub_rules.specs.declared.verdict.Verdict.{Verdict}
+use Rattle.hub_rules.specs.declared.verdict.Verdict.TheVariants.{Refuse}
 use Rattle.hub_law.specs.Messages.{named}
 use Rattle.hub_law.specs.Told.{act, read_act}
+use Rattle.hub_transactions.specs.Judged.{act_of}
+use Rattle.hub_transactions.specs.declared.judged.Judged.{Judged}
+use Rattle.hub_transactions.specs.declared.judged.Judged.TheVariants.{Read}
 
 content_of : {X : Type 0} (fault : Option MessageFault) (content right : X) → unless fault content ≡ Ok right → content ≡ right
 content_of None content right e = cc
@@ -29,3 +34,10 @@ pub act_of_read : {X : Type 0} (judge : X → Verdict) (read : X) (verdict : Ver
     → verdict ≡ judge read
     → read_act (Ok read) judge t ≡ act verdict t
 act_of_read judge read verdict t e = ap (λ v. act v t) (sym e)
+
+-- what was read is refused whatever is known
+pub act_refused : {X : Type 0} (judge : X → Verdict) (read : X) (code : Code) (judged : Judged) (t : Tables)
+    → judge read ≡ Refuse code
+    → judged ≡ Read (Refuse code)
+    → read_act (Ok read) judge t ≡ act_of judged t
+act_refused judge read code judged t refusal is = ap (λ v. act v t) refusal ∙ ap (λ j. act_of j t) (sym is)

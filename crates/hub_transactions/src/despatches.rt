@@ -38,6 +38,7 @@ fn keep_orders<S: Store>(
     ensures unclean { S.honest store.new → S.broken store.old ≡ None →
         are_clean (S.content store.old) ≡ true → result ≡ Err Unclean →
         SomeUnclean (map (λ number. number.now) named.now.keys) (view supplier.now (S.content store.old)) }
+    ensures goes_on { OnOk result (S.broken store.new ≡ S.broken store.old) }
     ensures fails { FailsWith S.plain (S.honest store.new →
         SomeUnclean (map (λ number. number.now) named.now.keys) (view supplier.now (S.content store.old)))
         any_answer (S.broken store.old) (S.broken store.new) result }
@@ -102,7 +103,7 @@ fn used_of<S: Store>(
 }
 
 /// What is known for a DESADV, by two look-ups; and, where nothing is remembered and its number is not known, by one for each
-/// unit and two for each order that it names. Where the lines of an order do not rise by line number, or more of one is open,
+/// unit and two for each order that it names and that is not kept. Where the lines of an order do not rise by line number, or more of one is open,
 /// refused and cancelled than is ordered, it is unknown: `Unclean`.
 pub(crate) fn known_for_despatch<S: Store>(
     alloc: Global,
@@ -110,11 +111,15 @@ pub(crate) fn known_for_despatch<S: Store>(
     supplier: &Gln,
     incoming: &IncomingMessage,
     despatch: &Despatch,
+    mut orders: KnownOrders,
 ) -> Result<Known, StoreFault>
     ensures told { S.honest store.new → Kept (view supplier.now (S.content store.old)) →
+        KeepsOrders orders (view supplier.now (S.content store.old)) →
         IfOk result (λ known.
         TellsForDespatch known (has_pallet (S.content store.old)) incoming.now despatch.now
         (view supplier.now (S.content store.old))) }
+    ensures kept { S.honest store.new → KeepsOrders orders (view supplier.now (S.content store.old)) →
+        IfOk result (λ known. KeepsOrders known.orders (view supplier.now (S.content store.old))) }
     ensures unclean { S.honest store.new → S.broken store.old ≡ None →
         are_clean (S.content store.old) ≡ true →
         result ≡ Err Unclean → NamedUnclean despatch.now.units (view supplier.now (S.content store.old)) }
@@ -130,11 +135,10 @@ pub(crate) fn known_for_despatch<S: Store>(
     let number = despatch.number.as_slice();
     let number_known = store.advice_known(supplier, number)?;
     if remembered.is_some() || number_known {
-        return Ok(known_before(alloc, remembered, number_known));
+        return Ok(known_before(alloc, remembered, number_known, orders));
     }
     let used = used_of(alloc, store, units)?;
     let named = orders_named(alloc, units)?;
-    let mut orders = KnownOrders::new(alloc);
     keep_orders(alloc, store, supplier, &named, &mut orders)?;
     index_units(alloc, units, &mut orders)?;
     Ok(Known {

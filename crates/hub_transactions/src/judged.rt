@@ -1,19 +1,25 @@
 //! What comes of a message: it is read, what is known of it is looked up, and it is judged.
+ghost use Rattle.std.specs.Prelude.{◌≡◌, ◌≢◌, true, None, Err, IfOk, OnOk};
 ghost use Rattle.edi_orders.specs.Order.{order_of};
 ghost use Rattle.edi_orders.specs.Response.{response_of};
 ghost use Rattle.edi_goods.specs.Despatch.{despatch_of};
 ghost use Rattle.edi_goods.specs.Receipt.{receipt_of};
 ghost use Rattle.hub_parties.specs.Rows.{parties_of};
 ghost use Rattle.hub_tables.specs.Tables.{view};
+ghost use Rattle.hub_store.specs.Clean.{are_clean};
+ghost use Rattle.hub_store.specs.declared.fault.StoreFault.TheVariants.{Unclean};
 ghost use Rattle.hub_rules.specs.Laws.{Registered, SoundUnder};
+ghost use Rattle.hub_rules.specs.declared.verdict.Verdict.TheVariants.{Refuse};
 ghost use Rattle.hub_law.specs.Messages.{order_act, receipt_act, response_act, despatch_act};
 ghost use Rattle.hub_law.specs.Messages.{deliver_retailers, deliver_suppliers};
 ghost use Rattle.hub_law.specs.Requests.{deliver_named};
-ghost use Rattle.hub_transactions.specs.Acts.{FailsWith, NoCause, Stays};
+ghost use Rattle.hub_transactions.specs.Acts.{FailsWith, NoCause, Stays, no_answer};
 ghost use Rattle.hub_transactions.specs.Clean.{WithinMessage};
 ghost use Rattle.hub_transactions.specs.Judged.{CannotBeRead, JudgedOfRetailer, JudgedOfSupplier, UnreadOf};
 ghost use Rattle.hub_transactions.specs.Named.{MessageUnclean};
+ghost use Rattle.hub_transactions.specs.Orders.{KeepsOrders};
 ghost use Rattle.hub_transactions.specs.StaysClean.{JudgesClean};
+ghost use Rattle.hub_transactions.specs.declared.judged.Judged.TheVariants.{Read};
 
 use crate::despatches::known_for_despatch;
 use crate::knowing::{known_for_order, known_for_receipt, known_for_response};
@@ -22,15 +28,19 @@ use edi_envelope::{RawMessage, mail_message_text};
 use edi_goods::{Despatch, Receipt};
 use edi_messages::MessageFault;
 use edi_orders::{Order, Response};
+use gs1_ids::Gln;
 use hub_judges::{
-    IncomingMessage, Verdict, judge_despatch, judge_order, judge_receipt, judge_response,
-    judges_are_given_what_they_ask,
+    Code, IncomingMessage, Verdict, judge_despatch, judge_order, judge_receipt, judge_response,
+    judges_are_given_what_they_ask, party_fault,
 };
+use hub_order_lines::KnownOrders;
 use hub_parties::SupplierRow;
 use hub_register::Register;
 use hub_rules::accepted_changes_fit;
 use hub_store::{Store, StoreFault};
+use hub_tables::Side;
 use std::alloc::Global;
+use std::mem;
 
 /// What comes of a message.
 #[derive(Debug, Drop)]
@@ -39,6 +49,25 @@ pub(crate) enum Judged {
     Read(Verdict),
     /// It cannot be read.
     Unread(MessageFault),
+}
+
+// Refuses a message of a supplier that the rules refuse whatever is known. One look-up asks whether the store answers.
+fn refuse<S: Store>(
+    store: &mut S,
+    supplier: &Gln,
+    incoming: &IncomingMessage,
+    code: Code,
+) -> Result<Judged, StoreFault>
+    ensures refused { IfOk result (λ judged. judged ≡ Read (Refuse code)) }
+    ensures unclean { S.honest store.new → S.broken store.old ≡ None →
+        are_clean (S.content store.old) ≡ true → result ≢ Err Unclean }
+    ensures fails { FailsWith S.plain NoCause no_answer (S.broken store.old) (S.broken store.new) result }
+    ensures stays { Stays S.content S.honest S.left store.old store.new }
+{
+    let control = incoming.control.as_slice();
+    let message = incoming.message.as_slice();
+    store.remembered(supplier, Side::Supplier, control, message)?;
+    Ok(Judged::Read(Verdict::Refuse(code)))
 }
 
 // An ORDERS of the retailer.
@@ -102,7 +131,7 @@ fn judged_receipt<S: Store>(
     Ok(Judged::Read(verdict))
 }
 
-// An ORDRSP of a supplier.
+// An ORDRSP of a supplier, of which these orders are kept.
 fn judged_response<S: Store>(
     alloc: Global,
     register: &Register,
@@ -110,14 +139,19 @@ fn judged_response<S: Store>(
     store: &mut S,
     message: &RawMessage,
     incoming: IncomingMessage,
+    orders: &mut KnownOrders,
 ) -> Result<Judged, StoreFault>
-    ensures judged { JudgedOfSupplier S.content S.honest register.now supplier.now response_act
+    ensures judged { KeepsOrders orders.old (view supplier.now.gln (S.content store.old)) →
+        JudgedOfSupplier S.content S.honest register.now supplier.now response_act
         (message.now, incoming) store.old store.new result }
+    ensures kept { S.honest store.new → KeepsOrders orders.old (view supplier.now.gln (S.content store.old)) →
+        OnOk result (KeepsOrders orders.new (view supplier.now.gln (S.content store.old))) }
     ensures fails { FailsWith S.plain (S.honest store.new →
         MessageUnclean message.now (view supplier.now.gln (S.content store.old)))
         (CannotBeRead (response_of message.now)) (S.broken store.old) (S.broken store.new) result }
     ensures stays { Stays S.content S.honest S.left store.old store.new }
-    ensures clean { Registered register.now.suppliers supplier.now (S.content store.old) →
+    ensures clean { KeepsOrders orders.old (view supplier.now.gln (S.content store.old)) →
+        Registered register.now.suppliers supplier.now (S.content store.old) →
         WithinMessage message.now incoming → JudgesClean S.content S.honest S.broken store.old store.new result }
 {
     accepted_changes_fit();
@@ -127,13 +161,23 @@ fn judged_response<S: Store>(
         Err(MessageFault::Memory) => return Err(StoreFault::Memory),
         Err(fault) => return Ok(Judged::Unread(fault)),
     };
-    let known = known_for_response(alloc, store, &supplier.gln, &incoming, &response)?;
     let retailer = register.retailer();
+    if let Some(code) = party_fault(
+        retailer,
+        Some(supplier),
+        Some(response.buyer),
+        &response.supplier,
+    ) {
+        return refuse(store, &supplier.gln, &incoming, code);
+    }
+    let kept = mem::replace(orders, KnownOrders::new(alloc));
+    let known = known_for_response(alloc, store, &supplier.gln, &incoming, &response, kept)?;
     let verdict = judge_response(alloc, retailer, Some(supplier), &known, incoming, &response)?;
+    *orders = known.orders;
     Ok(Judged::Read(verdict))
 }
 
-// A DESADV of a supplier.
+// A DESADV of a supplier, of which these orders are kept.
 fn judged_despatch<S: Store>(
     alloc: Global,
     register: &Register,
@@ -141,14 +185,19 @@ fn judged_despatch<S: Store>(
     store: &mut S,
     message: &RawMessage,
     incoming: IncomingMessage,
+    orders: &mut KnownOrders,
 ) -> Result<Judged, StoreFault>
-    ensures judged { JudgedOfSupplier S.content S.honest register.now supplier.now despatch_act
+    ensures judged { KeepsOrders orders.old (view supplier.now.gln (S.content store.old)) →
+        JudgedOfSupplier S.content S.honest register.now supplier.now despatch_act
         (message.now, incoming) store.old store.new result }
+    ensures kept { S.honest store.new → KeepsOrders orders.old (view supplier.now.gln (S.content store.old)) →
+        OnOk result (KeepsOrders orders.new (view supplier.now.gln (S.content store.old))) }
     ensures fails { FailsWith S.plain (S.honest store.new →
         MessageUnclean message.now (view supplier.now.gln (S.content store.old)))
         (CannotBeRead (despatch_of message.now)) (S.broken store.old) (S.broken store.new) result }
     ensures stays { Stays S.content S.honest S.left store.old store.new }
-    ensures clean { Registered register.now.suppliers supplier.now (S.content store.old) →
+    ensures clean { KeepsOrders orders.old (view supplier.now.gln (S.content store.old)) →
+        Registered register.now.suppliers supplier.now (S.content store.old) →
         WithinMessage message.now incoming → JudgesClean S.content S.honest S.broken store.old store.new result }
 {
     accepted_changes_fit();
@@ -158,9 +207,14 @@ fn judged_despatch<S: Store>(
         Err(MessageFault::Memory) => return Err(StoreFault::Memory),
         Err(fault) => return Ok(Judged::Unread(fault)),
     };
-    let known = known_for_despatch(alloc, store, &supplier.gln, &incoming, &despatch)?;
     let retailer = register.retailer();
+    if let Some(code) = party_fault(retailer, Some(supplier), despatch.buyer, &despatch.supplier) {
+        return refuse(store, &supplier.gln, &incoming, code);
+    }
+    let kept = mem::replace(orders, KnownOrders::new(alloc));
+    let known = known_for_despatch(alloc, store, &supplier.gln, &incoming, &despatch, kept)?;
     let verdict = judge_despatch(alloc, retailer, Some(supplier), &known, incoming, &despatch)?;
+    *orders = known.orders;
     Ok(Judged::Read(verdict))
 }
 
@@ -190,7 +244,8 @@ pub(crate) fn judged_of_retailer<S: Store>(
     }
 }
 
-/// What comes of a message of a supplier: an ORDRSP or a DESADV.
+/// What comes of a message of a supplier: an ORDRSP or a DESADV. The orders that are kept are looked up in no more, and those
+/// that it names are put after them; at a fault they may be forgotten.
 pub(crate) fn judged_of_supplier<S: Store>(
     alloc: Global,
     register: &Register,
@@ -198,22 +253,27 @@ pub(crate) fn judged_of_supplier<S: Store>(
     store: &mut S,
     message: &RawMessage,
     incoming: IncomingMessage,
+    orders: &mut KnownOrders,
 ) -> Result<Judged, StoreFault>
-    ensures judged { JudgedOfSupplier S.content S.honest register.now supplier.now deliver_suppliers
+    ensures judged { KeepsOrders orders.old (view supplier.now.gln (S.content store.old)) →
+        JudgedOfSupplier S.content S.honest register.now supplier.now deliver_suppliers
         (message.now, incoming) store.old store.new result }
+    ensures kept { S.honest store.new → KeepsOrders orders.old (view supplier.now.gln (S.content store.old)) →
+        OnOk result (KeepsOrders orders.new (view supplier.now.gln (S.content store.old))) }
     ensures fails { FailsWith S.plain (S.honest store.new →
         MessageUnclean message.now (view supplier.now.gln (S.content store.old)))
         (UnreadOf (deliver_suppliers (view supplier.now.gln) (parties_of register.now) supplier.now
         (message.now, incoming))) (S.broken store.old) (S.broken store.new) result }
     ensures stays { Stays S.content S.honest S.left store.old store.new }
-    ensures clean { Registered register.now.suppliers supplier.now (S.content store.old) →
+    ensures clean { KeepsOrders orders.old (view supplier.now.gln (S.content store.old)) →
+        Registered register.now.suppliers supplier.now (S.content store.old) →
         WithinMessage message.now incoming → JudgesClean S.content S.honest S.broken store.old store.new result }
 {
     let kind = message.kind.as_slice();
     if kind == b"ORDRSP".as_slice() {
-        judged_response(alloc, register, supplier, store, message, incoming)
+        judged_response(alloc, register, supplier, store, message, incoming, orders)
     } else if kind == b"DESADV".as_slice() {
-        judged_despatch(alloc, register, supplier, store, message, incoming)
+        judged_despatch(alloc, register, supplier, store, message, incoming, orders)
     } else {
         Ok(Judged::Unread(MessageFault::MessageType))
     }

@@ -74,8 +74,9 @@ fn put_order(
     }
 }
 
-/// Looks up an order and its lines, by two look-ups, and puts them after others. Where lines do not rise by line number, or
-/// more of one is open, refused and cancelled than is ordered, it is unknown: `Unclean`.
+/// Looks up an order and its lines, by two look-ups, and puts them after others; where the order is among these, nothing is
+/// looked up. Where lines do not rise by line number, or more of one is open, refused and cancelled than is ordered, it is
+/// unknown: `Unclean`.
 pub(crate) fn keep_order<S: Store>(
     alloc: Global,
     store: &mut S,
@@ -91,39 +92,47 @@ pub(crate) fn keep_order<S: Store>(
     ensures unclean { S.honest store.new → S.broken store.old ≡ None →
         are_clean (S.content store.old) ≡ true →
         result ≡ Err Unclean → AreUnclean (lines_of (view supplier.now (S.content store.old)) order.now) }
+    ensures goes_on { OnOk result (S.broken store.new ≡ S.broken store.old) }
     ensures fails { FailsWith S.plain (S.honest store.new →
         AreUnclean (lines_of (view supplier.now (S.content store.old)) order.now))
-        no_answer (S.broken store.old) (S.broken store.new) result }
+        any_answer (S.broken store.old) (S.broken store.new) result }
     ensures stays { Stays S.content S.honest S.left store.old store.new }
 {
+    if orders.is_kept(order) {
+        return Ok(());
+    }
     let is_there = store.order_known(supplier, order)?;
     let rows = store.lines_of(supplier, order)?;
     put_order(alloc, order, is_there, rows, orders)
 }
 
-// What is known of an order and its lines beside what is remembered; `Unclean` as `keep_order` says.
+// What is known of an order and its lines beside what is remembered and the orders that are kept; `Unclean` as `keep_order`
+// says.
 fn known_of_order<S: Store>(
     alloc: Global,
     store: &mut S,
     supplier: &Gln,
     order: &[u8],
     remembered: Option<Items<u8>>,
+    mut orders: KnownOrders,
 ) -> Result<Known, StoreFault>
-    ensures told { S.honest store.new →
+    ensures told { S.honest store.new → KeepsOrders orders (view supplier.now (S.content store.old)) →
         IfOk result (λ known. TellsOrder known (view supplier.now (S.content store.old)) order.now
         × TellsLines (view supplier.now (S.content store.old)) known.orders order.now
         × (Kept (view supplier.now (S.content store.old)) →
         TellsDespatched (view supplier.now (S.content store.old)) known.orders order.now)) }
+    ensures kept { S.honest store.new → KeepsOrders orders (view supplier.now (S.content store.old)) →
+        IfOk result (λ known. KeepsOrders known.orders (view supplier.now (S.content store.old))) }
     ensures remembered { IfOk result (λ known. known.remembered ≡ remembered) }
     ensures unclean { S.honest store.new → S.broken store.old ≡ None →
         are_clean (S.content store.old) ≡ true →
         result ≡ Err Unclean → AreUnclean (lines_of (view supplier.now (S.content store.old)) order.now) }
+    ensures goes_on { OnOk result (S.broken store.new ≡ S.broken store.old) }
     ensures fails { FailsWith S.plain (S.honest store.new →
         AreUnclean (lines_of (view supplier.now (S.content store.old)) order.now))
-        no_answer (S.broken store.old) (S.broken store.new) result }
+        any_answer (S.broken store.old) (S.broken store.new) result }
     ensures stays { Stays S.content S.honest S.left store.old store.new }
 {
-    let mut orders = KnownOrders::new(alloc);
     keep_order(alloc, store, supplier, order, &mut orders)?;
     Ok(Known {
         remembered,
@@ -135,18 +144,21 @@ fn known_of_order<S: Store>(
     })
 }
 
-/// What is known of a message on which what is remembered, or that its number is known, decides.
+/// What is known of a message on which what is remembered, or that its number is known, decides. The orders that are kept stay
+/// with it.
 pub(crate) fn known_before(
     alloc: Global,
     remembered: Option<Items<u8>>,
     number_known: bool,
+    orders: KnownOrders,
 ) -> Known
     ensures remembered { result.remembered ≡ remembered }
     ensures number { result.number_known ≡ number_known }
+    ensures orders { result.orders ≡ orders }
 {
     Known {
         remembered,
-        orders: KnownOrders::new(alloc),
+        orders,
         number_known,
         mails: 0,
         used: Items::new(alloc),
@@ -162,18 +174,22 @@ fn names_an_article(answer: &Answer) -> bool {
     }
 }
 
-/// What is known for an ORDRSP, by one look-up, and two more where nothing is remembered. `Unclean` where the order's lines do
-/// not rise by line number, or more of one is open, refused and cancelled than is ordered.
+/// What is known for an ORDRSP, by one look-up, and two more where nothing is remembered and its order is not kept. `Unclean`
+/// where the order's lines do not rise by line number, or more of one is open, refused and cancelled than is ordered.
 pub(crate) fn known_for_response<S: Store>(
     alloc: Global,
     store: &mut S,
     supplier: &Gln,
     incoming: &IncomingMessage,
     response: &Response,
+    orders: KnownOrders,
 ) -> Result<Known, StoreFault>
     ensures told { S.honest store.new → Kept (view supplier.now (S.content store.old)) →
+        KeepsOrders orders (view supplier.now (S.content store.old)) →
         IfOk result (λ known. TellsForResponse known incoming.now response.now
         (view supplier.now (S.content store.old))) }
+    ensures kept { S.honest store.new → KeepsOrders orders (view supplier.now (S.content store.old)) →
+        IfOk result (λ known. KeepsOrders known.orders (view supplier.now (S.content store.old))) }
     ensures unclean { S.honest store.new → S.broken store.old ≡ None →
         are_clean (S.content store.old) ≡ true →
         result ≡ Err Unclean →
@@ -188,9 +204,9 @@ pub(crate) fn known_for_response<S: Store>(
     let message = incoming.message.as_slice();
     let remembered = store.remembered(supplier, Side::Supplier, control, message)?;
     if remembered.is_some() {
-        return Ok(known_before(alloc, remembered, false));
+        return Ok(known_before(alloc, remembered, false, orders));
     }
-    let mut known = known_of_order(alloc, store, supplier, order, remembered)?;
+    let mut known = known_of_order(alloc, store, supplier, order, remembered, orders)?;
     if names_an_article(&response.answer) {
         known.orders.index(alloc, order)?;
     }
@@ -219,7 +235,8 @@ pub(crate) fn known_for_cancel<S: Store>(
     let order = cancel.order.as_slice();
     let control = cancel.reference.as_slice();
     let remembered = store.remembered(supplier, Side::Cancellation, control, &[])?;
-    let known = known_of_order(alloc, store, supplier, order, remembered)?;
+    let none = KnownOrders::new(alloc);
+    let known = known_of_order(alloc, store, supplier, order, remembered, none)?;
     Ok(known)
 }
 

@@ -8,6 +8,7 @@ mod despatches;
 mod incoming;
 mod join;
 mod judged;
+mod keeping;
 mod knowing;
 mod laws;
 mod mailbox;

@@ -1,5 +1,5 @@
 //! One message of an interchange.
-ghost use Rattle.std.specs.Prelude.{◌≡◌};
+ghost use Rattle.std.specs.Prelude.{◌≡◌, OnOk};
 ghost use Rattle.hub_parties.specs.Rows.{parties_of};
 ghost use Rattle.hub_tables.specs.Tables.{Tables, view};
 ghost use Rattle.hub_rules.specs.Laws.{SoundUnder, Registered, PartiesRise};
@@ -10,13 +10,16 @@ ghost use Rattle.hub_transactions.specs.Clean.{WithinMessage};
 ghost use Rattle.hub_transactions.specs.Judged.{act_of, JudgedFits};
 ghost use Rattle.hub_transactions.specs.Messages.{AddsLine};
 ghost use Rattle.hub_transactions.specs.Named.{MessageUnclean};
+ghost use Rattle.hub_transactions.specs.Orders.{KeepsOrders};
 ghost use Rattle.hub_transactions.specs.StaysClean.{JudgedClean, StaysClean};
 ghost use Rattle.hub_texts.specs.Decision.{told_of};
 
 use crate::carrying::{carry_out_judged, told_of_judged};
 use crate::incoming::incoming_of;
 use crate::judged::{Judged, judged_of_retailer, judged_of_supplier};
+use crate::keeping::follow_message;
 use edi_envelope::{Interchange, Moment, RawMessage};
+use hub_order_lines::KnownOrders;
 use hub_parties::SupplierRow;
 use hub_register::Register;
 use hub_store::{Store, StoreFault};
@@ -79,7 +82,9 @@ pub fn take_retailers_message<S: Store>(
     commit_and_tell(alloc, store, message, &judged, reply)
 }
 
-/// Takes a message of a supplier, as `take_retailers_message` does one of the retailer.
+/// Takes a message of a supplier, as `take_retailers_message` does one of the retailer. Orders of the supplier that were looked
+/// up for messages before it are kept: each is looked up once, and follows what is committed. None at first is what
+/// `KnownOrders::new` gives; at a fault they may be forgotten.
 pub fn take_suppliers_message<S: Store>(
     alloc: Global,
     register: &Register,
@@ -88,25 +93,34 @@ pub fn take_suppliers_message<S: Store>(
     moment: Moment,
     interchange: &Interchange,
     message: &RawMessage,
+    orders: &mut KnownOrders,
     reply: &mut Vec<u8>,
 ) -> Result<Decision, StoreFault>
-    ensures carried { Registered register.now.suppliers supplier.now (S.content store.old) →
+    ensures carried { KeepsOrders orders.old (view supplier.now.gln (S.content store.old)) →
+        Registered register.now.suppliers supplier.now (S.content store.old) →
         PartiesRise (S.content store.old) →
         Carried S.content S.honest S.left store.old store.new
         (deliver_suppliers (view supplier.now.gln) (parties_of register.now) supplier.now
         (message.now, incoming moment interchange.now message.now)) told_of result }
+    ensures kept { S.honest store.new → KeepsOrders orders.old (view supplier.now.gln (S.content store.old)) →
+        Registered register.now.suppliers supplier.now (S.content store.old) →
+        PartiesRise (S.content store.old) →
+        OnOk result (KeepsOrders orders.new (view supplier.now.gln (S.content store.new))) }
     ensures fails { FailsWith S.plain (S.honest store.new →
         MessageUnclean message.now (view supplier.now.gln (S.content store.old)))
         (OfAny (deliver_suppliers (view supplier.now.gln) (parties_of register.now) supplier.now
         (message.now, incoming moment interchange.now message.now)) told_of) (S.broken store.old) (S.broken store.new) result }
     ensures unharmed { Unharmed S.content S.honest store.old store.new result }
-    ensures clean { Registered register.now.suppliers supplier.now (S.content store.old) →
+    ensures clean { KeepsOrders orders.old (view supplier.now.gln (S.content store.old)) →
+        Registered register.now.suppliers supplier.now (S.content store.old) →
         PartiesRise (S.content store.old) →
         WithinMessage message.now (incoming moment interchange.now message.now) →
         StaysClean S.content S.honest S.broken store.old store.new result }
     ensures reply { AddsLine message.now reply.old reply.new result }
 {
     let came = incoming_of(alloc, moment, interchange, message)?;
-    let judged = judged_of_supplier(alloc, register, supplier, store, message, came)?;
-    commit_and_tell(alloc, store, message, &judged, reply)
+    let judged = judged_of_supplier(alloc, register, supplier, store, message, came, orders)?;
+    let told = commit_and_tell(alloc, store, message, &judged, reply);
+    follow_message(&judged, orders);
+    told
 }

@@ -7,7 +7,7 @@ use Rattle.hub_core.proofs.Callers.{holds_after, parties_rise}
 use Rattle.hub_core.proofs.upload.take_message.Goals as goal
 
 pub returns-in-Retailer-clause-may : goal.returns-in-Retailer-clause-may
-returns-in-Retailer-clause-may g c honest = rw c.in-Retailer.is (λ (may : SoundUnder c.args.upload.now.register.now.suppliers
+returns-in-Retailer-clause-may g c honest kept = rw c.in-Retailer.is (λ (may : SoundUnder c.args.upload.now.register.now.suppliers
     (g.S.Store.content c.args.store.now) × PartiesRise (g.S.Store.content c.args.store.now)).
     let register = c.args.upload.now.register.now in
     let message = c.args.message.now in

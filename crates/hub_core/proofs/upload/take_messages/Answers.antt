@@ -11,9 +11,11 @@ use Rattle.hub_law.specs.Widths.{line}
 use Rattle.hub_requests.specs.declared.reply.Outcome.TheVariants.{Stopped}
 use Rattle.hub_texts.specs.Decision.{told_of}
 use Rattle.hub_transactions.specs.Acts.{OfAny}
-use Rattle.hub_core.specs.Callers.{delivered}
+use Rattle.hub_order_lines.specs.Book.{Orders}
+use Rattle.hub_core.specs.Callers.{delivered, KeepsFor}
 use Rattle.hub_core.specs.Steps.{OneMore}
 use Rattle.hub_core.specs.Uploads.{DoneSoFar}
+use Rattle.hub_core.proofs.Callers.{none_kept_for}
 use Rattle.hub_core.proofs.Breaking.{failed, stopped_by, where_both, where_some}
 use Rattle.hub_core.proofs.SoFar.{sent_at, so_far_none, so_far_more, so_far_then, uploaded_stopped, uploaded_whole}
 use Rattle.hub_core.proofs.upload.take_messages.Goals as goal
@@ -23,6 +25,8 @@ loop-message-init g c = record {
   room = c.requires.room;
   was_honest = λ h. h;
   may = λ h m. m;
+  kept = λ h m. subst (λ (orders : Orders). KeepsFor c.args.upload.now.caller orders (g.S.Store.content c.args.store.now))
+      (sym c.new-orders.ensures) (none_kept_for c.args.upload.now.caller (g.S.Store.content c.args.store.now));
   broken = refl;
   unasked =
       where_some (g.S.Store.broken c.args.store.now) (λ (t : Tables).
@@ -59,7 +63,7 @@ returns-in_default-clause-answered g c honest may =
           c.loop-message.refused
           c.loop-message.reply.items below far
           ∙ (λ i. (record { outcome = Stopped; refused = c.loop-message.refused; body = sym body i }, sym same i));
-      leaves = λ u l. elim ((c.in_default.ensures.carried (c.loop-message.invariant.may was may)).crash honest u l) [
+      leaves = λ u l. elim ((c.in_default.ensures.carried (c.loop-message.invariant.kept was may) (c.loop-message.invariant.may was may)).crash honest u l) [
         | inl e ↦ elim (c.loop-message.invariant.left was may u e) [
           | inl a ↦ inl (a ∙ sym same)
           | inr b ↦ inr (inl (same ∙ b.0, b.1))
@@ -106,8 +110,12 @@ loop-message-preserved g c =
     record {
       room = c.take_message.ensures.reply.room c.loop-message.invariant.room;
       was_honest = λ h. c.loop-message.invariant.was_honest (c.take_message.ensures.unharmed.was_honest h);
-      may = λ h m. c.take_message.ensures.may h
-          (c.loop-message.invariant.may (c.take_message.ensures.unharmed.was_honest h) m);
+      may = λ h m.
+          let was = c.take_message.ensures.unharmed.was_honest h in
+          c.take_message.ensures.may h (c.loop-message.invariant.kept was m) (c.loop-message.invariant.may was m);
+      kept = λ h m.
+          let was = c.take_message.ensures.unharmed.was_honest h in
+          c.in-Ok.ensures.kept h (c.loop-message.invariant.kept was m) (c.loop-message.invariant.may was m);
       broken = c.in-Ok.ensures.fails.after ∙ c.loop-message.invariant.broken;
       unasked =
           where_both (g.S.Store.broken c.args.store.now) c.loop-message.invariant.unasked
@@ -118,10 +126,10 @@ loop-message-preserved g c =
       so_far = λ h m.
           let was = c.take_message.ensures.unharmed.was_honest h in
           more t before after (c.loop-message.invariant.so_far was m)
-          ((c.in-Ok.ensures.carried (c.loop-message.invariant.may was m)).done h);
+          ((c.in-Ok.ensures.carried (c.loop-message.invariant.kept was m) (c.loop-message.invariant.may was m)).done h);
       left = λ h m u l.
           let was = c.take_message.ensures.unharmed.was_honest h in
-          elim ((c.in-Ok.ensures.carried (c.loop-message.invariant.may was m)).durable h u l) [
+          elim ((c.in-Ok.ensures.carried (c.loop-message.invariant.kept was m) (c.loop-message.invariant.may was m)).durable h u l) [
             | inl e ↦ inl e
             | inr e ↦ elim (c.loop-message.invariant.left was m u e.1) [
               | inl a ↦ inl (a ∙ sym e.0)

@@ -1,18 +1,30 @@
-use Rattle.std.proofs.Common.{◌≡◌, ℕ, true, List, is_some, map, sym, subst, ap, ap₂, ◌∙◌}
+use Rattle.std.proofs.Common.{◌≡◌, ℕ, true, List, is_some, map, sym, ap, ap₂, ◌∙◌}
 use Rattle.std.proofs.lemmas.Bool.{true≢false}
 use Rattle.hub_tables.specs.Tables.{view, has_pallet}
 use Rattle.hub_order_lines.specs.Book.{Orders}
 use Rattle.hub_order_lines.specs.KnownOrders.{is_kept}
 use Rattle.hub_judges.specs.Known.{names_order}
-use Rattle.hub_transactions.specs.Orders.{KeepsOrders}
-use Rattle.hub_transactions.proofs.LookUps.{none_kept}
+use Rattle.hub_transactions.proofs.KeptOrders.{keeps_through}
 use Rattle.hub_transactions.proofs.Named.{seen_is_there}
 use Rattle.hub_transactions.proofs.despatches.known_for_despatch.Goals as goal
 use Rattle.hub_transactions.proofs.despatches.known_for_despatch.Goals.{then-is_some-via-then-is_some}
 use Rattle.hub_transactions.proofs.despatches.known_for_despatch.Goals.{then-is_some-via-else-is_some+then-number_known}
 
+pub returns-clause-kept : goal.returns-clause-kept
+returns-clause-kept g c = λ honest old.
+    let supplier = c.args.supplier.now in
+    let third = c.in_ok-keep_orders.ensures.stays.was_honest honest in
+    let second = c.in_ok-used.ensures.stays.was_honest third in
+    let first = c.advice_known.ensures.looks.was_honest second in
+    let one = c.remembered.ensures.looks.content_stays first in
+    let two = c.advice_known.ensures.looks.content_stays second in
+    let three = c.in_ok-used.ensures.stays.content_stays third in
+    keeps_through c.args.orders c.keep_orders.new.orders c.index_units.new.orders
+    (view supplier (g.S.Store.content c.args.store.now)) (view supplier (g.S.Store.content c.used_of.new.store))
+    (ap (view supplier) (three ∙ two ∙ one)) c.index_units.ensures (c.in_ok-keep_orders.ensures.kept honest) old
+
 pub returns-clause-told : goal.returns-clause-told
-returns-clause-told g c = λ honest kept.
+returns-clause-told g c = λ honest kept old.
     let supplier = c.args.supplier.now in
     let t = g.S.Store.content c.args.store.now in
     let state = view supplier t in
@@ -26,12 +38,10 @@ returns-clause-told g c = λ honest kept.
     let known = c.in_ok-number_known.ensures.looks.answers second in
     let numbers = map (λ number. number.now) c.in_ok-named.named.keys in
     let same_state = ap (view supplier) (three ∙ two ∙ one) in
-    let here = view supplier (g.S.Store.content c.used_of.new.store) in
-    let keeps : KeepsOrders c.index_units.new.orders state =
-    subst (λ (orders : Orders). KeepsOrders orders state) (sym c.index_units.ensures)
-    (subst (KeepsOrders c.keep_orders.new.orders) same_state
-    (c.in_ok-keep_orders.ensures.kept honest
-    (subst (λ (orders : Orders). KeepsOrders orders here) (sym c.new-orders.ensures) (none_kept here)))) in
+    let keeps =
+    keeps_through c.args.orders c.keep_orders.new.orders c.index_units.new.orders state
+    (view supplier (g.S.Store.content c.used_of.new.store)) same_state c.index_units.ensures
+    (c.in_ok-keep_orders.ensures.kept honest) old in
     let are_kept : (order : List ℕ) → names_order c.args.despatch.now.units order ≡ true → is_kept c.index_units.new.orders order ≡ true =
     λ order names.
     ap (λ (orders : Orders). is_kept orders order) c.index_units.ensures
@@ -52,7 +62,7 @@ returns-clause-told g c = λ honest kept.
     }
 
 pub returns-then-is_some-clause-told : goal.returns-then-is_some-clause-told
-returns-then-is_some-clause-told g c = λ honest kept.
+returns-then-is_some-clause-told g c = λ honest kept old.
     let t = g.S.Store.content c.args.store.now in
     let first = c.advice_known.ensures.looks.was_honest honest in
     let one = c.remembered.ensures.looks.content_stays first in

@@ -1,25 +1,34 @@
 use Rattle.std.proofs.Common.{rules, ◌≡◌, Some, Err, sym, subst, ap, ◌∙◌}
-use Rattle.hub_rules.specs.Rules.{judge_response}
+use Rattle.hub_rules.specs.RepeatRules.{judge_once}
+use Rattle.hub_rules.specs.ResponseRules.{judge_new_response}
+use Rattle.hub_rules.specs.Rules.{judge_response, referred_by}
+use Rattle.hub_tables.specs.declared.cases.Side.TheVariants.{Supplier}
+use Rattle.std.proofs.lemmas.Result.{IfOk-weaker}
 use Rattle.hub_rules.specs.declared.verdict.Verdict.{Verdict}
+use Rattle.hub_rules.specs.declared.verdict.Verdict.TheVariants.{Refuse}
 use Rattle.hub_tables.specs.State.{lines_of}
 use Rattle.hub_tables.specs.Tables.{view}
 use Rattle.hub_order_lines.specs.KnownLines.{AreUnclean}
 use Rattle.hub_law.specs.Told.{read_act}
 use Rattle.edi_orders.specs.declared.response.Response.{Response}
-use Rattle.hub_transactions.specs.Judged.{VerdictFits}
+use Rattle.hub_order_lines.specs.Book.{Orders}
+use Rattle.hub_transactions.specs.Judged.{JudgedFits, VerdictFits}
+use Rattle.hub_transactions.specs.Orders.{KeepsOrders}
 use Rattle.hub_transactions.specs.StaysClean.{VerdictClean}
+use Rattle.hub_transactions.specs.declared.judged.Judged.TheVariants.{Read}
 use Rattle.hub_transactions.proofs.CleanActs.{failed_clean, response_clean}
 use Rattle.hub_transactions.proofs.Fitted.{verdict_fits}
-use Rattle.hub_transactions.proofs.Reading.{act_of_read}
+use Rattle.hub_transactions.proofs.Reading.{act_of_read, act_refused}
 use Rattle.hub_transactions.proofs.judged.judged_response.Goals as goal
 
 pub returns-clause-judged : goal.returns-clause-judged
-returns-clause-judged g c = record {
+returns-clause-judged g c = λ old. record {
   told = λ honest kept.
       let s = c.args.supplier.now in
       let t = g.S.Store.content c.args.store.now in
       let response = c.in-Ok.response in
-      let told = c.in_ok-known.ensures.told honest kept in
+      let told = c.in_ok-known.ensures.told honest kept
+      (subst (λ (orders : Orders). KeepsOrders orders (view s.gln t)) (sym c.replace-kept.ensures.value) old) in
       let retailer = c.retailer-retailer.ensures.value in
       let judge : Response → Verdict =
       λ response. judge_response c.args.register.now.retailer (Some s) c.args.incoming response (view s.gln t) in
@@ -30,7 +39,8 @@ returns-clause-judged g c = record {
       let s = c.args.supplier.now in
       let t = g.S.Store.content c.args.store.now in
       let response = c.in-Ok.response in
-      let told = c.in_ok-known.ensures.told honest (here.sound.kept s.gln) in
+      let told = c.in_ok-known.ensures.told honest (here.sound.kept s.gln)
+      (subst (λ (orders : Orders). KeepsOrders orders (view s.gln t)) (sym c.replace-kept.ensures.value) old) in
       let verdict = c.in_ok-verdict.ensures (view s.gln t) told
       ∙ ap (λ gln. judge_response gln (Some s) c.args.incoming response (view s.gln t)) c.retailer-retailer.ensures.value in
       subst (λ verdict. VerdictFits verdict t) (sym verdict) (verdict_fits _ t (λ changes accepted.
@@ -39,14 +49,15 @@ returns-clause-judged g c = record {
 }
 
 pub returns-clause-clean : goal.returns-clause-clean
-returns-clause-clean g c = λ here within. record {
+returns-clause-clean g c = λ old here within. record {
   never = λ honest none clean is. cc;
   leaves = λ honest clean.
       let register = c.args.register.now in
       let s = c.args.supplier.now in
       let t = g.S.Store.content c.args.store.now in
       let response = c.in-Ok.response in
-      let told = c.in_ok-known.ensures.told honest (here.sound.kept s.gln) in
+      let told = c.in_ok-known.ensures.told honest (here.sound.kept s.gln)
+      (subst (λ (orders : Orders). KeepsOrders orders (view s.gln t)) (sym c.replace-kept.ensures.value) old) in
       let verdict = c.in_ok-verdict.ensures (view s.gln t) told
       ∙ ap (λ gln. judge_response gln (Some s) c.args.incoming response (view s.gln t)) c.retailer-retailer.ensures.value in
       subst (λ verdict. VerdictClean verdict t) (sym verdict) (response_clean register c.retailer-retailer.ensures.register t clean
@@ -54,7 +65,7 @@ returns-clause-clean g c = λ here within. record {
 }
 
 pub returns-in_err-known-clause-clean : goal.returns-in_err-known-clause-clean
-returns-in_err-known-clause-clean g c = λ here within.
+returns-in_err-known-clause-clean g c = λ old here within.
     let suppliers = c.args.register.now.suppliers in
     let s = c.args.supplier.now in
     let t = g.S.Store.content c.args.store.now in
@@ -65,3 +76,20 @@ returns-in_err-known-clause-clean g c = λ here within.
     (AreUnclean (lines_of (view s.gln t) response.order))
     (c.lines_of_sound_tables_are_known.ensures.order suppliers s.gln response.order t here.sound)
     fault c.in_err-known.ensures.unclean c.from_residual.result is
+
+pub returns-in-Some-clause-judged : goal.returns-in-Some-clause-judged
+returns-in-Some-clause-judged g c = λ old. record {
+  told = λ honest kept.
+      let s = c.args.supplier.now in
+      let t = g.S.Store.content c.args.store.now in
+      let response = c.in-Ok.response in
+      let judge : Response → Verdict = λ response. judge_response c.args.register.now.retailer (Some s) c.args.incoming response (view s.gln t) in
+      let refusal : judge response ≡ Refuse c.in-Some.code =
+      ap (λ gln. judge_response gln (Some s) c.args.incoming response (view s.gln t)) (sym c.retailer-retailer.ensures.value) ∙ c.in-Some.ensures.some
+      (λ row. judge_once (referred_by row Supplier c.args.incoming) c.args.incoming.content (judge_new_response response) (view s.gln t)) in
+      IfOk-weaker c.refuse.result (λ judged. judged ≡ Read (Refuse c.in-Some.code)) _ (λ judged is.
+      ap (λ read. read_act read judge t) c.in-Ok.ensures.ok ∙ act_refused judge response c.in-Some.code judged t refusal is)
+      c.refuse.ensures.refused;
+  fit = λ honest here rise. IfOk-weaker c.refuse.result (λ judged. judged ≡ Read (Refuse c.in-Some.code)) _
+      (λ judged is. subst (λ judged. JudgedFits judged (g.S.Store.content c.args.store.now)) (sym is) tt) c.refuse.ensures.refused;
+}

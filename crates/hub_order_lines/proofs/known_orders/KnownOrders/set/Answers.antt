@@ -29,7 +29,7 @@ returns c is_true =
           subst (λ (orders : Orders). Follows (SetLine row ∷ []) orders (map shown c.match-get_mut.self-inside.orders.entries))
           c.self.view_is
           (subst (λ inside. Follows (SetLine row ∷ []) (map shown es) (map shown inside.orders.entries)) (sym w.self-inside-is)
-          (kept_set row es known set new found becomes refl (w.set.ensures.set (sym w.result-is ∙ is_true))))
+          (kept_set row es known set new found becomes refl (w.set.ensures.set (sym w.result-is ∙ is_true)) w.set.ensures.adds_up))
       | in-None w ↦
           let none : lookup (at row.number) es ≡ None =
           subst (λ (number : List ℕ). lookup (at number) es ≡ None) number_is
