@@ -1,4 +1,5 @@
 pub mod Afterwards
+pub mod Announced
 pub mod Bytes
 pub mod CancelWithin
 pub mod CleanActs

@@ -1,12 +1,16 @@
 -- When a status report is not written.
-use Rattle.std.specs.Prelude.{◌≡◌, ◌⊎◌, ◌^◌, ◌≤◌, false, List, sum_by, None}
+use Rattle.std.specs.Prelude.{◌≡◌, ◌⊎◌, ◌^◌, ◌≤◌, true, false, List, [], sum_by, None}
 use Rattle.hub_tables.specs.Sets.{Has}
-use Rattle.hub_tables.specs.State.{contents_of, receipts_of}
+use Rattle.hub_tables.specs.State.{contents_of, receipts_of, is_announced}
 use Rattle.hub_tables.specs.Tables.{Tables}
 use Rattle.hub_tables.specs.declared.rows.LineRow.{LineRow}
 use Rattle.hub_tables.specs.declared.rows.PalletRow.{PalletRow}
 use Rattle.hub_order_lines.specs.KnownLines.{steps_up}
 use Rattle.hub_texts.specs.Totals.{IsUnclean, pieces_of}
+
+-- of a pallet that is announced nothing was received
+abbrev pub NoneReceived : Tables → PalletRow → Type 0
+NoneReceived state pallet = is_announced pallet ≡ true → receipts_of state pallet.sscc ≡ []
 
 -- a content of one of the pallets names no line, or a sum of its pieces is past 64 bits
 pub record PalletUnclean (state : Tables) (lines : List LineRow) (pallets : List PalletRow) : Type 0 where

@@ -1,9 +1,11 @@
 //! The status report of a supplier.
-ghost use Rattle.std.specs.Prelude.{◌≡◌, ◌⊎◌, ◌++◌, true, None, Err, IfOk, IfErr};
+ghost use Rattle.std.specs.Prelude.{◌≡◌, ◌≢◌, ◌⊎◌, ◌++◌, [], true, None, Err, IfOk, IfErr, OnOk};
 ghost use Rattle.std.specs.List.{flat_map};
 ghost use Rattle.hub_parties.specs.KeyOrder.{Rises};
+ghost use Rattle.hub_tables.specs.Sets.{Has};
 ghost use Rattle.hub_tables.specs.State.{contents_of, receipts_of};
 ghost use Rattle.hub_tables.specs.Tables.{Tables, view};
+ghost use Rattle.hub_tables.specs.declared.rows.PalletRow.{PalletRow};
 ghost use Rattle.hub_store.specs.Clean.{are_clean};
 ghost use Rattle.hub_store.specs.declared.fault.StoreFault.TheVariants.{Memory, Unclean};
 ghost use Rattle.hub_rules.specs.Sound.{Kept};
@@ -11,8 +13,8 @@ ghost use Rattle.hub_order_lines.specs.Book.{place_cmp};
 ghost use Rattle.hub_law.specs.Replies.{done};
 ghost use Rattle.hub_law.specs.StatusText.{pallet_text, status_text};
 ghost use Rattle.hub_texts.specs.Totals.{IsUnclean};
-ghost use Rattle.hub_transactions.specs.Acts.{FailsWith, Stays, any_answer, no_answer};
-ghost use Rattle.hub_transactions.specs.Status.{PalletUnclean, StatusUnclean};
+ghost use Rattle.hub_transactions.specs.Acts.{FailsWith, NoCause, Stays, any_answer, no_answer};
+ghost use Rattle.hub_transactions.specs.Status.{NoneReceived, PalletUnclean, StatusUnclean};
 
 use crate::mailbox::done_reply;
 use edi_base::Items;
@@ -20,7 +22,7 @@ use gs1_ids::Gln;
 use hub_order_lines::rise;
 use hub_requests::Reply;
 use hub_store::{Store, StoreFault};
-use hub_tables::{ContentRow, LineRow, PalletRow, ReceiptRow};
+use hub_tables::{Arrival, ContentRow, LineRow, PalletRow, ReceiptRow};
 use hub_texts::{TextFault, with_lines, with_pallet};
 use std::alloc::Global;
 
@@ -48,6 +50,31 @@ fn with_text(
     }
 }
 
+// What was received of a pallet. Of one that is announced nothing was, and nothing is looked up.
+fn received_of<S: Store>(
+    alloc: Global,
+    store: &mut S,
+    supplier: &Gln,
+    pallet: &PalletRow,
+) -> Result<Items<ReceiptRow>, StoreFault>
+    ensures rows { S.honest store.new → NoneReceived (view supplier.now (S.content store.old)) pallet.now →
+        IfOk result (λ rows. rows ≡ receipts_of (view supplier.now (S.content store.old)) pallet.now.sscc) }
+    ensures some { S.honest store.new →
+        IfOk result (λ rows. (rows ≡ [])
+        ⊎ (rows ≡ receipts_of (view supplier.now (S.content store.old)) pallet.now.sscc)) }
+    ensures unclean { S.honest store.new → S.broken store.old ≡ None →
+        are_clean (S.content store.old) ≡ true → result ≢ Err Unclean }
+    ensures goes_on { OnOk result (S.broken store.new ≡ S.broken store.old) }
+    ensures fails { FailsWith S.plain NoCause any_answer (S.broken store.old) (S.broken store.new) result }
+    ensures stays { Stays S.content S.honest S.left store.old store.new }
+{
+    if pallet.received.case() == Arrival::Announced {
+        return Ok(Items::new(alloc));
+    }
+    let received = store.receipts_of(supplier, &pallet.sscc)?;
+    Ok(received)
+}
+
 // A text with the lines of pallets behind it, with what is looked up of each.
 fn with_pallets<S: Store>(
     alloc: Global,
@@ -59,6 +86,8 @@ fn with_pallets<S: Store>(
 ) -> Result<Vec<u8>, StoreFault>
     requires { Rises place_cmp lines.now }
     ensures text { S.honest store.new → (view supplier.now (S.content store.old)).lines ≡ lines.now →
+        ((pallet : PalletRow) → Has pallets.now pallet →
+        NoneReceived (view supplier.now (S.content store.old)) pallet) →
         IfOk result (λ whole. whole.items ≡ text.items
         ++ flat_map (pallet_text (view supplier.now (S.content store.old))) pallets.now) }
     ensures unclean { S.honest store.new → S.broken store.old ≡ None →
@@ -72,7 +101,7 @@ fn with_pallets<S: Store>(
     let mut whole = text;
     for pallet in pallets {
         let announced = store.contents_of(supplier, &pallet.sscc)?;
-        let received = store.receipts_of(supplier, &pallet.sscc)?;
+        let received = received_of(alloc, store, supplier, pallet)?;
         let contents = announced.as_slice();
         let receipts = received.as_slice();
         whole = with_text(alloc, lines, pallet, contents, receipts, whole)?;
@@ -80,8 +109,8 @@ fn with_pallets<S: Store>(
     Ok(whole)
 }
 
-/// The status report of a supplier: its lines, then its pallets, by two look-ups and two for each pallet. Where rows do
-/// not rise by order number and line number, or a content names no line, there is none: `Unclean`.
+/// The status report of a supplier: its lines, then its pallets, by two look-ups, one for each pallet and one more for each that
+/// was received. Where rows do not rise by order number and line number, or a content names no line, there is none: `Unclean`.
 pub fn status_report<S: Store>(
     alloc: Global,
     store: &mut S,
