@@ -15,6 +15,7 @@ pub mod OfLines
 pub mod Single
 pub mod OfPallets
 pub mod Joining
+pub mod OfNumbers
 pub mod OfKinds
 pub mod OfGoods
 pub mod Comparing

@@ -1,12 +1,12 @@
 -- What a query finds of lines.
-use Rattle.std.proofs.Common.{◌≡◌, ℕ, ◌+◌, ◌<◌, ◌^◌, nat_le, Bool, true, false, ◌&&◌, Result, IfOk, List, [], ◌∷◌, map}
-use Rattle.std.proofs.Common.{filter, refl, sym, ap, ap₂, subst, ◌∙◌}
+use Rattle.std.proofs.Common.{◌≡◌, ℕ, ◌+◌, ◌==◌, ◌<◌, ◌^◌, nat_le, Bool, true, false, ◌&&◌, Result, IfOk, List, [], ◌∷◌, pos}
+use Rattle.std.proofs.Common.{map, filter, arith, refl, sym, ap, ap₂, subst, ◌∙◌}
 use Rattle.std.specs.List.{AllByRecursion, list_all}
 use Rattle.std.proofs.lemmas.Bool.{and_parts}
 use Rattle.gs1_ids.specs.Digits.{is_key}
 use Rattle.gs1_ids.specs.Gln.{is_gln}
 use Rattle.std.specs.Ordering.{ordering_then}
-use Rattle.sqlite_value.specs.declared.value.Value.TheVariants.{Blob}
+use Rattle.sqlite_value.specs.declared.value.Value.TheVariants.{Blob, Int}
 use Rattle.sqlite_value.specs.Order.{Row, column}
 use Rattle.sqlite_sql.specs.Term.{Term}
 use Rattle.sqlite_sql.specs.Query.{IsAnswer, sort_cmp}
@@ -14,6 +14,7 @@ use Rattle.sqlite_sql.specs.Program.{overlay}
 use Rattle.sqlite.specs.State.{State}
 use Rattle.sql_rows.specs.Cells.{AreOf}
 use Rattle.hub_store.specs.Clean.{are_clean, clean_line, is_answer, is_line, is_number, is_quantity}
+use Rattle.hub_store.specs.Lines.{lines_numbered}
 use Rattle.hub_store.specs.declared.fault.StoreFault.{StoreFault}
 use Rattle.hub_tables.specs.Rows.{same, line_cmp}
 use Rattle.hub_tables.specs.State.{lines_of}
@@ -26,13 +27,14 @@ use Rattle.hub_schema.proofs.Single.{line_kinds, line_cells, hub_rises}
 use Rattle.hub_reads.specs.Asks.{Asks}
 use Rattle.hub_reads.proofs.Asking.{reads_more}
 use Rattle.hub_reads.specs.Shown.{shown_line}
-use Rattle.hub_reads.proofs.Counting.{cell_bytes, all_such}
+use Rattle.hub_reads.proofs.Counting.{cell_bytes, cell_number, all_such}
 use Rattle.hub_reads.proofs.Finding.{all_of, no_limit, passes, Finds, finds}
 use Rattle.hub_reads.proofs.Listing.{shown_say, sources_have, sources_are, sources_sorted, sources_spoil, all_of_map}
 use Rattle.hub_reads.proofs.Listing.{all_both, all_then, filter_both}
 use Rattle.hub_reads.proofs.Looking.{looks}
 use Rattle.hub_reads.proofs.Ranking.{then_none, rank_bytes, rank_numbers, low_number}
 use Rattle.hub_reads.proofs.Texts.{given_at, line_columns, line_order, lines_text, lines_select, all_lines_text, all_lines_select}
+use Rattle.hub_reads.proofs.Texts.{numbered_tests, numbered_text, numbered_select}
 use Rattle.hub_reads.proofs.Unclean.{lines_unclean}
 use Rattle.sql_rows.proofs.Answers.{and_true}
 
@@ -106,6 +108,25 @@ lines_look old new supplier number result clean asks =
     looks lines_select _ _ _ params old new
     (λ hub rows answer items it. it.0 ∙ lines_are old hub _ params rows answer _ passed (subst AreClean it.0 it.1)
     ∙ sym (filter_both (λ line. same line.supplier supplier) (λ line. same line.number number) (tables_in old.now.trees).lines))
+    (λ hub rows answer spoilt. lines_spoil old hub _ params rows answer spoilt) result (reads_more AreClean result clean asks)
+
+pub numbered_look : (old new : State) (supplier number : List ℕ) (n : ℕ) → n < 2 ^ 32 → (result : Result (List LineRow) StoreFault)
+    → IfOk result AreClean → Asks Reads Spoil numbered_text (Blob supplier ∷ Blob number ∷ Int (pos n) ∷ []) old new result
+    → LooksUp (λ t. lines_numbered (view supplier t) number n) old new result
+numbered_look old new supplier number n low result clean asks =
+    let params = Blob supplier ∷ Blob number ∷ Int (pos n) ∷ [] in
+    let whose : LineRow → Bool = λ line. same line.supplier supplier in
+    let of_order : LineRow → Bool = λ line. same line.number number in
+    let at : LineRow → Bool = λ line. line.line == n in
+    let lines = (tables_in old.now.trees).lines in
+    let passed : (row : Row) → AreOf line_kinds 0 row → passes
+    numbered_tests params row ≡ (whose (line_in row) && (of_order (line_in row) && at (line_in row))) =
+    λ row it. ap₂ (λ v w. v && w) (cell_bytes (column row 1) supplier it.0)
+    (ap₂ (λ v w. v && w) (cell_bytes (column row 2) number it.1.0)
+    (and_true _ ∙ cell_number (column row 3) n (omega (arith, low)) it.1.1.0)) in
+    looks numbered_select _ _ _ params old new
+    (λ hub rows answer items it. it.0 ∙ lines_are old hub _ params rows answer _ passed (subst AreClean it.0 it.1)
+    ∙ sym (filter_both of_order at (filter whose lines) ∙ filter_both whose (λ line. of_order line && at line) lines))
     (λ hub rows answer spoilt. lines_spoil old hub _ params rows answer spoilt) result (reads_more AreClean result clean asks)
 
 pub all_lines_look : (old new : State) (supplier : List ℕ) (result : Result (List LineRow) StoreFault) → IfOk result AreClean

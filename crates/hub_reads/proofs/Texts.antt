@@ -84,6 +84,18 @@ pub lines_select : Selects lines_text (all_of 3 (given_at 1 0 ∷ given_at 2 1 �
 unfolding understood everything
 lines_select = record { first = refl; plain = (refl, refl); unlisted = refl; is = refl }
 
+abbrev pub numbered_tests : List Term
+numbered_tests = given_at 1 0 ∷ given_at 2 1 ∷ given_at 3 2 ∷ []
+
+abbrev pub numbered_text : List ℕ
+numbered_text =
+    codes "SELECT supplier, number, line, gtin, ordered, open_qty, refused, cancelled, answer FROM line "
+    ++ codes "WHERE supplier = ?1 AND number = ?2 AND line = ?3 ORDER BY supplier, number, line"
+
+pub numbered_select : Selects numbered_text (all_of 3 numbered_tests line_columns line_order) line_names
+unfolding understood everything
+numbered_select = record { first = refl; plain = (refl, refl); unlisted = refl; is = refl }
+
 abbrev pub all_lines_text : List ℕ
 all_lines_text =
     codes "SELECT supplier, number, line, gtin, ordered, open_qty, refused, cancelled, answer FROM line "

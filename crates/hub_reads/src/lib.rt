@@ -19,7 +19,7 @@ mod values;
 pub use advice::advice_known;
 pub use content::contents_of;
 pub use fitting::fits;
-pub use line::{all_lines, lines_of};
+pub use line::{all_lines, lines_at, lines_of};
 pub use mail::{last_mail, mail_after, mail_item};
 pub use number::is_numbered;
 pub use order::order_known;

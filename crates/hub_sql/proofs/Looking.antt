@@ -4,6 +4,7 @@ use Rattle.std.proofs.Common.{refl, sym, ap, subst, ◌∙◌}
 use Rattle.std.specs.List.{last_or}
 use Rattle.std.specs.Option.{IfSome}
 use Rattle.sqlite.specs.Held.{state}
+use Rattle.sqlite.specs.Schema.{Schema}
 use Rattle.sqlite_trees.specs.declared.store.Store.{Ghosts}
 use Rattle.sql_rows.proofs.Transactions.{clean_before}
 use Rattle.hub_parties.specs.Rows.{RegisterRows}
@@ -127,6 +128,17 @@ module _ {S : Type 0} (g : Ghosts S) {kept : Option RegisterRows} {marks : Marks
             let shown = on_ok_of found x is (looks.same clean) in
             ap (λ d. d.schema) shown.2 ∙ settled.schema whole (back clean)
         schema (Err f) is usable clean none = usable none
+
+-- the same of the store as its view shows it; what the call on the connection says comes last, so that it can be searched for
+pub looked_as_seen : {S X : Type 0} (g : Ghosts S) {kept : Option RegisterRows} {marks : Marks} {old new seen : Stored S}
+    {schema : Schema} {found result : Result X StoreFault}
+    → old ≡ seen → IsSettled g kept marks old → old.fault ≡ None → new.past ≡ old.past → (answer : Tables → X)
+    → Settles found schema result new.fault → schema ≡ new.held.schema
+    → LooksUp answer (state g old.held) (state g new.held) found
+    → Looks (content g) (honest g) (left g) (λ s. s.fault) seen new (answer (content g seen)) result
+looked_as_seen g {kept} {marks} {old} {new} {seen} {schema} {found} {result} is settled whole past answer makes shown looks =
+    subst (λ s. Looks (content g) (honest g) (left g) (λ s. s.fault) s new (answer (content g s)) result) is
+    (looked g old new settled whole past answer found result looks (subst (λ s. Settles found s result new.fault) shown makes))
 
 -- a store with a fault for good answers it, and stays as it is
 module _ {S : Type 0} (g : Ghosts S) (s : Stored S) {X : Type 0} (result : Result X StoreFault) (good : LastingFault)

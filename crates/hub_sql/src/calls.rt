@@ -13,6 +13,7 @@ use hub_register::Register;
 use hub_store::{LastingFault, MailHead, Store, StoreFault};
 use hub_tables::{Change, ContentRow, LineRow, MailRow, PalletRow, ReceiptRow, Side};
 use sqlite::Alter;
+use std::collections::BTreeSet;
 
 impl<S: Alter> Store for SqliteStore<S> {
     ghost use Rattle.hub_sql.specs.Stored.{content, honest, left};
@@ -75,6 +76,19 @@ impl<S: Alter> Store for SqliteStore<S> {
             return Err(again(lasting));
         }
         let found = hub_reads::lines_of(&mut self.conn, self.alloc, supplier, number);
+        settle(found, self.conn.schema(), &mut self.fault)
+    }
+
+    fn lines_at(
+        &mut self,
+        supplier: &Gln,
+        number: &[u8],
+        lines: &BTreeSet<u32>,
+    ) -> Result<Items<LineRow>, StoreFault> {
+        if let Some(lasting) = self.fault {
+            return Err(again(lasting));
+        }
+        let found = hub_reads::lines_at(&mut self.conn, self.alloc, supplier, number, lines);
         settle(found, self.conn.schema(), &mut self.fault)
     }
 

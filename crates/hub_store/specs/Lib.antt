@@ -1,3 +1,4 @@
 pub mod Calls
 pub mod Clean
 pub mod Heads
+pub mod Lines

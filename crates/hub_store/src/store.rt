@@ -6,6 +6,7 @@ ghost use Rattle.hub_tables.specs.State.{last_mail, remembered_content};
 ghost use Rattle.hub_tables.specs.Tables.{Tables, view, has_pallet};
 ghost use Rattle.hub_store.specs.Calls.{Fails, Looks, Commits, ReadsRegister};
 ghost use Rattle.hub_store.specs.Heads.{head_of};
+ghost use Rattle.hub_store.specs.Lines.{lines_at};
 ghost use Rattle.hub_store.specs.declared.fault.LastingFault.{LastingFault as Lasting};
 
 use crate::fault::{LastingFault, StoreFault};
@@ -14,6 +15,7 @@ use edi_base::Items;
 use gs1_ids::{Gln, Sscc};
 use hub_register::Register;
 use hub_tables::{Change, ContentRow, LineRow, MailRow, PalletRow, ReceiptRow, Side};
+use std::collections::BTreeSet;
 
 /// Where the rows of a hub are kept. Look-ups but `used` are for one supplier: each answers from the rows that this
 /// supplier sees, in the order of the content. Where tables are sound that is the order of keys, as the calls have it.
@@ -76,6 +78,17 @@ pub trait Store {
     fn lines_of(&mut self, supplier: &Gln, number: &[u8]) -> Result<Items<LineRow>, StoreFault>
         ensures looks { Looks content honest left broken self.old self.new
             (lines_of (view supplier.now (content self.old)) number.now) result }
+        ensures fails { Fails plain (broken self.old) (broken self.new) result };
+
+    /// The lines of an order that have one of these line numbers, by number: of each number one or none, where tables are sound.
+    fn lines_at(
+        &mut self,
+        supplier: &Gln,
+        number: &[u8],
+        lines: &BTreeSet<u32>,
+    ) -> Result<Items<LineRow>, StoreFault>
+        ensures looks { Looks content honest left broken self.old self.new
+            (lines_at (view supplier.now (content self.old)) number.now lines.now.keys) result }
         ensures fails { Fails plain (broken self.old) (broken self.new) result };
 
     /// Whether the supplier has a despatch advice of this number.

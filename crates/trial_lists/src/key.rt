@@ -57,6 +57,14 @@ pub(crate) struct Numbered<'a> {
     pub(crate) number: &'a [u8],
 }
 
+/// The line of a supplier's order with a line number.
+#[derive(Drop)]
+pub(crate) struct LineAt<'a> {
+    pub(crate) supplier: &'a Gln,
+    pub(crate) number: &'a [u8],
+    pub(crate) line: u32,
+}
+
 /// The pallet of an SSCC, and what is on it.
 #[derive(Drop)]
 pub(crate) struct OnPallet<'a> {
@@ -187,6 +195,29 @@ impl<'a> Key<AdviceRow> for Numbered<'a> {
 
     ghost kept = { λ key. then_part nat_list_cmp_total (λ row.
         row.supplier) key.supplier.now _ _ (by_key nat_list_cmp_total (λ row. row.number) key.number.now) };
+}
+
+impl<'a> Key<LineRow> for LineAt<'a> {
+    ghost place = { λ key row. ordering_then (bytes_cmp row.supplier key.supplier.now)
+        (ordering_then (bytes_cmp row.number key.number.now) (nat_cmp row.line key.line)) };
+
+    ghost wanted = { λ key row. same row.supplier key.supplier.now
+        && (same row.number key.number.now && (row.line == key.line)) };
+
+    fn place_of(&self, row: &LineRow) -> Ordering {
+        let number = row.number.as_slice().cmp(self.number);
+        let line = row.line.cmp(&self.line);
+        row.supplier.cmp(self.supplier).then(number.then(line))
+    }
+
+    ghost exact = { λ key row. both (bytes_cmp row.supplier key.supplier.now) _
+        (same_bytes row.supplier key.supplier.now)
+        (both (bytes_cmp row.number key.number.now) (nat_cmp row.line key.line)
+        (same_bytes row.number key.number.now) (same_numbers row.line key.line)) };
+
+    ghost kept = { λ key. then_part nat_list_cmp_total (λ row. row.supplier) key.supplier.now _ _
+        (then_part nat_list_cmp_total (λ row. row.number) key.number.now _ _
+        (by_key nat_cmp_total (λ row. row.line) key.line)) };
 }
 
 impl<'a> Key<PalletRow> for OnPallet<'a> {

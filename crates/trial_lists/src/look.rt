@@ -1,7 +1,7 @@
 //! Look-ups in lists of rows, of which each rises by its key.
 ghost use Rattle.std.specs.Prelude.{◌≡◌, ◌≤◌, ◌==◌, ◌&&◌, true, None, filter, find, length};
-ghost use Rattle.std.specs.Prelude.{map, take, slice_get, option_map, nat_lt, not, IfOk};
-ghost use Rattle.std.specs.List.{list_any, last_or, filter_map};
+ghost use Rattle.std.specs.Prelude.{◌++◌, map, take, slice_get, option_map, nat_lt, not, IfOk, OnOk};
+ghost use Rattle.std.specs.List.{list_any, last_or, filter_map, flat_map};
 ghost use Rattle.std.specs.Option.{unwrap_or};
 ghost use Rattle.hub_tables.specs.Cases.{side_letter};
 ghost use Rattle.hub_tables.specs.Rows.{same, order_cmp, line_cmp, advice_cmp, pallet_cmp, content_cmp, receipt_cmp, remembered_cmp};
@@ -13,7 +13,7 @@ ghost use Rattle.hub_store.specs.Heads.{head_of};
 ghost use Rattle.trial_lists.specs.Index.{IsIndex, entry_cmp, entry_key, is_untaken, owned_cmp, owned_key};
 
 use crate::index::{EntryKey, PalletKey};
-use crate::key::{Above, Key, Numbered, OfSupplier, OnPallet, Reference};
+use crate::key::{Above, Key, LineAt, Numbered, OfSupplier, OnPallet, Reference};
 use crate::search::rows_at;
 use edi_base::{Items, MemoryFault, copied};
 use gs1_ids::{Gln, Sscc};
@@ -23,6 +23,7 @@ use hub_tables::{
     RememberedRow, Side,
 };
 use std::alloc::Global;
+use std::collections::BTreeSet;
 use trial_rows::Row;
 
 // Copies of rows.
@@ -144,6 +145,55 @@ pub(crate) fn lines_with(
         same line.number number.now) (filter (λ row. same row.supplier supplier.now) lines.now)) }
 {
     copies(alloc, rows_at(lines, &Numbered { supplier, number }))
+}
+
+// The lines of an order of a supplier with a line number.
+fn lines_at_number(
+    alloc: Global,
+    lines: &[LineRow],
+    at: &LineAt<'_>,
+) -> Result<Items<LineRow>, MemoryFault>
+    requires { Rises line_cmp lines.now }
+    ensures { IfOk result (λ found. found ≡ filter (λ line. line.line == at.now.line)
+        (filter (λ line. same line.number at.now.number.now)
+        (filter (λ row. same row.supplier at.now.supplier.now) lines.now))) }
+{
+    copies(alloc, rows_at(lines, at))
+}
+
+// Puts rows after others.
+fn put_rows(found: &mut Items<LineRow>, rows: Items<LineRow>) -> Result<(), MemoryFault>
+    ensures { OnOk result (found.new ≡ found.old ++ rows) }
+{
+    for row in rows.into_vec() {
+        found.push(row)?;
+    }
+    Ok(())
+}
+
+/// The lines of an order of a supplier that have one of these line numbers, number by number.
+pub(crate) fn lines_at(
+    alloc: Global,
+    lines: &[LineRow],
+    supplier: &Gln,
+    number: &[u8],
+    numbers: &BTreeSet<u32>,
+) -> Result<Items<LineRow>, MemoryFault>
+    requires { Rises line_cmp lines.now }
+    ensures { IfOk result (λ found. found ≡ flat_map (λ n. filter (λ line. line.line == n)
+        (filter (λ line. same line.number number.now)
+        (filter (λ row. same row.supplier supplier.now) lines.now))) numbers.now.keys) }
+{
+    let mut found = Items::new(alloc);
+    for line in numbers {
+        let at = LineAt {
+            supplier,
+            number,
+            line: *line,
+        };
+        put_rows(&mut found, lines_at_number(alloc, lines, &at)?)?;
+    }
+    Ok(found)
 }
 
 /// The lines of a supplier.

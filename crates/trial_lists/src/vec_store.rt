@@ -14,14 +14,16 @@ use hub_register::Register;
 use hub_store::{LastingFault, MailHead, Store, StoreFault};
 use hub_tables::{Change, ContentRow, LineRow, MailRow, PalletRow, ReceiptRow, Side};
 use std::alloc::Global;
+use std::collections::BTreeSet;
 use std::marker::Model;
 
 /// A store of plain lists, in memory. It has no fault but `StoreFault::Memory`: of look-ups where the rows that are
 /// answered find no memory, of a commit where the copies of its changes find none. Of the changes of a commit, a row
 /// that is added under a key that is there is left out, and so is a row that is set where none has its key.
 ///
-/// A look-up takes a binary search and a copy of what it answers; `all_pallets` and `mail_after` search in an index,
-/// and then for each row that they answer. A commit moves the rows and keys that stand behind a new one.
+/// A look-up takes a binary search and a copy of what it answers; `lines_at` searches for each number, and `all_pallets`
+/// and `mail_after` search in an index, and then for each row that they answer. A commit moves the rows and keys that
+/// stand behind a new one.
 #[derive(Debug, Drop)]
 pub struct VecStore {
     alloc: Global,
@@ -127,6 +129,16 @@ impl Store for VecStore {
     fn lines_of(&mut self, supplier: &Gln, number: &[u8]) -> Result<Items<LineRow>, StoreFault> {
         let lines = self.lists.lines.as_slice();
         Ok(look::lines_with(self.alloc, lines, supplier, number)?)
+    }
+
+    fn lines_at(
+        &mut self,
+        supplier: &Gln,
+        number: &[u8],
+        lines: &BTreeSet<u32>,
+    ) -> Result<Items<LineRow>, StoreFault> {
+        let rows = self.lists.lines.as_slice();
+        Ok(look::lines_at(self.alloc, rows, supplier, number, lines)?)
     }
 
     fn advice_known(&mut self, supplier: &Gln, number: &[u8]) -> Result<bool, StoreFault> {

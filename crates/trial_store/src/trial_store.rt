@@ -8,6 +8,7 @@ use gs1_ids::{Gln, Sscc};
 use hub_register::Register;
 use hub_store::{LastingFault, MailHead, Store, StoreFault};
 use hub_tables::{Change, ContentRow, LineRow, MailRow, PalletRow, ReceiptRow, Side};
+use std::collections::BTreeSet;
 use std::marker::Model;
 
 /// A store that counts the calls of another one, and that can fail at one of them. Contracts see it as the store
@@ -146,6 +147,18 @@ impl<S: Store> Store for TrialStore<S> {
     fn lines_of(&mut self, supplier: &Gln, number: &[u8]) -> Result<Items<LineRow>, StoreFault> {
         self.gate.look_up()?;
         let found = self.store.lines_of(supplier, number);
+        self.gate.seen(&found);
+        found
+    }
+
+    fn lines_at(
+        &mut self,
+        supplier: &Gln,
+        number: &[u8],
+        lines: &BTreeSet<u32>,
+    ) -> Result<Items<LineRow>, StoreFault> {
+        self.gate.look_up()?;
+        let found = self.store.lines_at(supplier, number, lines);
         self.gate.seen(&found);
         found
     }

@@ -1,4 +1,4 @@
-use Rattle.std.proofs.Common.{◌≡◌, not, sym, subst, rules}
+use Rattle.std.proofs.Common.{not, sym, subst, rules}
 use Rattle.std.proofs.lemmas.Fn.{filter_same}
 use Rattle.hub_parties.specs.KeyOrder.{Rises}
 use Rattle.hub_tables.specs.Rows.{same, receipt_cmp}
