@@ -259,6 +259,12 @@ def whole_answer(reference, number):
     return message("ORDRSP:D:01B:UN:EAN009", reference, *head, "UNS+S")
 
 
+def numbered_answer(reference, number, line):
+    head = (f"BGM+231+R{reference}+4", "DTM+137:20250603:102", f"RFF+ON:{number}", *parties(ALPHA))
+    said = ("LIN+1+5+4000862141404:SRV", f"RFF+ON:{number}:{line}", "UNS+S")
+    return message("ORDRSP:D:01B:UN:EAN009", reference, *head, *said)
+
+
 def counted():
     """The look-ups and commits of each message."""
     play = ordered().counts(3, 1)
@@ -294,7 +300,11 @@ def counted():
     # in one upload an order is looked up once
     text = interchange(ALPHA, "S5", whole_answer(1, "128578"), whole_answer(2, "128578"), whole_answer(3, "none"), whole_answer(4, "none"))
     told = ("1 ORDRSP accepted", "2 ORDRSP refused B07", "3 ORDRSP refused B05", "4 ORDRSP refused B05")
-    return play.upload(ALPHA, text, "interchange S5 messages 4", *told).counts(8, 1)
+    play.upload(ALPHA, text, "interchange S5 messages 4", *told).counts(8, 1).say("mend")
+    # lines that are named by their numbers alone, in one look-up for each message
+    text = interchange(ALPHA, "S8", numbered_answer(1, "128578", 1), numbered_answer(2, "128578", 2))
+    told = ("1 ORDRSP refused B07", "2 ORDRSP refused B06")
+    return play.upload(ALPHA, text, "interchange S8 messages 2", *told).counts(6, 0)
 
 
 def stopped_once(calls, fault):

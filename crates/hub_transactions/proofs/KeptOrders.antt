@@ -15,6 +15,18 @@ use Rattle.hub_order_lines.proofs.Follow.{in_turn}
 use Rattle.hub_order_lines.proofs.RowsOfOrder.{set_among_order, set_among_suppliers}
 use Rattle.hub_transactions.specs.Orders.{KeepsOrders}
 
+-- neither the first of some changes does, nor the later ones
+pub first_none : (change : Change) (changes : List Change) → list_any adds_lines (change ∷ changes) ≡ false → adds_lines change ≡ false
+first_none change changes none =
+    elim (adds_lines change) as (λ v. (v || list_any adds_lines changes) ≡ false → v ≡ false) [ true ↦ λ no. no | false ↦ λ no. refl ] none
+
+pub later_none : (change : Change) (changes : List Change)
+    → list_any adds_lines (change ∷ changes) ≡ false
+    → list_any adds_lines changes ≡ false
+later_none change changes none =
+    elim (adds_lines change) as (λ v. (v || list_any adds_lines changes) ≡ false → list_any adds_lines changes ≡ false)
+    [ true ↦ λ no. absurd (cc (no)) | false ↦ λ no. no ] none
+
 module _ (supplier order : List ℕ) where
   -- a change that adds no order and no line
   lines_one : (change : Change) (t : Tables) → adds_lines change ≡ false
@@ -53,18 +65,6 @@ module _ (supplier order : List ℕ) where
   orders_one (Remember row) t none = refl
   orders_one (AddMail row) t none = refl
   orders_one (SetMail row) t none = refl
-
-  -- neither the first of some changes does, nor the later ones
-  first_none : (change : Change) (changes : List Change) → list_any adds_lines (change ∷ changes) ≡ false → adds_lines change ≡ false
-  first_none change changes none =
-      elim (adds_lines change) as (λ v. (v || list_any adds_lines changes) ≡ false → v ≡ false) [ true ↦ λ no. no | false ↦ λ no. refl ] none
-
-  later_none : (change : Change) (changes : List Change)
-      → list_any adds_lines (change ∷ changes) ≡ false
-      → list_any adds_lines changes ≡ false
-  later_none change changes none =
-      elim (adds_lines change) as (λ v. (v || list_any adds_lines changes) ≡ false → list_any adds_lines changes ≡ false)
-      [ true ↦ λ no. absurd (cc (no)) | false ↦ λ no. no ] none
 
   lines_after : (changes : List Change) (t : Tables) → list_any adds_lines changes ≡ false
       → lines_of (view supplier (apply_all changes t)) order ≡ rows_after changes (lines_of (view supplier t) order)

@@ -1,5 +1,7 @@
 pub mod Afterwards
 pub mod Announced
+pub mod Asked
+pub mod ByNumber
 pub mod Bytes
 pub mod CancelWithin
 pub mod CleanActs

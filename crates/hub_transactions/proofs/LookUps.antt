@@ -54,7 +54,7 @@ filter_twice p (x ∷ xs) =
     ]
 
 -- What of a line is despatched is what its row leaves of ordered.
-all_despatched : (state : Tables) (facts : List LineFacts)
+pub all_despatched : (state : Tables) (facts : List LineFacts)
     → AllByRecursion AddsUp facts
     → AllByRecursion (Balanced state) (rows facts)
     → AllByRecursion (λ line. despatched state line.row ≡ line.despatched) facts

@@ -1,18 +1,24 @@
 -- The orders that a message names, where nothing can be known of their lines.
-use Rattle.std.specs.Prelude.{◌≡◌, ◌⊎◌, ℕ, true, List, Ok}
+use Rattle.std.specs.Prelude.{◌≡◌, ◌⊎◌, ℕ, Bool, true, false, nat_eq, List, [], Ok, Option, Some, None}
+use Rattle.std.specs.List.{AllByRecursion}
 use Rattle.std.specs.Borrow.{Bor}
 use Rattle.std.specs.declared.cmp.Ordering.{Ordering}
-use Rattle.edi_base.specs.Seen.{is_among}
+use Rattle.edi_base.specs.Seen.{is_among, comes_among}
 use Rattle.edi_envelope.specs.declared.interchange.RawMessage.{RawMessage}
 use Rattle.edi_orders.specs.Response.{response_of}
+use Rattle.edi_orders.specs.declared.response.Answer.{Answer}
+use Rattle.edi_orders.specs.declared.response.Answer.TheVariants.{AllAccepted, AllRefused, Lines}
 use Rattle.edi_orders.specs.declared.response.Response.{Response}
 use Rattle.edi_goods.specs.Despatch.{despatch_of}
 use Rattle.edi_goods.specs.declared.despatch.Despatch.{Despatch}
 use Rattle.edi_goods.specs.declared.despatch.Unit.{Unit}
 use Rattle.hub_parties.specs.KeyOrder.{bytes_cmp}
-use Rattle.hub_tables.specs.State.{lines_of}
+use Rattle.hub_tables.specs.State.{knows_order, lines_of}
 use Rattle.hub_tables.specs.Tables.{Tables}
+use Rattle.hub_order_lines.specs.Book.{Orders}
 use Rattle.hub_order_lines.specs.KnownLines.{AreUnclean}
+use Rattle.hub_order_lines.specs.KnownOrders.{AddsOrder}
+use Rattle.hub_store.specs.Lines.{lines_at}
 use Rattle.hub_judges.specs.Known.{names_order}
 
 -- by the bytes of their numbers
@@ -46,3 +52,20 @@ pub record DespatchUnclean (message : RawMessage) (state : Tables) : Type 0 wher
 -- the one or the other
 abbrev pub MessageUnclean : RawMessage → Tables → Type 0
 MessageUnclean message state = ResponseUnclean message state ⊎ DespatchUnclean message state
+
+-- a line is named by one of these numbers; by its article it is not
+abbrev pub has_number : List ℕ → Option ℕ → Bool
+has_number numbers None = false
+has_number numbers (Some number) = comes_among nat_eq number numbers
+
+-- each line that is answered is named by one of these numbers
+abbrev pub NamesByNumber : List ℕ → Answer → Type 0
+NamesByNumber numbers AllAccepted = ⊥
+NamesByNumber numbers AllRefused = ⊥
+NamesByNumber numbers (Lines said) = AllByRecursion (λ line. has_number numbers line.order_line ≡ true) said
+
+-- an order that is answered is known by the lines alone that the answer names, each by its number
+pub record NamedLines (response : Response) (state : Tables) (orders : Orders) : Type 0 where
+  pub numbers : List ℕ
+  pub by_number : NamesByNumber numbers response.answer
+  pub known : AddsOrder response.order (knows_order state response.order) (lines_at state response.order numbers) [] orders

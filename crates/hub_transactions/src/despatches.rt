@@ -11,7 +11,7 @@ ghost use Rattle.hub_order_lines.specs.KnownOrders.{is_kept};
 ghost use Rattle.hub_transactions.specs.Named.{NamedUnclean, SomeUnclean};
 ghost use Rattle.hub_transactions.specs.Orders.{KeepsOrders};
 
-use crate::knowing::{keep_order, known_before};
+use crate::knowing::{keep_order, known_with};
 use crate::naming::orders_named;
 use edi_base::{Items, MemoryFault};
 use edi_goods::{Despatch, Unit};
@@ -135,7 +135,7 @@ pub(crate) fn known_for_despatch<S: Store>(
     let number = despatch.number.as_slice();
     let number_known = store.advice_known(supplier, number)?;
     if remembered.is_some() || number_known {
-        return Ok(known_before(alloc, remembered, number_known, orders));
+        return Ok(known_with(alloc, remembered, number_known, orders));
     }
     let used = used_of(alloc, store, units)?;
     let named = orders_named(alloc, units)?;

@@ -171,9 +171,16 @@ fn judged_response<S: Store>(
         return refuse(store, &supplier.gln, &incoming, code);
     }
     let kept = mem::replace(orders, KnownOrders::new(alloc));
-    let known = known_for_response(alloc, store, &supplier.gln, &incoming, &response, kept)?;
+    let (known, apart) = known_for_response(
+        alloc,
+        store,
+        &supplier.gln,
+        &incoming,
+        &response,
+        kept,
+    )?;
     let verdict = judge_response(alloc, retailer, Some(supplier), &known, incoming, &response)?;
-    *orders = known.orders;
+    *orders = apart.unwrap_or(known.orders);
     Ok(Judged::Read(verdict))
 }
 

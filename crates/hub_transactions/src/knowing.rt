@@ -6,12 +6,16 @@ ghost use Rattle.hub_store.specs.Clean.{are_clean};
 ghost use Rattle.hub_store.specs.declared.fault.StoreFault.TheVariants.{Memory, Unclean};
 ghost use Rattle.hub_order_lines.specs.KnownLines.{AreUnclean};
 ghost use Rattle.hub_order_lines.specs.KnownOrders.{is_kept, AddsOrder};
+ghost use Rattle.std.specs.Option.{IfSome, unwrap_or};
+ghost use Rattle.hub_rules.specs.Rules.{judge_response};
 ghost use Rattle.hub_rules.specs.Sound.{Kept};
 ghost use Rattle.hub_judges.specs.Known.{TellsDespatched, TellsForCancel, TellsForOrder, TellsForReceipt, TellsForResponse, TellsLines};
 ghost use Rattle.hub_judges.specs.Known.{TellsOrder};
 ghost use Rattle.hub_transactions.specs.Acts.{FailsWith, NoCause, Stays, any_answer, no_answer};
-ghost use Rattle.hub_transactions.specs.Orders.{KeepsOrders};
+ghost use Rattle.hub_transactions.specs.Named.{NamedLines};
+ghost use Rattle.hub_transactions.specs.Orders.{KeepsOrders, TellsAlike};
 
+use crate::numbering::numbers_named;
 use edi_base::{Items, MemoryFault};
 use edi_goods::{Receipt, ReceiptUnit};
 use edi_orders::{Answer, Order, Response};
@@ -144,9 +148,8 @@ fn known_of_order<S: Store>(
     })
 }
 
-/// What is known of a message on which what is remembered, or that its number is known, decides. The orders that are kept stay
-/// with it.
-pub(crate) fn known_before(
+/// What is known of a supplier's message: what is remembered, whether its number is known, and orders.
+pub(crate) fn known_with(
     alloc: Global,
     remembered: Option<Items<u8>>,
     number_known: bool,
@@ -174,8 +177,43 @@ fn names_an_article(answer: &Answer) -> bool {
     }
 }
 
-/// What is known for an ORDRSP, by one look-up, and two more where nothing is remembered and its order is not kept. `Unclean`
-/// where the order's lines do not rise by line number, or more of one is open, refused and cancelled than is ordered.
+// The order that an ORDRSP answers, by two look-ups: whether it is there, and the lines alone that are named by their numbers. None
+// where it is kept, a line is named by its article, the whole order is answered, or the rows do not pass.
+fn named_lines<S: Store>(
+    alloc: Global,
+    store: &mut S,
+    supplier: &Gln,
+    response: &Response,
+    kept: &KnownOrders,
+) -> Result<Option<KnownOrders>, StoreFault>
+    ensures named { S.honest store.new →
+        IfOk result (λ named. IfSome named (NamedLines response.now (view supplier.now (S.content store.old)))) }
+    ensures unclean { S.honest store.new → S.broken store.old ≡ None →
+        are_clean (S.content store.old) ≡ true → result ≢ Err Unclean }
+    ensures goes_on { OnOk result (S.broken store.new ≡ S.broken store.old) }
+    ensures fails { FailsWith S.plain NoCause any_answer (S.broken store.old) (S.broken store.new) result }
+    ensures stays { Stays S.content S.honest S.left store.old store.new }
+{
+    let order = response.order.as_slice();
+    if kept.is_kept(order) {
+        return Ok(None);
+    }
+    let Some(numbers) = numbers_named(alloc, &response.answer)? else {
+        return Ok(None);
+    };
+    let is_there = store.order_known(supplier, order)?;
+    let rows = store.lines_at(supplier, order, &numbers)?;
+    let mut orders = KnownOrders::new(alloc);
+    if orders.put(alloc, order, is_there, rows)? {
+        Ok(Some(orders))
+    } else {
+        Ok(None)
+    }
+}
+
+/// What is known for an ORDRSP, by one look-up, and two more where nothing is remembered and its order is not kept; and the orders
+/// that are kept, where the order is known by the lines alone that it names by their numbers. `Unclean` where the order's lines do
+/// not rise by line number, or more of one is open, refused and cancelled than is ordered.
 pub(crate) fn known_for_response<S: Store>(
     alloc: Global,
     store: &mut S,
@@ -183,13 +221,14 @@ pub(crate) fn known_for_response<S: Store>(
     incoming: &IncomingMessage,
     response: &Response,
     orders: KnownOrders,
-) -> Result<Known, StoreFault>
+) -> Result<(Known, Option<KnownOrders>), StoreFault>
     ensures told { S.honest store.new → Kept (view supplier.now (S.content store.old)) →
         KeepsOrders orders (view supplier.now (S.content store.old)) →
-        IfOk result (λ known. TellsForResponse known incoming.now response.now
+        IfOk result (λ told. TellsAlike (TellsForResponse told.0 incoming.now response.now)
+        (λ retailer row. judge_response retailer row incoming.now response.now)
         (view supplier.now (S.content store.old))) }
     ensures kept { S.honest store.new → KeepsOrders orders (view supplier.now (S.content store.old)) →
-        IfOk result (λ known. KeepsOrders known.orders (view supplier.now (S.content store.old))) }
+        IfOk result (λ told. KeepsOrders (unwrap_or told.1 told.0.orders) (view supplier.now (S.content store.old))) }
     ensures unclean { S.honest store.new → S.broken store.old ≡ None →
         are_clean (S.content store.old) ≡ true →
         result ≡ Err Unclean →
@@ -204,13 +243,16 @@ pub(crate) fn known_for_response<S: Store>(
     let message = incoming.message.as_slice();
     let remembered = store.remembered(supplier, Side::Supplier, control, message)?;
     if remembered.is_some() {
-        return Ok(known_before(alloc, remembered, false, orders));
+        return Ok((known_with(alloc, remembered, false, orders), None));
+    }
+    if let Some(named) = named_lines(alloc, store, supplier, response, &orders)? {
+        return Ok((known_with(alloc, remembered, false, named), Some(orders)));
     }
     let mut known = known_of_order(alloc, store, supplier, order, remembered, orders)?;
     if names_an_article(&response.answer) {
         known.orders.index(alloc, order)?;
     }
-    Ok(known)
+    Ok((known, None))
 }
 
 /// What is known for a cancellation, by three look-ups; `Unclean` as for an ORDRSP.

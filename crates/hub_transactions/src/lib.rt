@@ -14,6 +14,7 @@ mod laws;
 mod mailbox;
 mod messages;
 mod naming;
+mod numbering;
 mod status;
 
 pub use cancel::take_cancel;

@@ -68,8 +68,8 @@ returns-then-is_some-clause-told g c = λ honest kept old.
     let one = c.remembered.ensures.looks.content_stays first in
     let remembered = c.in_ok-remembered.ensures.looks.answers first in
     let known = c.in_ok-number_known.ensures.looks.answers honest in
-    let as_it_was = c.known_before.ensures.remembered in
-    let as_known = c.known_before.ensures.number in
+    let as_it_was = c.known_with.ensures.remembered in
+    let as_known = c.known_with.ensures.number in
     record {
       remembered = cc;
       number = cc;

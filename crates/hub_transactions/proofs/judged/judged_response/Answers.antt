@@ -32,7 +32,8 @@ returns-clause-judged g c = λ old. record {
       let retailer = c.retailer-retailer.ensures.value in
       let judge : Response → Verdict =
       λ response. judge_response c.args.register.now.retailer (Some s) c.args.incoming response (view s.gln t) in
-      let verdict = c.in_ok-verdict.ensures (view s.gln t) told
+      let verdict = c.in_ok-verdict.ensures told.seen told.told
+      ∙ told.alike c.retailer-retailer.result.now (Some s)
       ∙ ap (λ gln. judge_response gln (Some s) c.args.incoming response (view s.gln t)) retailer in
       ap (λ read. read_act read judge t) c.in-Ok.ensures.ok ∙ act_of_read judge response c.in_ok-verdict.verdict t verdict;
   fit = λ honest here rise.
@@ -41,7 +42,8 @@ returns-clause-judged g c = λ old. record {
       let response = c.in-Ok.response in
       let told = c.in_ok-known.ensures.told honest (here.sound.kept s.gln)
       (subst (λ (orders : Orders). KeepsOrders orders (view s.gln t)) (sym c.replace-kept.ensures.value) old) in
-      let verdict = c.in_ok-verdict.ensures (view s.gln t) told
+      let verdict = c.in_ok-verdict.ensures told.seen told.told
+      ∙ told.alike c.retailer-retailer.result.now (Some s)
       ∙ ap (λ gln. judge_response gln (Some s) c.args.incoming response (view s.gln t)) c.retailer-retailer.ensures.value in
       subst (λ verdict. VerdictFits verdict t) (sym verdict) (verdict_fits _ t (λ changes accepted.
       c.accepted_changes_fit.ensures.response c.args.register.now.suppliers s t c.args.register.now.retailer c.args.incoming
@@ -58,7 +60,8 @@ returns-clause-clean g c = λ old here within. record {
       let response = c.in-Ok.response in
       let told = c.in_ok-known.ensures.told honest (here.sound.kept s.gln)
       (subst (λ (orders : Orders). KeepsOrders orders (view s.gln t)) (sym c.replace-kept.ensures.value) old) in
-      let verdict = c.in_ok-verdict.ensures (view s.gln t) told
+      let verdict = c.in_ok-verdict.ensures told.seen told.told
+      ∙ told.alike c.retailer-retailer.result.now (Some s)
       ∙ ap (λ gln. judge_response gln (Some s) c.args.incoming response (view s.gln t)) c.retailer-retailer.ensures.value in
       subst (λ verdict. VerdictClean verdict t) (sym verdict) (response_clean register c.retailer-retailer.ensures.register t clean
       c.args.message.now c.args.incoming within s here response);
