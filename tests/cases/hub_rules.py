@@ -124,12 +124,16 @@ def no_lines():
     return Play().status(who=BETA).ask(BETA, f"after {99_999_999_999_999}", "done", "end\n")
 
 
+def filled(count):
+    """A mailbox of so many orders."""
+    orders = [order(str(1000 + k), reference=k) for k in range(1, count + 1)]
+    told = [f"{k} ORDERS accepted" for k in range(1, count + 1)]
+    return Play().upload(RETAILER, interchange(RETAILER, "1001", *orders), f"interchange 1001 messages {count}", *told)
+
+
 def long_mailbox():
     """101 entries: as many as are listed, and one more."""
-    play = Play()
-    orders = [order(str(1000 + k), reference=k) for k in range(1, 102)]
-    told = [f"{k} ORDERS accepted" for k in range(1, 102)]
-    play.upload(RETAILER, interchange(RETAILER, "1001", *orders), "interchange 1001 messages 101", *told)
+    play = filled(101)
     entries = [(k, "ORDERS", 1000 + k) for k in range(1, 102)]
     play.list(0, *entries[:100], last="more").list(100, entries[100]).list(1, *entries[1:])
     play.take(1).take(3).list(0, entries[1], *entries[3:])
@@ -138,10 +142,7 @@ def long_mailbox():
 
 def some_taken():
     """Entries of two suppliers, and lists between as they are taken: the second before the first, until none is left, and then one more."""
-    play = Play()
-    orders = [order(str(1000 + k), reference=k) for k in range(1, 6)]
-    told = [f"{k} ORDERS accepted" for k in range(1, 6)]
-    play.upload(RETAILER, interchange(RETAILER, "1001", *orders), "interchange 1001 messages 5", *told)
+    play = filled(5)
     entries = [(k, "ORDERS", 1000 + k) for k in range(1, 7)]
     play.list(0, *entries[:5]).list(0, who=BETA)
     play.take(2).list(0, entries[0], *entries[2:5]).list(2, *entries[2:5])
@@ -254,15 +255,17 @@ def runs():
     return alone.case("a run of one supplier"), between.case("the same run, with another supplier's inputs between")
 
 
+def answer_of(reference, number, function, *lines):
+    head = (f"BGM+231+R{reference}+{function}", "DTM+137:20250603:102", f"RFF+ON:{number}", *parties(ALPHA))
+    return message("ORDRSP:D:01B:UN:EAN009", reference, *head, *lines, "UNS+S")
+
+
 def whole_answer(reference, number):
-    head = (f"BGM+231+R{reference}+27", "DTM+137:20250603:102", f"RFF+ON:{number}", *parties(ALPHA))
-    return message("ORDRSP:D:01B:UN:EAN009", reference, *head, "UNS+S")
+    return answer_of(reference, number, 27)
 
 
 def numbered_answer(reference, number, line):
-    head = (f"BGM+231+R{reference}+4", "DTM+137:20250603:102", f"RFF+ON:{number}", *parties(ALPHA))
-    said = ("LIN+1+5+4000862141404:SRV", f"RFF+ON:{number}:{line}", "UNS+S")
-    return message("ORDRSP:D:01B:UN:EAN009", reference, *head, *said)
+    return answer_of(reference, number, 4, "LIN+1+5+4000862141404:SRV", f"RFF+ON:{number}:{line}")
 
 
 def counted():
