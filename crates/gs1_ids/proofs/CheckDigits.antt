@@ -1,27 +1,44 @@
--- The weighted sum along a walk from the left.
-use Rattle.std.proofs.Common.{◌≡◌, ℕ, ◌+◌, ◌-◌, ◌*◌, ◌%◌, ◌<◌, ◌≤◌, List, length, get_or, drop, ap, ◌∙◌, arith, length-drop}
-use Rattle.std.proofs.lemmas.List.{at_drop_more, at_drop_all}
-use Rattle.gs1_ids.specs.Digits.{digit_value, weight, weighted_sum, check}
+-- The weighted sum of digits in two parts.
+use Rattle.std.proofs.Common.{◌≡◌, ℕ, ◌+◌, ◌%◌, ◌<◌, min, ◌==◌, if◌then◌else◌, List, [], ◌∷◌, ◌++◌, length, ap, ◌∙◌, sym}
+use Rattle.std.proofs.Common.{arith, length-append, subst, All}
+use Rattle.std.proofs.lemmas.List.{get_or_append_left}
+use Rattle.std.specs.Char.{IsAsciiDigit}
+use Rattle.gs1_ids.specs.Digits.{weight, weighted_sum}
 
--- the digit at a place of the walk weighs by what is left after it
-weighted_sum-drop : (xs : List ℕ) (i : ℕ)
-    → i < length xs
-    → weighted_sum (drop i xs) ≡ digit_value (get_or xs i 0) * weight (length xs - 1 - i) + weighted_sum (drop (i + 1) xs)
-weighted_sum-drop xs i h =
-    let e : length (drop (i + 1) xs) ≡ length xs - 1 - i = omega (arith, length-drop (i + 1) xs) in
-    at_drop_more weighted_sum xs i 0 h ∙ ap (λ place. digit_value (get_or xs i 0) * weight place + weighted_sum (drop (i + 1) xs)) e
+-- an even number of further places changes no weight
+weight-even : (place more : ℕ) → more % 2 ≡ 0 → weight (place + more) ≡ weight place
+weight-even place more even =
+    let same : (place + more) % 2 ≡ place % 2 = omega (arith, even) in ap (λ rest. if rest == 0 then 3 else 1) same
 
--- a step of the walk, the sum so far kept below ten
-pub sum_more : (xs : List ℕ) (i sum total : ℕ)
-    → i < length xs
-    → (sum + weighted_sum (drop i xs)) % 10 ≡ total
-    → ((sum + digit_value (get_or xs i 0) * weight (length xs - 1 - i)) % 10 + weighted_sum (drop (i + 1) xs)) % 10 ≡ total
-sum_more xs i sum total h e = omega (arith, weighted_sum-drop xs i h)
+-- an even number of digits behind others leaves their weights
+weighted_sum-append : (xs ys : List ℕ) → length ys % 2 ≡ 0 → weighted_sum (xs ++ ys) ≡ weighted_sum xs + weighted_sum ys
+weighted_sum-append [] ys even = omega arith
+weighted_sum-append (x ∷ xs) ys even =
+    let e : weight (length (xs ++ ys)) ≡ weight (length xs) =
+    ap (λ k. weight k) (length-append xs ys) ∙ weight-even (length xs) (length ys) even in
+    rw e (omega (arith, weighted_sum-append xs ys even))
 
--- the whole walk leaves what the check digit is taken from
-pub check_all : (xs : List ℕ) (i sum : ℕ)
-    → length xs ≤ i
-    → sum < 10
-    → (sum + weighted_sum (drop i xs)) % 10 ≡ weighted_sum xs % 10
-    → (10 - sum) % 10 ≡ check xs
-check_all xs i sum h small e = omega (arith, at_drop_all weighted_sum xs i h)
+-- a part of eighteen from the right, or of all that is left
+weighted_sum-parts : (front part : List ℕ)
+    → length part ≡ min 18 (length (front ++ part))
+    → weighted_sum (front ++ part) ≡ weighted_sum front + weighted_sum part
+weighted_sum-parts [] part h = omega arith
+weighted_sum-parts (x ∷ xs) part h = weighted_sum-append (x ∷ xs) part (omega (arith, h, length-append (x ∷ xs) part))
+
+-- a part's sum goes over to what is summed, which is kept below ten
+pub part_more : (whole front part : List ℕ) (sum part_sum total : ℕ)
+    → whole ≡ front ++ part
+    → length part ≡ min 18 (length whole)
+    → part_sum ≡ weighted_sum part
+    → (sum + weighted_sum whole) % 10 ≡ total
+    → ((sum + part_sum) % 10 + weighted_sum front) % 10 ≡ total
+part_more whole front part sum part_sum total cut len same so_far =
+    let parts = weighted_sum-parts front part (subst (λ xs. length part ≡ min 18 (length xs)) cut len) in
+    let before = subst (λ xs. (sum + weighted_sum xs) % 10 ≡ total) cut so_far in
+    omega (arith, parts, before, same)
+
+-- what is left of digits is digits
+pub digits_left : (whole front part : List ℕ) → whole ≡ front ++ part → All IsAsciiDigit whole → All IsAsciiDigit front
+digits_left whole front part cut digits k d h =
+    let within : k < length (front ++ part) = omega (arith, h, length-append front part) in
+    rw (sym (get_or_append_left front part d k h)) (subst (All IsAsciiDigit) cut digits k d within)

@@ -12,7 +12,7 @@ use Rattle.gs1_ids.specs.Prefix.{IsPrefix, is_prefix}
 Decides-digit : (c : ℕ) → Decides (is_ascii_digit c) (IsAsciiDigit c)
 Decides-digit c = (λ h. grind (arith, nat_tests), λ p. grind (arith, nat_tests))
 
-Decides-digits : (xs : List ℕ) → Decides (list_all is_ascii_digit xs) (All IsAsciiDigit xs)
+pub Decides-digits : (xs : List ℕ) → Decides (list_all is_ascii_digit xs) (All IsAsciiDigit xs)
 Decides-digits = Decides-by_and is_ascii_digit IsAsciiDigit (list_all is_ascii_digit) Decides-digit refl (λ _ _. refl)
 
 Decides-nat_le : (a b : ℕ) → Decides (nat_le a b) (a ≤ b)

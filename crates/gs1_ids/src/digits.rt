@@ -1,17 +1,42 @@
 //! Digits and the check digit.
-ghost use Rattle.std.specs.Prelude.{◌≡◌, ◌<◌, ◌+◌, ◌%◌, ◌↔◌, All, length, IsTrue, IfSome};
+ghost use Rattle.std.specs.Prelude.{◌≡◌, ◌<◌, ◌≤◌, ◌+◌, ◌*◌, ◌%◌, ◌↔◌, All, length, IsTrue, IfSome};
 ghost use Rattle.std.specs.Char.{IsAsciiDigit};
 ghost use Rattle.std.specs.Fmt.{WritesOnOk, WritesStyledOnOk, formatter_spec, styled_text};
 ghost use Rattle.std.specs.Option.{SomeIff};
-ghost use Rattle.gs1_ids.specs.Digits.{check, weight, weighted_sum, IsKey};
+ghost use Rattle.gs1_ids.specs.Digits.{check, weighted_sum, IsKey};
 
 use std::{fmt, str};
 
-// What a digit weighs that has `place` digits between it and the check digit.
-fn weight(place: usize) -> u8
-    ensures { result ≡ weight place }
+// As many digits as the longest key has. The number is even, so the weights begin anew in each part of
+// that many.
+const PART: usize = 18;
+
+// Whether all bytes are ASCII digits. It does not stop at a byte that is none, so that many bytes are
+// compared at once.
+fn are_digits(text: &[u8]) -> bool
+    ensures { IsTrue result ↔ All IsAsciiDigit text.now }
 {
-    if place % 2 == 0 { 3 } else { 1 }
+    let mut all = true;
+    for byte in text {
+        all &= byte.is_ascii_digit();
+    }
+    all
+}
+
+// The weighted sum of a part's digits, of which the last weighs three.
+fn weighted_sum(digits: &[u8]) -> u32
+    requires digits { All IsAsciiDigit digits.now }
+    requires most { length digits.now ≤ PART }
+    ensures value { result ≡ weighted_sum digits.now }
+    ensures small { result ≤ 27 * length digits.now }
+{
+    // The sums of what weighs three and of what weighs one. Each further digit exchanges them.
+    let mut threes = 0u8;
+    let mut ones = 0u8;
+    for digit in digits {
+        (threes, ones) = (ones + (digit - b'0'), threes);
+    }
+    3 * u32::from(threes) + u32::from(ones)
 }
 
 /// The check digit, a number from 0 to 9, of the digits that stand before it: what brings their
@@ -21,36 +46,32 @@ pub fn check_digit(digits: &[u8]) -> Option<u8>
     ensures value { SomeIff result ((0 < length digits.now) × All IsAsciiDigit digits.now) (check digits.now) }
     ensures tens { IfSome result (λ d. (d < 10) × ((weighted_sum digits.now + d) % 10 ≡ 0)) }
 {
-    if digits.is_empty() {
+    if digits.is_empty() || !are_digits(digits) {
         return None;
     }
-    let mut sum = 0u8;
-    for (i, digit) in digits.iter().enumerate() {
-        if !digit.is_ascii_digit() {
-            return None;
-        }
-        sum = (sum + (digit - b'0') * weight(digits.len() - 1 - i)) % 10;
+    let mut sum = 0;
+    for part in digits.rchunks(PART) {
+        sum = (sum + weighted_sum(part)) % 10;
     }
-    Some((10 - sum) % 10)
+    Some(((10 - sum) % 10) as u8)
 }
 
 // Whether `key` is digits that end in the check digit of the others.
-pub(crate) fn ends_in_check_digit(key: &[u8]) -> bool
-    requires { 1 < length key.now }
+fn ends_in_check_digit(key: &[u8]) -> bool
+    requires least { 1 < length key.now }
+    requires most { length key.now ≤ PART }
     ensures { IsTrue result ↔ IsKey (length key.now) key.now }
 {
     let Some((last, rest)) = key.split_last() else {
         return false;
     };
-    match check_digit(rest) {
-        Some(check) => *last == b'0' + check,
-        None => false,
-    }
+    are_digits(key) && (weighted_sum(rest) + u32::from(last - b'0')) % 10 == 0
 }
 
 // The digits of `text`, if it is a key of `N` digits.
 pub(crate) fn key_of<const N: usize>(text: &[u8]) -> Option<[u8; N]>
-    requires { 1 < N }
+    requires least { 1 < N }
+    requires most { N ≤ PART }
     ensures { SomeIff result (IsKey N text.now) text.now }
 {
     let digits = <[u8; N]>::try_from(text).ok()?;

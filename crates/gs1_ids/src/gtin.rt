@@ -1,11 +1,11 @@
 //! Global Trade Item Numbers.
-ghost use Rattle.std.specs.Prelude.{◌≡◌, ◌≤◌, ◌↔◌, IsTrue, ℕ, List, Some, length};
+ghost use Rattle.std.specs.Prelude.{◌≡◌, ◌<◌, ◌≤◌, ℕ, List, Some, length};
 ghost use Rattle.std.specs.Fmt.{styled_text};
 ghost use Rattle.std.specs.Option.{SomeIff};
 ghost use Rattle.gs1_ids.specs.Digits.{IsKey};
 ghost use Rattle.gs1_ids.specs.Gtin.{IsGtin, in_fourteen, gtin_of};
 
-use crate::digits::{ends_in_check_digit, write_digits};
+use crate::digits::{key_of, write_digits};
 use std::fmt;
 use std::marker::Model;
 
@@ -26,13 +26,6 @@ impl Model for Gtin {
     ghost inverse = { λ xs. record { digits = xs } };
 }
 
-// Whether `text` is 8, 12, 13 or 14 digits that end in their check digit.
-fn is_gtin(text: &[u8]) -> bool
-    ensures { IsTrue result ↔ IsGtin text.now }
-{
-    matches!(text.len(), 8 | 12 | 13 | 14) && ends_in_check_digit(text)
-}
-
 // The digits in a field of fourteen, after zeros.
 fn in_fourteen(text: &[u8]) -> [u8; 14]
     requires { length text.now ≤ 14 }
@@ -43,18 +36,38 @@ fn in_fourteen(text: &[u8]) -> [u8; 14]
     digits
 }
 
+// The digits of `text` in a field of fourteen, if it is a key of `N` digits.
+fn filled<const N: usize>(text: &[u8]) -> Option<[u8; 14]>
+    requires least { 1 < N }
+    requires most { N ≤ 14 }
+    ensures { SomeIff result (IsKey N text.now) (in_fourteen text.now) }
+{
+    let digits = key_of::<N>(text)?;
+    Some(in_fourteen(&digits))
+}
+
+// The digits of `text` in a field of fourteen, if it is a key of 8, 12, 13 or 14 digits. Each length is
+// a call of its own, so that the compiler knows how many digits it sums.
+fn filled_gtin(text: &[u8]) -> Option<[u8; 14]>
+    ensures { SomeIff result (IsGtin text.now) (in_fourteen text.now) }
+{
+    match text.len() {
+        8 => filled::<8>(text),
+        12 => filled::<12>(text),
+        13 => filled::<13>(text),
+        14 => filled::<14>(text),
+        _ => None,
+    }
+}
+
 impl Gtin {
     /// The GTIN that `text` writes in 8, 12, 13 or 14 ASCII digits; `None` where it is no GTIN.
     pub fn parse(text: &[u8]) -> Option<Self>
         ensures exact { SomeIff result (IsGtin text.now) (in_fourteen text.now) }
         ensures value { result ≡ gtin_of text.now }
     {
-        if !is_gtin(text) {
-            return None;
-        }
-        Some(Gtin {
-            digits: in_fourteen(text),
-        })
+        let digits = filled_gtin(text)?;
+        Some(Gtin { digits })
     }
 
     /// The fourteen ASCII digits.
