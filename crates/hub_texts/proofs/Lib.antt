@@ -4,6 +4,7 @@ pub mod CancelTexts
 pub mod Cutting
 pub mod Digits
 mod Examples
+pub mod FilledFields
 pub mod LineTexts
 pub mod MailTexts
 pub mod NamedLines

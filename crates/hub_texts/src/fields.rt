@@ -1,19 +1,47 @@
 //! Fields of a line.
-ghost use Rattle.std.specs.Prelude.{◌≡◌, ◌++◌, ◌∷◌, [], OnOk};
+ghost use Rattle.std.specs.Prelude.{◌≡◌, ◌≤◌, ◌++◌, ◌∷◌, [], length, take, OnOk};
 ghost use Rattle.std.specs.Fmt.{decimal};
 ghost use Rattle.hub_law.specs.Widths.{blanks, left, line, right};
 
 use edi_base::MemoryFault;
-use itoa::Buffer;
+use itoa::write_digits;
 
-/// Appends so many blanks.
-pub(crate) fn put_blanks(out: &mut Vec<u8>, count: usize) -> Result<(), MemoryFault>
+/// Blanks to copy, and to write digits over.
+const BLANKS: [u8; 48] = [b' '; 48];
+
+/// Where such digits end: any number fits before it, behind a blank.
+const FIELD: usize = 24;
+
+// Appends the first bytes of a slice, so many. It copies all of them and cuts off the rest, since a copy of a known
+// size takes a few moves, and another one a call.
+#[inline]
+fn put_first(out: &mut Vec<u8>, bytes: &[u8], count: usize) -> Result<(), MemoryFault>
+    requires { count ≤ length bytes.now }
+    ensures { OnOk result (out.new.items ≡ out.old.items ++ take count bytes.now) }
+{
+    out.extend_from_slice(bytes)?;
+    out.truncate(out.len() - (bytes.len() - count));
+    Ok(())
+}
+
+// Appends so many blanks, one by one.
+fn put_many_blanks(out: &mut Vec<u8>, count: usize) -> Result<(), MemoryFault>
     ensures { OnOk result (out.new.items ≡ out.old.items ++ blanks count) }
 {
     for _ in 0..count {
         out.push(b' ')?;
     }
     Ok(())
+}
+
+/// Appends so many blanks.
+pub(crate) fn put_blanks(out: &mut Vec<u8>, count: usize) -> Result<(), MemoryFault>
+    ensures { OnOk result (out.new.items ≡ out.old.items ++ blanks count) }
+{
+    if count > BLANKS.len() {
+        return put_many_blanks(out, count);
+    }
+    put_first(out, &BLANKS, count)
 }
 
 /// Appends a field after another one.
@@ -43,6 +71,21 @@ pub(crate) fn put_right(out: &mut Vec<u8>, width: usize, field: &[u8]) -> Result
     Ok(())
 }
 
+// Appends a number at the right of so many places, after a gap of one blank or none.
+fn put_digits(out: &mut Vec<u8>, gap: usize, width: usize, number: u64) -> Result<(), MemoryFault>
+    requires { gap ≤ 1 }
+    ensures { OnOk result (out.new.items ≡ out.old.items ++ (blanks gap ++ right width (decimal number))) }
+{
+    let mut field = BLANKS;
+    let start = write_digits(number, &mut field, FIELD);
+    if width >= FIELD {
+        put_blanks(out, gap)?;
+        return put_right(out, width, &field[start..FIELD]);
+    }
+    let from = start.min(FIELD - width) - gap;
+    put_first(out, &field[from..from + FIELD], FIELD - from)
+}
+
 /// Appends a number at the right of so many places.
 pub(crate) fn put_first_number(
     out: &mut Vec<u8>,
@@ -51,18 +94,14 @@ pub(crate) fn put_first_number(
 ) -> Result<(), MemoryFault>
     ensures { OnOk result (out.new.items ≡ out.old.items ++ right width (decimal number)) }
 {
-    let mut digits = Buffer::new();
-    let text = digits.format(number);
-    put_right(out, width, text.as_bytes())
+    put_digits(out, 0, width, number)
 }
 
 /// Appends a number at the right of so many places, after a field.
 pub(crate) fn put_number(out: &mut Vec<u8>, width: usize, number: u64) -> Result<(), MemoryFault>
     ensures { OnOk result (out.new.items ≡ out.old.items ++ 0x20 ∷ right width (decimal number)) }
 {
-    out.push(b' ')?;
-    put_first_number(out, width, number)?;
-    Ok(())
+    put_digits(out, 1, width, number)
 }
 
 /// Appends a line of one field.
