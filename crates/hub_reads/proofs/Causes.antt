@@ -1,6 +1,6 @@
 -- Why a query without values fails, where its text selects from the tables of a schema.
-use Rattle.std.proofs.Common.{◌≡◌, ◌≤◌, nat_le, ◌⊎◌, inl, inr, ℕ, Bool, true, false, List, [], ◌∷◌, length, IsTrue, IsSome, Result, Ok, Err}
-use Rattle.std.proofs.Common.{None, Some, refl, sym, ◌∙◌, ap, subst, arith, true≢false, ◌+◌, ◌-◌, ◌^◌, min}
+use Rattle.std.proofs.Common.{◌≡◌, ◌≤◌, nat_le, inl, inr, ℕ, true, List, [], length, IsSome, Result, Ok, Err}
+use Rattle.std.proofs.Common.{None, sym, ◌∙◌, ap, subst, arith, true≢false}
 use Rattle.std.proofs.lemmas.Bool.{cases_Bool}
 use Rattle.std.proofs.lemmas.Bool.Decides.{nat_tests}
 use Rattle.sqlite_disk.specs.Disk.{MoreFaults}
@@ -12,7 +12,6 @@ use Rattle.sqlite_sql.specs.Query.{Query}
 use Rattle.sqlite_sql.specs.Term.{Term}
 use Rattle.sqlite_value.specs.declared.keys.Key.{Key}
 use Rattle.sqlite_sql.specs.Program.{QueryOverflows}
-use Rattle.sqlite_schema.specs.declared.command.Command.{Command}
 use Rattle.sqlite_schema.specs.declared.command.Command.TheVariants.{Select}
 use Rattle.sqlite_schema.specs.declared.schema.Schema.{Schema}
 use Rattle.sqlite_resolve.specs.declared.compiled.Compiled.{Compiled}
@@ -21,12 +20,12 @@ use Rattle.sqlite_typing.specs.Types.{accepts_program}
 use Rattle.sqlite.specs.Effect.{Database, RefusesToRead}
 use Rattle.sqlite.specs.Listing.{understood, reads_listing, IsSourceOf}
 use Rattle.sqlite.specs.State.{State, HasCleanDisk, FailsToQuery, FailsToShow, IsNotRun, IsNoStatement, Fails, HasCause}
-use Rattle.sqlite.specs.State.{IsUnchanged, IsRolledBack, Survives, store_error}
+use Rattle.sqlite.specs.State.{Survives, store_error}
 use Rattle.sqlite.specs.Clock.{timed}
 use Rattle.sqlite.specs.declared.error.Error.{Error}
 use Rattle.sqlite.proofs.Callers.{IsPlain, command_of}
 use Rattle.hub_store.specs.declared.fault.StoreFault.{StoreFault}
-use Rattle.hub_store.specs.declared.fault.StoreFault.TheVariants.{Memory, Disk}
+use Rattle.hub_store.specs.declared.fault.StoreFault.TheVariants.{Disk}
 use Rattle.sql_rows.proofs.Transactions.{clean_before}
 use Rattle.hub_tables.specs.Tables.{Tables}
 use Rattle.hub_schema.specs.Faults.{fault_of}
@@ -96,7 +95,8 @@ module _ {schema : Schema} {text : List ℕ} {query : Query} {names : List (List
   refused : (old new : State) (db : Database) (e : Error) → old.now.schema ≡ schema → db ≡ old.now
       → RefusesToRead old.step_limit (Select (record { lets = []; body = query }) names) db [] e → HasDiskCause old new
   refused old new db e has from (inl (told, wrong)) =
-      absurd (true≢false (sym bare.typed ∙ ap (λ x. accepts_program x [] query []) (sym has) ∙ ap (λ (d : Database). accepts_program d.schema [] query []) (sym from) ∙ wrong))
+      absurd (true≢false (sym bare.typed ∙ ap (λ x. accepts_program x [] query []) (sym has)
+      ∙ ap (λ (d : Database). accepts_program d.schema [] query []) (sym from) ∙ wrong))
   refused old new db e has from (inr (inl (told, overflows))) = absurd (bare.steady _ [] overflows)
   refused old new db e has from (inr (inr (told, limited))) = inr (inr limited)
 
@@ -108,7 +108,8 @@ module _ {schema : Schema} {text : List ℕ} {query : Query} {names : List (List
       let untimed = subst (λ formats. RefusesToRead old.step_limit c.command plainly.0 (timed [] formats now) e) is.formats plainly.2 in
       refused old new plainly.0 e has source (subst (λ command. RefusesToRead old.step_limit command plainly.0 [] e) is.selects untimed)
 
-  query_failed : (old new : State) (e : Error) → old.now.schema ≡ schema → fault_of e ≡ Disk → FailsToQuery text [] old new e → HasDiskCause old new
+  query_failed : (old new : State) (e : Error) → old.now.schema ≡ schema → fault_of e ≡ Disk → FailsToQuery text [] old new e
+      → HasDiskCause old new
   unfolding FailsToQuery IsNotRun
   query_failed old new e has disk (inl (inl h)) = absurd (is_one old e has h.0)
   query_failed old new e has disk (inl (inr h)) = failed_below old new e disk h
@@ -116,8 +117,8 @@ module _ {schema : Schema} {text : List ℕ} {query : Query} {names : List (List
       not_shown old new c is.now e has (is_it c (ap (λ x. understood x text) (sym has) ∙ is.is)) failed
 
   -- so a fault of the disk has a cause
-  pub disk_has_cause : {X : Type 0} (Reads : List Row → X → Type 0) (Spoil : List Row → Type 0) (old new : State) (result : Result X StoreFault)
-      → Asks Reads Spoil text [] old new result → DiskHasCause schema old new result
+  pub disk_has_cause : {X : Type 0} (Reads : List Row → X → Type 0) (Spoil : List Row → Type 0) (old new : State)
+      (result : Result X StoreFault) → Asks Reads Spoil text [] old new result → DiskHasCause schema old new result
   disk_has_cause Reads Spoil old new result asks clean holds told = elim (cases_Bool old.is_open) [
     | inl up ↦ let h = asks.disk clean told in query_failed old new h.0 (holds up) h.2 h.1
     | inr shut ↦ inr (inl shut)

@@ -138,5 +138,6 @@ tells_none n old new fault which asks = record {
   crash = reads_no_commit number_text [] old new number_reads asks.survives;
 }
   where
-    same_fault : ◌≡◌ {A = Result Bool StoreFault} (Err fault) (Err Disk) → ◌≡◌ {A = Result (Vec Row Global) StoreFault} (Err fault) (Err Disk)
+    same_fault : ◌≡◌ {A = Result Bool StoreFault} (Err fault) (Err Disk)
+        → ◌≡◌ {A = Result (Vec Row Global) StoreFault} (Err fault) (Err Disk)
     same_fault e = cc

@@ -93,7 +93,7 @@ pub contents_look : (old new : State) (sscc : List ℕ) (result : Result (List C
     → IfOk result (λ contents. list_all clean_content contents ≡ true)
     → Asks (λ rows items. items ≡ map shown_content rows) (λ rows. list_all clean_content (map shown_content rows) ≡ false) contents_text
     (Blob sscc ∷ []) old new result
-    → LooksUp (λ t. filter (λ content. same content.sscc sscc) t.contents) old new result
+    → LooksUp (λ t. contents_of t sscc) old new result
 contents_look old new sscc result clean asks =
     let tests = given_at 1 0 ∷ [] in
     let params = Blob sscc ∷ [] in
@@ -123,7 +123,7 @@ receipt_ranked params x y a b =
 pub receipts_look : (old new : State) (sscc : List ℕ) (result : Result (List ReceiptRow) StoreFault)
     → Asks (λ rows items. items ≡ map shown_receipt rows) (λ rows. list_all clean_receipt (map shown_receipt rows) ≡ false) receipts_text
     (Blob sscc ∷ []) old new result
-    → LooksUp (λ t. filter (λ receipt. same receipt.sscc sscc) t.receipts) old new result
+    → LooksUp (λ t. receipts_of t sscc) old new result
 receipts_look old new sscc =
     let tests = given_at 1 0 ∷ [] in
     let params = Blob sscc ∷ [] in
@@ -175,7 +175,7 @@ contents_unseen old new supplier sscc held rows other none =
 
 pub contents_seen : (old mid new : State) (supplier sscc : List ℕ) (held : Bool) → held ≡ true
     → LooksUp (λ t. holds supplier t.pallets sscc) old mid (Ok held) → (result : Result (List ContentRow) StoreFault)
-    → LooksUp (λ t. filter (λ row. same row.sscc sscc) t.contents) mid new result
+    → LooksUp (λ t. contents_of t sscc) mid new result
     → LooksUp (λ t. contents_of (view supplier t) sscc) old new result
 contents_seen old mid new supplier sscc held own =
     looks_then _ _ _ old mid new held (λ t is. seen (λ (row : ContentRow). row.sscc) (holds supplier t.pallets) sscc t.contents
@@ -189,7 +189,7 @@ receipts_unseen old new supplier sscc held rows other none =
 
 pub receipts_seen : (old mid new : State) (supplier sscc : List ℕ) (held : Bool) → held ≡ true
     → LooksUp (λ t. holds supplier t.pallets sscc) old mid (Ok held) → (result : Result (List ReceiptRow) StoreFault)
-    → LooksUp (λ t. filter (λ row. same row.sscc sscc) t.receipts) mid new result
+    → LooksUp (λ t. receipts_of t sscc) mid new result
     → LooksUp (λ t. receipts_of (view supplier t) sscc) old new result
 receipts_seen old mid new supplier sscc held own =
     looks_then _ _ _ old mid new held (λ t is. seen (λ (row : ReceiptRow). row.sscc) (holds supplier t.pallets) sscc t.receipts

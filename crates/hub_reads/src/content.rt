@@ -1,10 +1,9 @@
 //! Look-ups of the contents of pallets.
-ghost use Rattle.std.specs.Prelude.{filter, IsTrue, IfOk};
+ghost use Rattle.std.specs.Prelude.{IsTrue, IfOk};
 ghost use Rattle.std.specs.List.{list_all};
 ghost use Rattle.sqlite.specs.Held.{state};
 ghost use Rattle.hub_store.specs.Clean.{clean_content};
 ghost use Rattle.hub_schema.specs.State.{LooksUp};
-ghost use Rattle.hub_tables.specs.Rows.{same};
 ghost use Rattle.hub_tables.specs.State.{contents_of as contents};
 ghost use Rattle.hub_tables.specs.Tables.{view};
 
@@ -18,13 +17,13 @@ use sqlite::types::ValueRef;
 use sqlite::{Alter, Connection};
 use std::alloc::Global;
 
-// The contents of a pallet of any supplier.
-fn contents_on<S: Alter>(
+/// The contents of a pallet of whatever supplier, by place.
+pub fn contents_on<S: Alter>(
     conn: &mut Connection<S>,
     alloc: Global,
     sscc: &Sscc,
 ) -> Result<Items<ContentRow>, StoreFault>
-    ensures looks { LooksUp (λ t. filter (λ content. same content.sscc sscc.now) t.contents)
+    ensures looks { LooksUp (λ t. contents t sscc.now)
         (state S.Store conn.old) (state S.Store conn.new) result }
     ensures clean { IfOk result (λ rows. IsTrue (list_all clean_content rows)) }
 {

@@ -17,7 +17,7 @@ mod shown;
 mod values;
 
 pub use advice::advice_known;
-pub use content::contents_of;
+pub use content::{contents_of, contents_on};
 pub use fitting::fits;
 pub use line::{all_lines, lines_at, lines_of};
 pub use mail::{last_mail, mail_after, mail_item};
@@ -25,5 +25,5 @@ pub use number::is_numbered;
 pub use order::order_known;
 pub use pallet::{all_pallets, pallet_of, used};
 pub use party::{all_hubs, all_keys, all_prefixes, register};
-pub use receipt::receipts_of;
+pub use receipt::{receipts_of, receipts_on};
 pub use remembered::remembered_content;

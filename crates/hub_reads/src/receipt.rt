@@ -1,10 +1,9 @@
 //! Look-ups of what was received of pallets.
-ghost use Rattle.std.specs.Prelude.{filter, IsTrue, IfOk};
+ghost use Rattle.std.specs.Prelude.{IsTrue, IfOk};
 ghost use Rattle.std.specs.List.{list_all};
 ghost use Rattle.sqlite.specs.Held.{state};
 ghost use Rattle.hub_store.specs.Clean.{clean_receipt};
 ghost use Rattle.hub_schema.specs.State.{LooksUp};
-ghost use Rattle.hub_tables.specs.Rows.{same};
 ghost use Rattle.hub_tables.specs.State.{receipts_of as receipts};
 ghost use Rattle.hub_tables.specs.Tables.{view};
 
@@ -18,13 +17,13 @@ use sqlite::types::ValueRef;
 use sqlite::{Alter, Connection};
 use std::alloc::Global;
 
-// What was received of a pallet of any supplier.
-fn receipts_on<S: Alter>(
+/// What was received of a pallet of whatever supplier, by item.
+pub fn receipts_on<S: Alter>(
     conn: &mut Connection<S>,
     alloc: Global,
     sscc: &Sscc,
 ) -> Result<Items<ReceiptRow>, StoreFault>
-    ensures looks { LooksUp (λ t. filter (λ receipt. same receipt.sscc sscc.now) t.receipts)
+    ensures looks { LooksUp (λ t. receipts t sscc.now)
         (state S.Store conn.old) (state S.Store conn.new) result }
     ensures clean { IfOk result (λ rows. IsTrue (list_all clean_receipt rows)) }
 {

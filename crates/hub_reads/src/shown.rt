@@ -9,8 +9,8 @@ ghost use Rattle.hub_reads.specs.Shown.{shown_hub, shown_key, shown_prefix};
 ghost use Rattle.sqlite_value.specs.Order.{Row as Values};
 
 use crate::values::{
-    bytes_at, case_at, decimal_at, document_at, gln_at, gtin_at, key_at, moment_at, prefix_at,
-    sscc_at, within_at,
+    bytes_at, case_at, decimal_at, document_at, gln_again, gln_at, gtin_at, key_at, moment_at,
+    prefix_at, sscc_at, within_at,
 };
 use edi_base::{GREATEST, Items};
 use edi_envelope::LAST_MAIL_NUMBER;
@@ -27,8 +27,8 @@ pub(crate) trait Shown: Drop {
     /// It is of the kind.
     ghost clean: { Self → Bool };
 
-    /// The row, where it is of the kind.
-    fn of_row(row: &Row) -> Result<Self, StoreFault>
+    /// The row, where it is of the kind. From `before`, the row that was read before it, it may take over what is the same.
+    fn of_row(row: &Row, before: Option<&Self>) -> Result<Self, StoreFault>
         ensures ok { IfOk result (λ x. (x ≡ shown row.now) × IsTrue (clean x)) }
         ensures unclean { result ≡ Err StoreFault.Unclean → clean (shown row.now) ≡ false }
         ensures fails { IfErr result (λ fault. (fault ≡ StoreFault.Memory) ⊎ (fault ≡ StoreFault.Unclean)) };
@@ -43,7 +43,7 @@ impl Shown for HubRow {
     ghost clean = { clean_hub };
 
     #[tactic(auto, using(crate::proofs::Unclean::first_fails, crate::proofs::Unclean::later_fails))]
-    fn of_row(row: &Row) -> Result<Self, StoreFault> {
+    fn of_row(row: &Row, _before: Option<&Self>) -> Result<Self, StoreFault> {
         let hub = gln_at(row, 0)?;
         let retailer = gln_at(row, 1)?;
         let key = key_at(row, 2)?;
@@ -57,7 +57,7 @@ impl Shown for KeyRow {
     ghost clean = { clean_key };
 
     #[tactic(auto, using(crate::proofs::Unclean::first_fails, crate::proofs::Unclean::later_fails))]
-    fn of_row(row: &Row) -> Result<Self, StoreFault> {
+    fn of_row(row: &Row, _before: Option<&Self>) -> Result<Self, StoreFault> {
         let supplier = gln_at(row, 0)?;
         let key = key_at(row, 1)?;
         Ok(KeyRow { supplier, key })
@@ -70,7 +70,7 @@ impl Shown for PrefixRow {
     ghost clean = { clean_prefix };
 
     #[tactic(auto, using(crate::proofs::Unclean::first_fails, crate::proofs::Unclean::later_fails))]
-    fn of_row(row: &Row) -> Result<Self, StoreFault> {
+    fn of_row(row: &Row, _before: Option<&Self>) -> Result<Self, StoreFault> {
         let prefix = prefix_at(row, 0)?;
         let supplier = gln_at(row, 1)?;
         Ok(PrefixRow { prefix, supplier })
@@ -83,8 +83,8 @@ impl Shown for LineRow {
     ghost clean = { clean_line };
 
     #[tactic(auto, using(crate::proofs::Unclean::unclean_line))]
-    fn of_row(row: &Row) -> Result<Self, StoreFault> {
-        let supplier = gln_at(row, 0)?;
+    fn of_row(row: &Row, before: Option<&Self>) -> Result<Self, StoreFault> {
+        let supplier = gln_again(row, 0, before.map(|line| &line.supplier))?;
         let number = document_at(row, 1)?;
         let line = within_at(row, 2, 1, LAST_LINE)?;
         let gtin = gtin_at(row, 3)?;
@@ -113,9 +113,9 @@ impl Shown for PalletRow {
     ghost clean = { clean_pallet };
 
     #[tactic(auto, using(crate::proofs::Unclean::first_fails, crate::proofs::Unclean::later_fails))]
-    fn of_row(row: &Row) -> Result<Self, StoreFault> {
+    fn of_row(row: &Row, before: Option<&Self>) -> Result<Self, StoreFault> {
         let sscc = sscc_at(row, 0)?;
-        let supplier = gln_at(row, 1)?;
+        let supplier = gln_again(row, 1, before.map(|pallet| &pallet.supplier))?;
         let advice = document_at(row, 2)?;
         let received = case_at(row, 3)?;
         Ok(PalletRow {
@@ -133,7 +133,7 @@ impl Shown for ContentRow {
     ghost clean = { clean_content };
 
     #[tactic(auto, using(crate::proofs::Unclean::first_fails, crate::proofs::Unclean::later_fails))]
-    fn of_row(row: &Row) -> Result<Self, StoreFault> {
+    fn of_row(row: &Row, _before: Option<&Self>) -> Result<Self, StoreFault> {
         let sscc = sscc_at(row, 0)?;
         let place = within_at(row, 1, 1, LAST_LINE)?;
         let number = document_at(row, 2)?;
@@ -155,7 +155,7 @@ impl Shown for ReceiptRow {
     ghost clean = { clean_receipt };
 
     #[tactic(auto, using(crate::proofs::Unclean::first_fails, crate::proofs::Unclean::later_fails, crate::proofs::Unclean::too_many))]
-    fn of_row(row: &Row) -> Result<Self, StoreFault> {
+    fn of_row(row: &Row, _before: Option<&Self>) -> Result<Self, StoreFault> {
         let sscc = sscc_at(row, 0)?;
         let gtin = gtin_at(row, 1)?;
         let accepted = within_at(row, 2, 0, GREATEST)?;
@@ -177,8 +177,8 @@ impl Shown for MailRow {
     ghost clean = { clean_mail };
 
     #[tactic(auto, using(crate::proofs::Unclean::first_fails, crate::proofs::Unclean::later_fails))]
-    fn of_row(row: &Row) -> Result<Self, StoreFault> {
-        let supplier = gln_at(row, 0)?;
+    fn of_row(row: &Row, before: Option<&Self>) -> Result<Self, StoreFault> {
+        let supplier = gln_again(row, 0, before.map(|entry| &entry.supplier))?;
         let number = within_at(row, 1, 1, LAST_MAIL_NUMBER)?;
         let moment = moment_at(row, 2)?;
         let decimal = decimal_at(row, 3)?;
@@ -205,7 +205,7 @@ impl Shown for MailHead {
     ghost clean = { clean_head };
 
     #[tactic(auto, using(crate::proofs::Unclean::first_fails, crate::proofs::Unclean::later_fails))]
-    fn of_row(row: &Row) -> Result<Self, StoreFault> {
+    fn of_row(row: &Row, _before: Option<&Self>) -> Result<Self, StoreFault> {
         let number = within_at(row, 0, 1, LAST_MAIL_NUMBER)?;
         let kind = case_at(row, 1)?;
         let document = document_at(row, 2)?;
@@ -225,7 +225,7 @@ impl Shown for Items<u8> {
 
     ghost clean = { are_bytes };
 
-    fn of_row(row: &Row) -> Result<Self, StoreFault> {
+    fn of_row(row: &Row, _before: Option<&Self>) -> Result<Self, StoreFault> {
         bytes_at(row, 0)
     }
 }
@@ -239,7 +239,7 @@ impl Shown for u64 {
 
     ghost clean = { is_within 1 last_number };
 
-    fn of_row(row: &Row) -> Result<Self, StoreFault> {
+    fn of_row(row: &Row, _before: Option<&Self>) -> Result<Self, StoreFault> {
         within_at(row, 0, 1, LAST_MAIL_NUMBER)
     }
 }
@@ -254,7 +254,7 @@ pub(crate) fn all_shown<T: Shown>(alloc: Global, rows: &[Row]) -> Result<Items<T
 {
     let mut items = Items::new(alloc);
     'rows: for row in rows {
-        let item = T::of_row(row)?;
+        let item = T::of_row(row, items.as_slice().last())?;
         if items.push(item).is_err() {
             return Err(StoreFault::Memory);
         }
@@ -269,8 +269,9 @@ pub(crate) fn first_shown<T: Shown>(rows: &[Row]) -> Result<Option<T>, StoreFaul
     ensures unclean { result ≡ Err StoreFault.Unclean → list_all T.clean (map T.shown rows.now) ≡ false }
     ensures fails { IfErr result (λ fault. (fault ≡ StoreFault.Memory) ⊎ (fault ≡ StoreFault.Unclean)) }
 {
+    let before: Option<T> = None;
     match rows.first() {
-        Some(row) => Ok(Some(T::of_row(row)?)),
+        Some(row) => Ok(Some(T::of_row(row, before.as_ref())?)),
         None => Ok(None),
     }
 }

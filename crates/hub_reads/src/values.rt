@@ -119,6 +119,22 @@ pub(crate) fn gln_at(row: &Row, at: usize) -> Result<Gln, StoreFault>
     }
 }
 
+/// A GLN, which is taken over from the row before where the bytes are the same.
+pub(crate) fn gln_again(row: &Row, at: usize, before: Option<&Gln>) -> Result<Gln, StoreFault>
+    ensures ok { IfOk result (λ gln. gln ≡ bytes_in (column row.now at)) }
+    ensures right { IfOk result (λ gln. IsTrue (is_gln gln)) }
+    ensures unclean { IfErr result (λ fault.
+        (fault ≡ StoreFault.Unclean) × (is_gln (bytes_in (column row.now at)) ≡ false)) }
+{
+    if let Some(gln) = before {
+        let digits = blob_at(row, at)?;
+        if digits == gln.digits().as_slice() {
+            return Ok(*gln);
+        }
+    }
+    gln_at(row, at)
+}
+
 /// A company prefix.
 pub(crate) fn prefix_at(row: &Row, at: usize) -> Result<Prefix, StoreFault>
     ensures ok { IfOk result (λ prefix. prefix ≡ bytes_in (column row.now at)) }

@@ -172,6 +172,14 @@ impl<S: Alter> Store for SqliteStore<S> {
         settle(found, self.conn.schema(), &mut self.fault)
     }
 
+    fn contents_on(&mut self, sscc: &Sscc) -> Result<Items<ContentRow>, StoreFault> {
+        if let Some(lasting) = self.fault {
+            return Err(again(lasting));
+        }
+        let found = hub_reads::contents_on(&mut self.conn, self.alloc, sscc);
+        settle(found, self.conn.schema(), &mut self.fault)
+    }
+
     fn receipts_of(
         &mut self,
         supplier: &Gln,
@@ -181,6 +189,14 @@ impl<S: Alter> Store for SqliteStore<S> {
             return Err(again(lasting));
         }
         let found = hub_reads::receipts_of(&mut self.conn, self.alloc, supplier, sscc);
+        settle(found, self.conn.schema(), &mut self.fault)
+    }
+
+    fn receipts_on(&mut self, sscc: &Sscc) -> Result<Items<ReceiptRow>, StoreFault> {
+        if let Some(lasting) = self.fault {
+            return Err(again(lasting));
+        }
+        let found = hub_reads::receipts_on(&mut self.conn, self.alloc, sscc);
         settle(found, self.conn.schema(), &mut self.fault)
     }
 

@@ -17,8 +17,9 @@ use hub_register::Register;
 use hub_tables::{Change, ContentRow, LineRow, MailRow, PalletRow, ReceiptRow, Side};
 use std::collections::BTreeSet;
 
-/// Where the rows of a hub are kept. Look-ups but `used` are for one supplier: each answers from the rows that this
-/// supplier sees, in the order of the content. Where tables are sound that is the order of keys, as the calls have it.
+/// Where the rows of a hub are kept. Most look-ups are for one supplier: each answers from the rows that this supplier
+/// sees. Those that name a pallet alone answer whosever it is. All answer in the order of the content. Where tables are
+/// sound that is the order of keys, as the calls have it.
 ///
 /// Numbers of documents and references are their bytes, as messages write them without release characters. Numbers of
 /// mailbox entries count from 1.
@@ -146,10 +147,22 @@ pub trait Store {
             (contents_of (view supplier.now (content self.old)) sscc.now) result }
         ensures fails { Fails plain (broken self.old) (broken self.new) result };
 
+    /// The contents of a pallet of whatever supplier, by place.
+    fn contents_on(&mut self, sscc: &Sscc) -> Result<Items<ContentRow>, StoreFault>
+        ensures looks { Looks content honest left broken self.old self.new
+            (contents_of (content self.old) sscc.now) result }
+        ensures fails { Fails plain (broken self.old) (broken self.new) result };
+
     /// What was received of a pallet, by item. None where the pallet is another supplier's.
     fn receipts_of(&mut self, supplier: &Gln, sscc: &Sscc) -> Result<Items<ReceiptRow>, StoreFault>
         ensures looks { Looks content honest left broken self.old self.new
             (receipts_of (view supplier.now (content self.old)) sscc.now) result }
+        ensures fails { Fails plain (broken self.old) (broken self.new) result };
+
+    /// What was received of a pallet of whatever supplier, by item.
+    fn receipts_on(&mut self, sscc: &Sscc) -> Result<Items<ReceiptRow>, StoreFault>
+        ensures looks { Looks content honest left broken self.old self.new
+            (receipts_of (content self.old) sscc.now) result }
         ensures fails { Fails plain (broken self.old) (broken self.new) result };
 
     /// Whether any supplier has a pallet of this SSCC. A plain store takes no memory for it, and answers.

@@ -175,6 +175,8 @@ struct Seen {
     all_pallets: usize,
     contents: (usize, u32),
     receipts: (usize, u32),
+    contents_on: (usize, u32),
+    receipts_on: (usize, u32),
     used: bool,
 }
 
@@ -192,10 +194,12 @@ const ALL: Seen = Seen {
     all_pallets: 1,
     contents: (1, 48),
     receipts: (1, 40),
+    contents_on: (1, 48),
+    receipts_on: (1, 40),
     used: true,
 };
 
-// Beta, of whom no row is.
+// Beta, of whom no row is: of alpha's pallet it gets what is told of a pallet of whatever supplier.
 const NOTHING: Seen = Seen {
     remembered: false,
     order: false,
@@ -209,6 +213,8 @@ const NOTHING: Seen = Seen {
     all_pallets: 0,
     contents: (0, 0),
     receipts: (0, 0),
+    contents_on: (1, 48),
+    receipts_on: (1, 40),
     used: true,
 };
 
@@ -319,6 +325,14 @@ fn receipts<S: Store>(store: &mut S, ids: &Ids) -> Result<(usize, u32), StoreFau
     Ok(accepted(store.receipts_of(&ids.supplier, &ids.pallet)?.as_slice()))
 }
 
+fn contents_on<S: Store>(store: &mut S, sscc: &Sscc) -> Result<(usize, u32), StoreFault> {
+    Ok(quantity(store.contents_on(sscc)?.as_slice()))
+}
+
+fn receipts_on<S: Store>(store: &mut S, sscc: &Sscc) -> Result<(usize, u32), StoreFault> {
+    Ok(accepted(store.receipts_on(sscc)?.as_slice()))
+}
+
 fn is_used<S: Store>(store: &mut S, sscc: &Sscc) -> Result<bool, StoreFault> {
     store.used(sscc)
 }
@@ -345,10 +359,17 @@ fn see_pallet<S: Store>(store: &mut S, ids: &Ids, seen: &mut Seen) -> Result<(),
     Ok(())
 }
 
+// What is told of a pallet of whatever supplier.
+fn see_any_pallet<S: Store>(store: &mut S, ids: &Ids, seen: &mut Seen) -> Result<(), StoreFault> {
+    seen.contents_on = contents_on(store, &ids.pallet)?;
+    seen.receipts_on = receipts_on(store, &ids.pallet)?;
+    seen.used = is_used(store, &ids.pallet)?;
+    Ok(())
+}
+
 fn see_goods<S: Store>(store: &mut S, ids: &Ids, seen: &mut Seen) -> Result<(), StoreFault> {
     seen.advice = is_advised(store, &ids.supplier)?;
     seen.all_pallets = all_pallets(store, &ids.supplier)?;
-    seen.used = is_used(store, &ids.pallet)?;
     Ok(())
 }
 
@@ -357,6 +378,7 @@ fn look_ups<S: Store>(store: &mut S, ids: &Ids) -> Result<Seen, StoreFault> {
     see_order(store, ids, &mut seen)?;
     see_mail(store, ids, &mut seen)?;
     see_pallet(store, ids, &mut seen)?;
+    see_any_pallet(store, ids, &mut seen)?;
     see_goods(store, ids, &mut seen)?;
     Ok(seen)
 }
@@ -385,7 +407,7 @@ fn is_seen<S: Store>(store: &mut S, ids: &Ids, want: &Seen) -> Result<bool, Stor
 }
 
 fn has_counted(store: &TrialStore<VecStore>) -> bool {
-    store.look_ups() == 26 && store.commits() == 2
+    store.look_ups() == 30 && store.commits() == 2
 }
 
 // The look-ups of a supplier with rows, and of one without, are counted.

@@ -12,6 +12,12 @@ use Rattle.hub_texts.specs.Totals.{IsUnclean, pieces_of}
 abbrev pub NoneReceived : Tables → PalletRow → Type 0
 NoneReceived state pallet = is_announced pallet ≡ true → receipts_of state pallet.sscc ≡ []
 
+-- A supplier sees all of a pallet, and of one that is announced nothing was received.
+pub record SeesPallet (state t : Tables) (pallet : PalletRow) : Type 0 where
+  pub contents : contents_of t pallet.sscc ≡ contents_of state pallet.sscc
+  pub receipts : receipts_of t pallet.sscc ≡ receipts_of state pallet.sscc
+  pub none : NoneReceived state pallet
+
 -- a content of one of the pallets names no line, or a sum of its pieces is past 64 bits
 pub record PalletUnclean (state : Tables) (lines : List LineRow) (pallets : List PalletRow) : Type 0 where
   pub pallet : PalletRow

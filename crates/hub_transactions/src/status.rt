@@ -14,7 +14,7 @@ ghost use Rattle.hub_law.specs.Replies.{done};
 ghost use Rattle.hub_law.specs.StatusText.{pallet_text, status_text};
 ghost use Rattle.hub_texts.specs.Totals.{IsUnclean};
 ghost use Rattle.hub_transactions.specs.Acts.{FailsWith, NoCause, Stays, any_answer, no_answer};
-ghost use Rattle.hub_transactions.specs.Status.{NoneReceived, PalletUnclean, StatusUnclean};
+ghost use Rattle.hub_transactions.specs.Status.{PalletUnclean, SeesPallet, StatusUnclean};
 
 use crate::mailbox::done_reply;
 use edi_base::Items;
@@ -54,14 +54,12 @@ fn with_text(
 fn received_of<S: Store>(
     alloc: Global,
     store: &mut S,
-    supplier: &Gln,
     pallet: &PalletRow,
 ) -> Result<Items<ReceiptRow>, StoreFault>
-    ensures rows { S.honest store.new → NoneReceived (view supplier.now (S.content store.old)) pallet.now →
-        IfOk result (λ rows. rows ≡ receipts_of (view supplier.now (S.content store.old)) pallet.now.sscc) }
+    ensures rows { S.honest store.new → (state : Tables) → SeesPallet state (S.content store.old) pallet.now →
+        IfOk result (λ rows. rows ≡ receipts_of state pallet.now.sscc) }
     ensures some { S.honest store.new →
-        IfOk result (λ rows. (rows ≡ [])
-        ⊎ (rows ≡ receipts_of (view supplier.now (S.content store.old)) pallet.now.sscc)) }
+        IfOk result (λ rows. (rows ≡ []) ⊎ (rows ≡ receipts_of (S.content store.old) pallet.now.sscc)) }
     ensures unclean { S.honest store.new → S.broken store.old ≡ None →
         are_clean (S.content store.old) ≡ true → result ≢ Err Unclean }
     ensures goes_on { OnOk result (S.broken store.new ≡ S.broken store.old) }
@@ -71,7 +69,7 @@ fn received_of<S: Store>(
     if pallet.received.case() == Arrival::Announced {
         return Ok(Items::new(alloc));
     }
-    let received = store.receipts_of(supplier, &pallet.sscc)?;
+    let received = store.receipts_on(&pallet.sscc)?;
     Ok(received)
 }
 
@@ -79,29 +77,25 @@ fn received_of<S: Store>(
 fn with_pallets<S: Store>(
     alloc: Global,
     store: &mut S,
-    supplier: &Gln,
     lines: &[LineRow],
     pallets: &[PalletRow],
     text: Vec<u8>,
 ) -> Result<Vec<u8>, StoreFault>
     requires { Rises place_cmp lines.now }
-    ensures text { S.honest store.new → (view supplier.now (S.content store.old)).lines ≡ lines.now →
-        ((pallet : PalletRow) → Has pallets.now pallet →
-        NoneReceived (view supplier.now (S.content store.old)) pallet) →
-        IfOk result (λ whole. whole.items ≡ text.items
-        ++ flat_map (pallet_text (view supplier.now (S.content store.old))) pallets.now) }
+    ensures text { S.honest store.new → (state : Tables) → state.lines ≡ lines.now →
+        ((pallet : PalletRow) → Has pallets.now pallet → SeesPallet state (S.content store.old) pallet) →
+        IfOk result (λ whole. whole.items ≡ text.items ++ flat_map (pallet_text state) pallets.now) }
     ensures unclean { S.honest store.new → S.broken store.old ≡ None →
         are_clean (S.content store.old) ≡ true →
-        result ≡ Err Unclean → PalletUnclean (view supplier.now (S.content store.old)) lines.now pallets.now }
-    ensures fails { FailsWith S.plain (S.honest store.new →
-        PalletUnclean (view supplier.now (S.content store.old)) lines.now pallets.now)
+        result ≡ Err Unclean → PalletUnclean (S.content store.old) lines.now pallets.now }
+    ensures fails { FailsWith S.plain (S.honest store.new → PalletUnclean (S.content store.old) lines.now pallets.now)
         any_answer (S.broken store.old) (S.broken store.new) result }
     ensures stays { Stays S.content S.honest S.left store.old store.new }
 {
     let mut whole = text;
     for pallet in pallets {
-        let announced = store.contents_of(supplier, &pallet.sscc)?;
-        let received = received_of(alloc, store, supplier, pallet)?;
+        let announced = store.contents_on(&pallet.sscc)?;
+        let received = received_of(alloc, store, pallet)?;
         let contents = announced.as_slice();
         let receipts = received.as_slice();
         whole = with_text(alloc, lines, pallet, contents, receipts, whole)?;
@@ -134,7 +128,7 @@ pub fn status_report<S: Store>(
     let despatched = store.all_pallets(supplier)?;
     let pallets = despatched.as_slice();
     let of_lines = with_lines(lines, Vec::new(alloc))?;
-    let mut text = with_pallets(alloc, store, supplier, lines, pallets, of_lines)?;
+    let mut text = with_pallets(alloc, store, lines, pallets, of_lines)?;
     text.extend_from_slice(b"end\n")?;
     let body = Items::from_vec(text);
     Ok(done_reply(body))

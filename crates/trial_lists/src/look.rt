@@ -273,8 +273,20 @@ pub(crate) fn pallets_from(
     copies_at(alloc, pallets, rows_at(owned, &OfSupplier { supplier }))
 }
 
-/// The contents of a pallet, where it is the supplier's.
+/// The contents of a pallet of whatever supplier.
 pub(crate) fn contents_on(
+    alloc: Global,
+    contents: &[ContentRow],
+    sscc: &Sscc,
+) -> Result<Items<ContentRow>, MemoryFault>
+    requires { Rises content_cmp contents.now }
+    ensures { IfOk result (λ found. found ≡ filter (λ content. same content.sscc sscc.now) contents.now) }
+{
+    copies(alloc, rows_at(contents, &OnPallet { sscc }))
+}
+
+/// The contents of a pallet, where it is the supplier's.
+pub(crate) fn contents_of(
     alloc: Global,
     contents: &[ContentRow],
     pallets: &[PalletRow],
@@ -289,11 +301,23 @@ pub(crate) fn contents_on(
     if !holds_pallet(pallets, supplier, sscc) {
         return Ok(Items::new(alloc));
     }
-    copies(alloc, rows_at(contents, &OnPallet { sscc }))
+    contents_on(alloc, contents, sscc)
+}
+
+/// What was received of a pallet of whatever supplier.
+pub(crate) fn receipts_on(
+    alloc: Global,
+    receipts: &[ReceiptRow],
+    sscc: &Sscc,
+) -> Result<Items<ReceiptRow>, MemoryFault>
+    requires { Rises receipt_cmp receipts.now }
+    ensures { IfOk result (λ found. found ≡ filter (λ receipt. same receipt.sscc sscc.now) receipts.now) }
+{
+    copies(alloc, rows_at(receipts, &OnPallet { sscc }))
 }
 
 /// What was received of a pallet, where it is the supplier's.
-pub(crate) fn receipts_on(
+pub(crate) fn receipts_of(
     alloc: Global,
     receipts: &[ReceiptRow],
     pallets: &[PalletRow],
@@ -308,7 +332,7 @@ pub(crate) fn receipts_on(
     if !holds_pallet(pallets, supplier, sscc) {
         return Ok(Items::new(alloc));
     }
-    copies(alloc, rows_at(receipts, &OnPallet { sscc }))
+    receipts_on(alloc, receipts, sscc)
 }
 
 /// The number of the last entry of a supplier's mailbox, 0 where there is none.

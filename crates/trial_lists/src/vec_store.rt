@@ -191,7 +191,12 @@ impl Store for VecStore {
     ) -> Result<Items<ContentRow>, StoreFault> {
         let contents = self.lists.contents.as_slice();
         let pallets = self.lists.pallets.as_slice();
-        Ok(look::contents_on(self.alloc, contents, pallets, supplier, sscc)?)
+        Ok(look::contents_of(self.alloc, contents, pallets, supplier, sscc)?)
+    }
+
+    fn contents_on(&mut self, sscc: &Sscc) -> Result<Items<ContentRow>, StoreFault> {
+        let contents = self.lists.contents.as_slice();
+        Ok(look::contents_on(self.alloc, contents, sscc)?)
     }
 
     fn receipts_of(
@@ -201,7 +206,12 @@ impl Store for VecStore {
     ) -> Result<Items<ReceiptRow>, StoreFault> {
         let receipts = self.lists.receipts.as_slice();
         let pallets = self.lists.pallets.as_slice();
-        Ok(look::receipts_on(self.alloc, receipts, pallets, supplier, sscc)?)
+        Ok(look::receipts_of(self.alloc, receipts, pallets, supplier, sscc)?)
+    }
+
+    fn receipts_on(&mut self, sscc: &Sscc) -> Result<Items<ReceiptRow>, StoreFault> {
+        let receipts = self.lists.receipts.as_slice();
+        Ok(look::receipts_on(self.alloc, receipts, sscc)?)
     }
 
     fn used(&mut self, sscc: &Sscc) -> Result<bool, StoreFault> {

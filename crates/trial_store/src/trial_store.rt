@@ -228,6 +228,13 @@ impl<S: Store> Store for TrialStore<S> {
         found
     }
 
+    fn contents_on(&mut self, sscc: &Sscc) -> Result<Items<ContentRow>, StoreFault> {
+        self.gate.look_up()?;
+        let found = self.store.contents_on(sscc);
+        self.gate.seen(&found);
+        found
+    }
+
     fn receipts_of(
         &mut self,
         supplier: &Gln,
@@ -235,6 +242,13 @@ impl<S: Store> Store for TrialStore<S> {
     ) -> Result<Items<ReceiptRow>, StoreFault> {
         self.gate.look_up()?;
         let found = self.store.receipts_of(supplier, sscc);
+        self.gate.seen(&found);
+        found
+    }
+
+    fn receipts_on(&mut self, sscc: &Sscc) -> Result<Items<ReceiptRow>, StoreFault> {
+        self.gate.look_up()?;
+        let found = self.store.receipts_on(sscc);
         self.gate.seen(&found);
         found
     }

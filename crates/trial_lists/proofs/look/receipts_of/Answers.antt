@@ -2,7 +2,7 @@ use Rattle.std.proofs.Common.{◌≡◌, ◌∙◌, List, [], IfOk, cond, true, 
 use Rattle.hub_tables.specs.Rows.{same}
 use Rattle.hub_tables.specs.declared.rows.ReceiptRow.{ReceiptRow}
 use Rattle.trial_lists.proofs.Filters.{receipts_held}
-use Rattle.trial_lists.proofs.look.receipts_on.Goals as goal
+use Rattle.trial_lists.proofs.look.receipts_of.Goals as goal
 
 pub returns-then-not-holds_pallet : goal.returns-then-not-holds_pallet
 returns-then-not-holds_pallet c =
@@ -16,5 +16,5 @@ returns c =
     let rows = filter (λ (row : ReceiptRow). same row.sscc c.args.sscc.now) c.args.receipts.now in
     let held = receipts_held c.args.supplier.now c.args.sscc.now c.args.pallets.now c.args.receipts.now in
     let yes : c.holds_pallet.result ≡ true = search rules in
-    subst (λ (rows : List ReceiptRow). IfOk c.copies.result (λ found. found ≡ rows))
-    (c.rows_at.ensures ∙ sym (held ∙ ap (λ v. cond v rows []) (sym c.holds_pallet.ensures ∙ yes))) c.copies.ensures
+    subst (λ (rows : List ReceiptRow). IfOk c.receipts_on.result (λ found. found ≡ rows))
+    (sym (held ∙ ap (λ v. cond v rows []) (sym c.holds_pallet.ensures ∙ yes))) c.receipts_on.ensures
