@@ -8,6 +8,7 @@ from tests.harness.hub_scripts import CHANGED, DESPATCH, FIRST_MAIL, MOMENT, OTH
 from tests.harness.hub_scripts import RECEIPT, RESPONSE, SECOND, SECOND_MAIL, SPELLED, STATUS, THIRD_MAIL
 from tests.harness.hub_scripts import THIRD_PALLET, Play, accepted, advice, despatch, goods_in_turn, interchange
 from tests.harness.hub_scripts import line_status, message, order, ordered, parties, receipt, response
+from tests.harness.random_inputs import sscc
 from tests.harness.register_texts import ALPHA, BETA, DELTA, HUB, RETAILER
 
 
@@ -268,6 +269,11 @@ def numbered_answer(reference, number, line):
     return answer_of(reference, number, 4, "LIN+1+5+4000862141404:SRV", f"RFF+ON:{number}:{line}")
 
 
+def line_sent(reference, named):
+    head = (f"BGM+351+DA8{reference}+9", "DTM+137:20250604:102", *parties(ALPHA), "CPS+1", f"GIN+BJ+{sscc(ALPHA, 100 + reference)}")
+    return message("DESADV:D:01B:UN:EAN007", reference, *head, "LIN+1++4000862141404:SRV", "QTY+12:1", named)
+
+
 def counted():
     """The look-ups and commits of each message."""
     play = ordered().counts(3, 1)
@@ -307,7 +313,12 @@ def counted():
     # lines that are named by their numbers alone, in one look-up for each message
     text = interchange(ALPHA, "S8", numbered_answer(1, "128578", 1), numbered_answer(2, "128578", 2))
     told = ("1 ORDRSP refused B07", "2 ORDRSP refused B06")
-    return play.upload(ALPHA, text, "interchange S8 messages 2", *told).counts(6, 0)
+    play.upload(ALPHA, text, "interchange S8 messages 2", *told).counts(6, 0).say("mend")
+    # so it is for an advice, until one names a line by its article: then the order is known whole
+    named = "RFF+ON:128577:1", "RFF+ON:128577:1", "RFF+ON:128577", "RFF+ON:128577:1"
+    advices = [line_sent(place, line) for place, line in enumerate(named, 1)]
+    told = [f"{place} DESADV accepted" for place in range(1, 5)]
+    return play.upload(ALPHA, interchange(ALPHA, "S6", *advices), "interchange S6 messages 4", *told).counts(18, 4)
 
 
 def stopped_once(calls, fault):

@@ -2,7 +2,7 @@
 use Rattle.std.proofs.Common.{◌≡◌, ℕ, Bool, true, false, cond, List, [], ◌∷◌, map, find, Option, Some, None, option_map, is_some}
 use Rattle.std.proofs.Common.{refl, sym, ap, ◌∙◌, inl, inr, Vec}
 use Rattle.std.specs.BTreeMap.{insert_entry, is_at}
-use Rattle.std.specs.Map.{lookup, set_value}
+use Rattle.std.specs.Map.{lookup, remove_entry, set_value}
 use Rattle.std.specs.Option.{unwrap_or}
 use Rattle.std.specs.declared.cmp.Ordering.{Ordering}
 use Rattle.std.specs.declared.cmp.Ordering.TheVariants.{Less, Equal, Greater}
@@ -158,6 +158,27 @@ module _ {Z : Type 0} where
       found_is order (insert_entry key_cmp es key known) (lookup (at order) es)
       (put_found key known order es ∙ ap (λ (v : Bool). cond v (Some known) (lookup (at order) es)) other)
       ∙ sym (look order es)
+
+-- an order that is taken out
+module _ {Z : Type 0} (order other : List ℕ) (apart : same other order ≡ false) where
+  remove_other : (es : List (Entry Z)) → lookup (at other) (remove_entry (at order) es) ≡ lookup (at other) es
+  remove_other [] = refl
+  remove_other (e ∷ es) =
+      let rest = remove_other es in
+      elim (decide (same order e.0.items)) [
+        | inl its ↦
+            let here : at order e.0 ≡ true = at_is order e.0 ∙ its in
+            let not_it : at other e.0 ≡ false = at_is other e.0 ∙ ap (same other) (sym (same_is order e.0.items its)) ∙ apart in
+            ap (λ (v : Bool). lookup (at other) (cond v es (e ∷ remove_entry (at order) es))) here
+            ∙ sym (ap (λ (v : Bool). cond v (Some e.1) (lookup (at other) es)) not_it)
+        | inr another ↦
+            let here : at order e.0 ≡ false = at_is order e.0 ∙ another in
+            ap (λ (v : Bool). lookup (at other) (cond v es (e ∷ remove_entry (at order) es))) here
+            ∙ ap (cond (at other e.0) (Some e.1)) rest
+      ]
+
+  pub removed_others : (es : List (Entry Z)) → order_in (map shown (remove_entry (at order) es)) other ≡ order_in (map shown es) other
+  removed_others es = found_is other (remove_entry (at order) es) (lookup (at other) es) (remove_other es) ∙ sym (look other es)
 
 -- an order that is set
 module _ {Z : Type 0} where

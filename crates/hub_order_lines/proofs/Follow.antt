@@ -3,7 +3,7 @@ use Rattle.std.proofs.Common.{◌≡◌, ◌⊎◌, ℕ, Bool, true, false, cond
 use Rattle.std.proofs.Common.{◌||◌, refl, sym, ap, ◌∙◌, subst, Vec}
 use Rattle.std.specs.BTreeMap.{insert_entry}
 use Rattle.std.specs.List.{AllByRecursion}
-use Rattle.std.specs.Map.{lookup, set_value}
+use Rattle.std.specs.Map.{lookup, remove_entry, set_value}
 use Rattle.hub_parties.specs.KeyOrder.{replace}
 use Rattle.hub_tables.specs.Rows.{same, same_line}
 use Rattle.hub_tables.specs.declared.change.Change.{Change}
@@ -12,11 +12,12 @@ use Rattle.hub_tables.specs.declared.change.Change.TheVariants.{AddPallet, SetPa
 use Rattle.hub_tables.specs.declared.change.Change.TheVariants.{Remember, AddMail, SetMail}
 use Rattle.hub_tables.specs.declared.rows.LineRow.{LineRow}
 use Rattle.hub_tables.proofs.Lists.{decide, same_is, same_if, all_filter}
-use Rattle.hub_order_lines.specs.Book.{Orders, facts_of, has_order, lines_in, rows}
+use Rattle.hub_order_lines.specs.Book.{Orders, facts_of, has_order, lines_in, order_in, rows}
 use Rattle.hub_order_lines.specs.KnownLines.{AddsUp}
-use Rattle.hub_order_lines.specs.KnownOrders.{is_kept, rows_after, adds_lines, AddsOrder, Follows}
+use Rattle.hub_order_lines.specs.KnownOrders.{is_kept, rows_after, adds_lines, AddsOrder, Follows, ForgetsOrder}
 use Rattle.hub_order_lines.specs.declared.known_orders.KnownOrder.{KnownOrder}
-use Rattle.hub_order_lines.proofs.Entries.{Entry, shown, at, key_cmp, kept_is, has_is, lines_are, put_known, put_others, set_found}
+use Rattle.hub_order_lines.proofs.Entries.{Entry, shown, at, key_cmp, kept_is, has_is, lines_are, put_known, put_others, removed_others}
+use Rattle.hub_order_lines.proofs.Entries.{set_found}
 use Rattle.hub_order_lines.proofs.RowsOfOrder.{set_of_order, other_untouched}
 
 module _ {Z : Type 0} (row : LineRow) (es : List (Entry Z)) where
@@ -112,6 +113,16 @@ module _ {Z : Type 0} (row : LineRow) (es : List (Entry Z)) where
           subst (AllByRecursion AddsUp)
           (sym (lines_are order (set_value (at row.number) es w) (lookup (at order) es) (found_after order false apart)
           ∙ sym (lines_are order es (lookup (at order) es) refl))) add
+
+-- an order that is taken out
+pub taken_out : {Z : Type 0} (order : List ℕ) (es new : List (Entry Z))
+    → new ≡ remove_entry (at order) es
+    → lookup (at order) new ≡ None
+    → ForgetsOrder order (map shown es) (map shown new)
+taken_out order es new becomes none = record {
+  gone = kept_is order new ∙ ap is_some none;
+  others = λ other apart. ap (λ es. order_in (map shown es) other) becomes ∙ removed_others order other apart es;
+}
 
 -- an order that is put
 pub put_ok : {Z : Type 0} (order : List ℕ) (is_there : Bool) (given : List LineRow) (es new : List (Entry Z)) (key : Vec ℕ Z)

@@ -30,6 +30,11 @@ pub record AddsOrder (number : List ℕ) (is_there : Bool) (given : List LineRow
   pub known : order_in new number ≡ Some (is_there, facts_of facts number)
   pub others : (order : List ℕ) → same order number ≡ false → order_in new order ≡ order_in old order
 
+-- an order is no longer known, and of all others what was known is
+pub record ForgetsOrder (number : List ℕ) (old new : Orders) : Type 0 where
+  pub gone : is_kept new number ≡ false
+  pub others : (order : List ℕ) → same order number ≡ false → order_in new order ≡ order_in old order
+
 -- the rows of lines after changes of lines that are there
 abbrev pub rows_after : List Change → List LineRow → List LineRow
 rows_after [] given = given

@@ -6,7 +6,7 @@ ghost use Rattle.hub_parties.specs.KeyOrder.{Rises};
 ghost use Rattle.hub_tables.specs.declared.change.Change.TheVariants.{SetLine};
 ghost use Rattle.hub_order_lines.specs.Book.{facts_cmp, facts_of, facts_among, has_order, lines_in, IsCovered};
 ghost use Rattle.hub_order_lines.specs.KnownLines.{AreUnclean};
-ghost use Rattle.hub_order_lines.specs.KnownOrders.{is_kept, AddsOrder, AreKnownOnce, Follows};
+ghost use Rattle.hub_order_lines.specs.KnownOrders.{is_kept, AddsOrder, AreKnownOnce, Follows, ForgetsOrder};
 
 use crate::facts::LineFacts;
 use crate::known_lines::KnownLines;
@@ -25,7 +25,7 @@ struct KnownOrder {
     lines: OrderLines,
 }
 
-/// Orders of one supplier that were looked up, each with all its lines. They can be kept from message to message.
+/// Orders of one supplier that were looked up, each with its lines. They can be kept from message to message.
 #[derive(Debug, Drop)]
 pub struct KnownOrders {
     orders: BTreeMap<Vec<u8>, KnownOrder>,
@@ -131,6 +131,7 @@ impl KnownOrders {
     ) -> Result<bool, MemoryFault>
         ensures put { IfOk result (λ put. IsTrue put → AddsOrder order.now is_there given self.old self.new) }
         ensures unclean { IfOk result (λ put. (put ≡ false) → AreUnclean given) }
+        ensures same { IfOk result (λ put. (put ≡ false) → self.new ≡ self.old) }
     {
         let count = given.len();
         let Some(lines) = KnownLines::of_rows(alloc, given)? else {
@@ -144,6 +145,15 @@ impl KnownOrders {
         self.orders.insert(key, known)?;
         self.size = self.size.saturating_add(count);
         Ok(true)
+    }
+
+    /// Forgets an order.
+    pub fn forget_order(&mut self, order: &[u8])
+        ensures { ForgetsOrder order.now self.old self.new }
+    {
+        let known = self.orders.remove(order);
+        let count = known.map_or(0, |known| known.lines.as_slice().len());
+        self.size = self.size.saturating_sub(count);
     }
 
     /// Forgets all orders, where they have more lines than so many.

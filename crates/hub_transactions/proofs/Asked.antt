@@ -39,11 +39,8 @@ use Rattle.hub_rules.specs.declared.code.Code.{Code}
 use Rattle.hub_rules.specs.declared.code.Code.TheVariants as codes
 use Rattle.hub_rules.specs.declared.verdict.Verdict.{Verdict}
 use Rattle.hub_rules.specs.declared.verdict.Verdict.TheVariants.{Accept, Refuse}
+use Rattle.hub_transactions.specs.Orders.{bare, AgreeOnLines}
 use Rattle.hub_transactions.proofs.KeptOrders.{first_none, later_none}
-
--- tables without their lines
-abbrev bare : Tables → Tables
-bare t = record t { lines = [] }
 
 -- what is accepted adds no order and no line
 abbrev pub Tame : Verdict → Type 0
@@ -53,7 +50,8 @@ refuses_tame : (code : Code) → Tame (Refuse code)
 refuses_tame code changes is = absurd (cc (is))
 
 accepts_tame : (changes : List Change) → list_any adds_lines changes ≡ false → Tame (Accept changes)
-accepts_tame changes none others is = let same_changes : changes ≡ others = cc in subst (λ cs. list_any adds_lines cs ≡ false) same_changes none
+accepts_tame changes none others is = let same_changes : changes ≡ others = cc in subst (λ cs. list_any adds_lines cs
+    ≡ false) same_changes none
 
 refused_tame : (test : Bool) (code : Code) (rest : Verdict) → Tame rest → Tame (refuse_if test code rest)
 refused_tame true code rest tame = refuses_tame code
@@ -73,21 +71,14 @@ joined_tame : (first : List Change) → list_any adds_lines first ≡ false → 
 joined_tame first none (Refuse code) tame = refuses_tame code
 joined_tame first none (Accept rest) tame = accepts_tame (first ++ rest) (none_in_both first rest none (tame rest refl))
 
--- which lines are asked for: of an order, the one of a number, or where none is given all
+-- which lines are asked for
 module _ (asks : List ℕ → Option ℕ → Bool) where
-  -- but for their lines two tables are one, and of each line that is asked for they say the same
-  pub record Agree (a b : Tables) : Type 0 where
-    pub rest : bare a ≡ bare b
-    pub one : (order : List ℕ) (number : ℕ) → asks order (Some number) ≡ true
-        → find (λ line. line.line == number) (lines_of a order) ≡ find (λ line. line.line == number) (lines_of b order)
-    pub all : (order : List ℕ) → asks order None ≡ true → lines_of a order ≡ lines_of b order
-
   -- a judge that says the same of such tables, and adds no order and no line
   pub record Local (judge : Judge) : Type 0 where
-    pub says : (a b : Tables) → Agree a b → judge a ≡ judge b
+    pub says : (a b : Tables) → AgreeOnLines asks a b → judge a ≡ judge b
     pub tame : (a : Tables) → Tame (judge a)
 
-  line_agrees : (a b : Tables) → Agree a b → (order : List ℕ) (number : Option ℕ) (gtin : List ℕ) → asks order number ≡ true
+  line_agrees : (a b : Tables) → AgreeOnLines asks a b → (order : List ℕ) (number : Option ℕ) (gtin : List ℕ) → asks order number ≡ true
       → line_of a order number gtin ≡ line_of b order number gtin
   line_agrees a b agree order None gtin asked = ap (λ lines. line_among lines None gtin) (agree.all order asked)
   line_agrees a b agree order (Some number) gtin asked = agree.one order number asked
@@ -139,7 +130,7 @@ module _ (asks : List ℕ → Option ℕ → Bool) where
           ∙ sym (ap (λ (v : Bool). option_map (λ line. cond (same_line row line) row line)
           (found v line (find (λ line. line.line == number) lines))) k)
 
-  set_agrees : (row : LineRow) (a b : Tables) → Agree a b → Agree (apply (SetLine row) a) (apply (SetLine row) b)
+  set_agrees : (row : LineRow) (a b : Tables) → AgreeOnLines asks a b → AgreeOnLines asks (apply (SetLine row) a) (apply (SetLine row) b)
   set_agrees row a b agree = record {
     rest = agree.rest;
     one = λ order number asked.
@@ -154,7 +145,8 @@ module _ (asks : List ℕ → Option ℕ → Bool) where
         ∙ sym (set_among_order row order b.lines);
   }
 
-  change_agrees : (change : Change) (a b : Tables) → adds_lines change ≡ false → Agree a b → Agree (apply change a) (apply change b)
+  change_agrees : (change : Change) (a b : Tables) → adds_lines change ≡ false → AgreeOnLines asks a b
+      → AgreeOnLines asks (apply change a) (apply change b)
   change_agrees (SetLine row) a b none agree = set_agrees row a b agree
   change_agrees (AddHub row) a b none agree = record { rest = ap (apply (AddHub row)) agree.rest; one = agree.one; all = agree.all }
   change_agrees (AddKey row) a b none agree = record { rest = ap (apply (AddKey row)) agree.rest; one = agree.one; all = agree.all }
@@ -172,8 +164,8 @@ module _ (asks : List ℕ → Option ℕ → Bool) where
   change_agrees (AddMail row) a b none agree = record { rest = ap (apply (AddMail row)) agree.rest; one = agree.one; all = agree.all }
   change_agrees (SetMail row) a b none agree = record { rest = ap (apply (SetMail row)) agree.rest; one = agree.one; all = agree.all }
 
-  changes_agree : (changes : List Change) (a b : Tables) → list_any adds_lines changes ≡ false → Agree a b
-      → Agree (apply_all changes a) (apply_all changes b)
+  changes_agree : (changes : List Change) (a b : Tables) → list_any adds_lines changes ≡ false → AgreeOnLines asks a b
+      → AgreeOnLines asks (apply_all changes a) (apply_all changes b)
   changes_agree [] a b none agree = agree
   changes_agree (change ∷ changes) a b none agree =
       changes_agree changes (apply change a) (apply change b) (later_none change changes none)
@@ -181,7 +173,7 @@ module _ (asks : List ℕ → Option ℕ → Bool) where
 
   -- Judges put together.
 
-  goes_on_local : (a b : Tables) → Agree a b → (first : Verdict) → Tame first → (second : Judge) → Local second
+  goes_on_local : (a b : Tables) → AgreeOnLines asks a b → (first : Verdict) → Tame first → (second : Judge) → Local second
       → goes_on first second a ≡ goes_on first second b
   goes_on_local a b agree (Refuse code) tame second local = refl
   goes_on_local a b agree (Accept changes) tame second local =
@@ -292,7 +284,8 @@ module _ (asks : List ℕ → Option ℕ → Bool) where
       (in_order_local (judge_unit s used despatch.number) despatch.units (units_local s used despatch.number despatch.units all)) in
       record {
         says = λ a b agree.
-            ap₂ (λ known verdict. refuse_if known codes.AdviceKnown verdict) (ap (λ (t : Tables). knows_advice t despatch.number) agree.rest)
+            ap₂ (λ known verdict. refuse_if known codes.AdviceKnown verdict) (ap (λ
+            (t : Tables). knows_advice t despatch.number) agree.rest)
             (both.says a b agree);
         tame = λ a. refused_tame (knows_advice a despatch.number) codes.AdviceKnown _ (both.tame a);
       }
@@ -322,7 +315,7 @@ module _ (asks : List ℕ → Option ℕ → Bool) where
   -- a message of a supplier, from its parties on
   pub message_local : (retailer : List ℕ) (supplier : Option SupplierRow) (side : Side) (incoming : IncomingMessage)
       (buyer : Option (List ℕ)) (named : List ℕ) (rest : SupplierRow → Judge) → ((s : SupplierRow) → Local (rest s))
-      → (a b : Tables) → Agree a b
+      → (a b : Tables) → AgreeOnLines asks a b
       → judge_message retailer supplier side incoming buyer named rest a ≡ judge_message retailer supplier side incoming buyer named rest b
   message_local retailer None side incoming buyer named rest local a b agree = refl
   message_local retailer (Some s) side incoming buyer named rest local a b agree =

@@ -28,8 +28,8 @@ use Rattle.hub_rules.specs.declared.incoming.IncomingMessage.{IncomingMessage}
 use Rattle.hub_judges.specs.Known.{TellsRemembered, TellsForResponse}
 use Rattle.hub_judges.specs.declared.known.Known.{Known}
 use Rattle.hub_transactions.specs.Named.{NamedLines, NamesByNumber, has_number}
-use Rattle.hub_transactions.specs.Orders.{TellsAlike}
-use Rattle.hub_transactions.proofs.Asked.{Agree, message_local, new_response_local}
+use Rattle.hub_transactions.specs.Orders.{AgreeOnLines, TellsAlike}
+use Rattle.hub_transactions.proofs.Asked.{message_local, new_response_local}
 use Rattle.hub_transactions.proofs.LookUps.{same_rows, all_despatched}
 
 -- Finding in lists.
@@ -62,13 +62,14 @@ numbered_other n m (line ∷ lines) apart =
     ]
 
 -- of the lines with some numbers, the one of a number is found among all where the number is one of them
-found_among : (n : ℕ) (numbers : List ℕ) (lines : List LineRow)
+pub found_among : (n : ℕ) (numbers : List ℕ) (lines : List LineRow)
     → find (λ line. line.line == n) (flat_map (λ m. filter (λ line. line.line == m) lines) numbers)
     ≡ cond (comes_among nat_eq n numbers) (find (λ line. line.line == n) lines) None
 found_among n [] lines = refl
 found_among n (m ∷ numbers) lines =
     let ih = found_among n numbers lines in
-    find_append (λ line. line.line == n) (filter (λ line. line.line == m) lines) (flat_map (λ m. filter (λ line. line.line == m) lines) numbers)
+    find_append (λ line. line.line == n) (filter (λ line. line.line == m) lines) (flat_map (λ m. filter
+    (λ line. line.line == m) lines) numbers)
     ∙ elim (decide (nat_eq n m)) [
       | inl e ↦
           let is : m ≡ n = grind (arith, nat_tests, e) in
@@ -89,7 +90,7 @@ all_append : {X : Type 0} (P : X → Type 0) (xs ys : List X) → AllByRecursion
 all_append P [] ys one other = other
 all_append P (x ∷ xs) ys one other = (one.0, all_append P xs ys one.1 other)
 
-all_numbered : (P : LineRow → Type 0) (lines : List LineRow) (numbers : List ℕ) → AllByRecursion P lines
+pub all_numbered : (P : LineRow → Type 0) (lines : List LineRow) (numbers : List ℕ) → AllByRecursion P lines
     → AllByRecursion P (flat_map (λ m. filter (λ line. line.line == m) lines) numbers)
 all_numbered P lines [] all = tt
 all_numbered P lines (m ∷ numbers) all =
@@ -97,11 +98,11 @@ all_numbered P lines (m ∷ numbers) all =
     (all_filter P (λ line. line.line == m) lines all) (all_numbered P lines numbers all)
 
 -- lines of one order, picked by their numbers, are all of that order
-filter_all : {X : Type 0} (p : X → Bool) (xs : List X) → AllByRecursion (λ x. p x ≡ true) xs → filter p xs ≡ xs
+pub filter_all : {X : Type 0} (p : X → Bool) (xs : List X) → AllByRecursion (λ x. p x ≡ true) xs → filter p xs ≡ xs
 filter_all p [] all = refl
 filter_all p (x ∷ xs) all = ap (λ v. cond v (x ∷ filter p xs) (filter p xs)) all.0 ∙ ap (λ rest. x ∷ rest) (filter_all p xs all.1)
 
-passes_filter : {X : Type 0} (p : X → Bool) (xs : List X) → AllByRecursion (λ x. p x ≡ true) (filter p xs)
+pub passes_filter : {X : Type 0} (p : X → Bool) (xs : List X) → AllByRecursion (λ x. p x ≡ true) (filter p xs)
 passes_filter p [] = tt
 passes_filter p (x ∷ xs) =
     elim (p x) as (λ v. p x ≡ v → AllByRecursion (λ x. p x ≡ true) (cond v (x ∷ filter p xs) (filter p xs)))
@@ -115,12 +116,13 @@ module _ (state : Tables) (order : List ℕ) (numbers : List ℕ) where
   own_lines : lines_of only order ≡ lines_at state order numbers
   own_lines =
       filter_all (λ line. same line.number order) (lines_at state order numbers)
-      (all_numbered (λ line. same line.number order ≡ true) (lines_of state order) numbers (passes_filter (λ line. same line.number order) state.lines))
+      (all_numbered (λ line. same line.number order ≡ true) (lines_of state order) numbers (passes_filter
+      (λ line. same line.number order) state.lines))
 
   abbrev asks : List ℕ → Option ℕ → Bool
   asks other number = same other order && has_number numbers number
 
-  agrees : Agree asks only state
+  agrees : AgreeOnLines asks only state
   agrees = record {
     rest = refl;
     one = λ other number asked.

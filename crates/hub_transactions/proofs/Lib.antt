@@ -1,5 +1,6 @@
 pub mod Afterwards
 pub mod Announced
+pub mod Apart
 pub mod Asked
 pub mod ByNumber
 pub mod Bytes
@@ -15,6 +16,7 @@ pub mod Joins
 pub mod KeptOrders
 pub mod LookUps
 pub mod Named
+pub mod Numbers
 pub mod OpenedWithin
 pub mod Placing
 pub mod ReadWithin

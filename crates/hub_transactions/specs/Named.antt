@@ -3,6 +3,8 @@ use Rattle.std.specs.Prelude.{◌≡◌, ◌⊎◌, ℕ, Bool, true, false, nat_
 use Rattle.std.specs.List.{AllByRecursion}
 use Rattle.std.specs.Borrow.{Bor}
 use Rattle.std.specs.declared.cmp.Ordering.{Ordering}
+use Rattle.std.specs.BTreeMap.{is_at}
+use Rattle.std.specs.Map.{lookup}
 use Rattle.edi_base.specs.Seen.{is_among, comes_among}
 use Rattle.edi_envelope.specs.declared.interchange.RawMessage.{RawMessage}
 use Rattle.edi_orders.specs.Response.{response_of}
@@ -11,6 +13,7 @@ use Rattle.edi_orders.specs.declared.response.Answer.TheVariants.{AllAccepted, A
 use Rattle.edi_orders.specs.declared.response.Response.{Response}
 use Rattle.edi_goods.specs.Despatch.{despatch_of}
 use Rattle.edi_goods.specs.declared.despatch.Despatch.{Despatch}
+use Rattle.edi_goods.specs.declared.despatch.DespatchLine.{DespatchLine}
 use Rattle.edi_goods.specs.declared.despatch.Unit.{Unit}
 use Rattle.hub_parties.specs.KeyOrder.{bytes_cmp}
 use Rattle.hub_tables.specs.State.{knows_order, lines_of}
@@ -20,6 +23,7 @@ use Rattle.hub_order_lines.specs.KnownLines.{AreUnclean}
 use Rattle.hub_order_lines.specs.KnownOrders.{AddsOrder}
 use Rattle.hub_store.specs.Lines.{lines_at}
 use Rattle.hub_judges.specs.Known.{names_order}
+use Rattle.hub_transactions.specs.declared.numbering.LinesNamed.{LinesNamed}
 
 -- by the bytes of their numbers
 abbrev pub by_number : Bor (List ℕ) → Bor (List ℕ) → Ordering
@@ -69,3 +73,27 @@ pub record NamedLines (response : Response) (state : Tables) (orders : Orders) :
   pub numbers : List ℕ
   pub by_number : NamesByNumber numbers response.answer
   pub known : AddsOrder response.order (knows_order state response.order) (lines_at state response.order numbers) [] orders
+
+-- which lines of an order are named: the one of a number, or any by its article
+abbrev pub is_named : Option LinesNamed → Option ℕ → Bool
+is_named None number = false
+is_named (Some lines) None = lines.by_article
+is_named (Some lines) (Some number) = comes_among nat_eq number lines.numbers.keys
+
+-- what is named of each order, by its number
+abbrev pub LinesOfOrders : Type 0
+LinesOfOrders = List (Bor (List ℕ) × LinesNamed)
+
+abbrev pub lines_named_of : LinesOfOrders → List ℕ → Option LinesNamed
+lines_named_of named order = lookup (is_at (λ key. bytes_cmp order key.now)) named
+
+abbrev pub names_line : LinesOfOrders → List ℕ → Option ℕ → Bool
+names_line named order number = is_named (lines_named_of named order) number
+
+-- each of these lines is named
+abbrev pub NamesLines : LinesOfOrders → List DespatchLine → Type 0
+NamesLines named lines = AllByRecursion (λ line. names_line named line.order line.order_line ≡ true) lines
+
+-- all that was named before is still named
+abbrev pub NamesMore : LinesOfOrders → LinesOfOrders → Type 0
+NamesMore old new = (order : List ℕ) (number : Option ℕ) → names_line old order number ≡ true → names_line new order number ≡ true

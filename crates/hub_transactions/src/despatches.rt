@@ -1,18 +1,23 @@
 //! What is known of a supplier's rows when a despatch advice is judged.
-ghost use Rattle.std.specs.Prelude.{◌≡◌, ◌≢◌, ℕ, true, None, Err, List, ◌∷◌, ◌++◌, [], map, IfOk, OnOk};
+ghost use Rattle.std.specs.Prelude.{◌≡◌, ◌≢◌, ℕ, true, false, None, Err, List, ◌∷◌, ◌++◌, [], map, IsTrue, IfOk, OnOk};
 ghost use Rattle.edi_base.specs.Seen.{is_among};
+ghost use Rattle.hub_tables.specs.State.{knows_order, lines_of};
 ghost use Rattle.hub_tables.specs.Tables.{view, has_pallet};
 ghost use Rattle.hub_store.specs.Clean.{are_clean};
+ghost use Rattle.hub_store.specs.Lines.{lines_at};
 ghost use Rattle.hub_store.specs.declared.fault.StoreFault.TheVariants.{Unclean};
-ghost use Rattle.hub_rules.specs.Sound.{Kept};
+ghost use Rattle.hub_rules.specs.Rules.{judge_despatch};
 ghost use Rattle.hub_judges.specs.Known.{TellsForDespatch};
 ghost use Rattle.hub_transactions.specs.Acts.{FailsWith, NoCause, Stays, any_answer, no_answer};
-ghost use Rattle.hub_order_lines.specs.KnownOrders.{is_kept};
-ghost use Rattle.hub_transactions.specs.Named.{NamedUnclean, SomeUnclean};
-ghost use Rattle.hub_transactions.specs.Orders.{KeepsOrders};
+ghost use Rattle.hub_order_lines.specs.Book.{Orders};
+ghost use Rattle.hub_order_lines.specs.KnownLines.{AreUnclean};
+ghost use Rattle.hub_order_lines.specs.KnownOrders.{is_kept, AddsOrder};
+ghost use Rattle.hub_transactions.specs.Named.{names_line, NamedUnclean, SomeUnclean};
+ghost use Rattle.hub_transactions.specs.Orders.{ForgetsOrders, KeepsAsked, KeepsOrders, TellsAlike};
 
 use crate::knowing::{keep_order, known_with};
 use crate::naming::orders_named;
+use crate::numbering::{LinesOfOrders, lines_named, numbers_alone};
 use edi_base::{Items, MemoryFault};
 use edi_goods::{Despatch, Unit};
 use gs1_ids::Gln;
@@ -23,31 +28,122 @@ use hub_tables::Side;
 use std::alloc::Global;
 use std::collections::BTreeSet;
 
-// Looks up each of the orders, and puts them after others.
-fn keep_orders<S: Store>(
+// Looks up an order and those of its lines that have one of these numbers, by two look-ups, and puts it after others. False,
+// and nothing is put, where the rows do not pass.
+fn put_by_number<S: Store>(
     alloc: Global,
     store: &mut S,
     supplier: &Gln,
-    named: &BTreeSet<&[u8]>,
+    order: &[u8],
+    numbers: &BTreeSet<u32>,
     orders: &mut KnownOrders,
-) -> Result<(), StoreFault>
-    ensures kept { S.honest store.new → KeepsOrders orders.old (view supplier.now (S.content store.old)) →
-        OnOk result (KeepsOrders orders.new (view supplier.now (S.content store.old))) }
-    ensures all { OnOk result ((order : List ℕ) →
-        is_among order (map (λ number. number.now) named.now.keys) ≡ true → is_kept orders.new order ≡ true) }
+) -> Result<bool, StoreFault>
+    ensures put { S.honest store.new → IfOk result (λ put. IsTrue put → AddsOrder order.now
+        (knows_order (view supplier.now (S.content store.old)) order.now)
+        (lines_at (view supplier.now (S.content store.old)) order.now numbers.now.keys) orders.old orders.new) }
+    ensures same { IfOk result (λ put. (put ≡ false) → orders.new ≡ orders.old) }
+    ensures also { IfOk result (λ put. IsTrue put → is_kept orders.new order.now ≡ true) }
+    ensures still { IfOk result (λ put. IsTrue put → (other : List ℕ) →
+        is_kept orders.old other ≡ true → is_kept orders.new other ≡ true) }
     ensures unclean { S.honest store.new → S.broken store.old ≡ None →
-        are_clean (S.content store.old) ≡ true → result ≡ Err Unclean →
-        SomeUnclean (map (λ number. number.now) named.now.keys) (view supplier.now (S.content store.old)) }
+        are_clean (S.content store.old) ≡ true → result ≢ Err Unclean }
+    ensures goes_on { OnOk result (S.broken store.new ≡ S.broken store.old) }
+    ensures fails { FailsWith S.plain NoCause any_answer (S.broken store.old) (S.broken store.new) result }
+    ensures stays { Stays S.content S.honest S.left store.old store.new }
+{
+    let is_there = store.order_known(supplier, order)?;
+    let rows = store.lines_at(supplier, order, numbers)?;
+    let put = orders.put(alloc, order, is_there, rows)?;
+    Ok(put)
+}
+
+// Puts an order's number after others.
+fn put_apart<'a>(apart: &mut Items<&'a [u8]>, order: &'a [u8]) -> Result<(), MemoryFault>
+    ensures { OnOk result (apart.new ≡ apart.old ++ order.entry ∷ []) }
+{
+    apart.push(order)?;
+    Ok(())
+}
+
+// Looks up an order that is not yet known. If all its lines are named by their numbers, it reads these alone and notes the order
+// in `apart`; else it reads all lines, as it does where the rows of these do not pass.
+fn know_order<'a, S: Store>(
+    alloc: Global,
+    store: &mut S,
+    supplier: &Gln,
+    order: &'a [u8],
+    named: &LinesOfOrders<'a>,
+    orders: &mut KnownOrders,
+    apart: &mut Items<&'a [u8]>,
+) -> Result<(), StoreFault>
+    ensures known { S.honest store.new →
+        KeepsAsked (names_line named.now.entries) orders.old (map (λ number. number.now) apart.old)
+        (view supplier.now (S.content store.old)) →
+        OnOk result (KeepsAsked (names_line named.now.entries) orders.new (map (λ number. number.now) apart.new)
+        (view supplier.now (S.content store.old))) }
+    ensures also { OnOk result (is_kept orders.new order.now ≡ true) }
+    ensures still { OnOk result ((other : List ℕ) →
+        is_kept orders.old other ≡ true → is_kept orders.new other ≡ true) }
+    ensures unclean { S.honest store.new → S.broken store.old ≡ None →
+        are_clean (S.content store.old) ≡ true →
+        result ≡ Err Unclean → AreUnclean (lines_of (view supplier.now (S.content store.old)) order.now) }
     ensures goes_on { OnOk result (S.broken store.new ≡ S.broken store.old) }
     ensures fails { FailsWith S.plain (S.honest store.new →
-        SomeUnclean (map (λ number. number.now) named.now.keys) (view supplier.now (S.content store.old)))
+        AreUnclean (lines_of (view supplier.now (S.content store.old)) order.now))
         any_answer (S.broken store.old) (S.broken store.new) result }
     ensures stays { Stays S.content S.honest S.left store.old store.new }
 {
-    for number in named {
-        keep_order(alloc, store, supplier, number, orders)?;
+    if orders.is_kept(order) {
+        return Ok(());
+    }
+    if let Some(numbers) = numbers_alone(named, order) {
+        if put_by_number(alloc, store, supplier, order, numbers, orders)? {
+            put_apart(apart, order)?;
+            return Ok(());
+        }
+    }
+    keep_order(alloc, store, supplier, order, orders)
+}
+
+// Looks up each of the orders, and puts them after others.
+fn know_orders<'a, S: Store>(
+    alloc: Global,
+    store: &mut S,
+    supplier: &Gln,
+    numbers: &BTreeSet<&'a [u8]>,
+    named: &LinesOfOrders<'a>,
+    orders: &mut KnownOrders,
+    apart: &mut Items<&'a [u8]>,
+) -> Result<(), StoreFault>
+    ensures known { S.honest store.new →
+        KeepsAsked (names_line named.now.entries) orders.old (map (λ number. number.now) apart.old)
+        (view supplier.now (S.content store.old)) →
+        OnOk result (KeepsAsked (names_line named.now.entries) orders.new (map (λ number. number.now) apart.new)
+        (view supplier.now (S.content store.old))) }
+    ensures all { OnOk result ((order : List ℕ) →
+        is_among order (map (λ number. number.now) numbers.now.keys) ≡ true → is_kept orders.new order ≡ true) }
+    ensures unclean { S.honest store.new → S.broken store.old ≡ None →
+        are_clean (S.content store.old) ≡ true → result ≡ Err Unclean →
+        SomeUnclean (map (λ number. number.now) numbers.now.keys) (view supplier.now (S.content store.old)) }
+    ensures goes_on { OnOk result (S.broken store.new ≡ S.broken store.old) }
+    ensures fails { FailsWith S.plain (S.honest store.new →
+        SomeUnclean (map (λ number. number.now) numbers.now.keys) (view supplier.now (S.content store.old)))
+        any_answer (S.broken store.old) (S.broken store.new) result }
+    ensures stays { Stays S.content S.honest S.left store.old store.new }
+{
+    for number in numbers {
+        know_order(alloc, store, supplier, *number, named, orders, apart)?;
     }
     Ok(())
+}
+
+/// Forgets orders.
+pub(crate) fn forget_orders(orders: &mut KnownOrders, numbers: &[&[u8]])
+    ensures { ForgetsOrders (map (λ number. number.now) numbers.now) orders.old orders.new }
+{
+    for number in numbers {
+        orders.forget_order(number);
+    }
 }
 
 // Makes it quick to find the lines of a unit that are named by their articles.
@@ -102,24 +198,27 @@ fn used_of<S: Store>(
     Ok(used)
 }
 
-/// What is known for a DESADV, by two look-ups; and, where nothing is remembered and its number is not known, by one for each
-/// unit and two for each order that it names and that is not kept. Where the lines of an order do not rise by line number, or more of one is open,
-/// refused and cancelled than is ordered, it is unknown: `Unclean`.
-pub(crate) fn known_for_despatch<S: Store>(
+/// What is known for a DESADV, by two look-ups; and, if nothing is remembered and its number is not known, by one for each
+/// unit and two for each order that it names and that is not kept (four where the lines that it names by number do not pass).
+/// The second part lists the orders that are known by these lines alone. Where the lines of an order do not rise by line
+/// number, or more of one is open, refused and cancelled than is ordered, it is unknown: `Unclean`.
+pub(crate) fn known_for_despatch<'a, S: Store>(
     alloc: Global,
     store: &mut S,
     supplier: &Gln,
     incoming: &IncomingMessage,
-    despatch: &Despatch,
+    despatch: &'a Despatch,
     mut orders: KnownOrders,
-) -> Result<Known, StoreFault>
-    ensures told { S.honest store.new → Kept (view supplier.now (S.content store.old)) →
-        KeepsOrders orders (view supplier.now (S.content store.old)) →
-        IfOk result (λ known.
-        TellsForDespatch known (has_pallet (S.content store.old)) incoming.now despatch.now
+) -> Result<(Known, Items<&'a [u8]>), StoreFault>
+    ensures told { S.honest store.new → KeepsOrders orders (view supplier.now (S.content store.old)) →
+        IfOk result (λ told. TellsAlike
+        (TellsForDespatch told.0 (has_pallet (S.content store.old)) incoming.now despatch.now)
+        (λ retailer row. judge_despatch retailer row (has_pallet (S.content store.old)) incoming.now despatch.now)
         (view supplier.now (S.content store.old))) }
     ensures kept { S.honest store.new → KeepsOrders orders (view supplier.now (S.content store.old)) →
-        IfOk result (λ known. KeepsOrders known.orders (view supplier.now (S.content store.old))) }
+        IfOk result (λ told. (kept : Orders) →
+        ForgetsOrders (map (λ number. number.now) told.1) told.0.orders kept →
+        KeepsOrders kept (view supplier.now (S.content store.old))) }
     ensures unclean { S.honest store.new → S.broken store.old ≡ None →
         are_clean (S.content store.old) ≡ true →
         result ≡ Err Unclean → NamedUnclean despatch.now.units (view supplier.now (S.content store.old)) }
@@ -131,22 +230,33 @@ pub(crate) fn known_for_despatch<S: Store>(
     let units = despatch.units.as_slice();
     let control = incoming.control.as_slice();
     let message = incoming.message.as_slice();
+    let mut apart = Items::new(alloc);
     let remembered = store.remembered(supplier, Side::Supplier, control, message)?;
     let number = despatch.number.as_slice();
     let number_known = store.advice_known(supplier, number)?;
     if remembered.is_some() || number_known {
-        return Ok(known_with(alloc, remembered, number_known, orders));
+        return Ok((known_with(alloc, remembered, number_known, orders), apart));
     }
     let used = used_of(alloc, store, units)?;
-    let named = orders_named(alloc, units)?;
-    keep_orders(alloc, store, supplier, &named, &mut orders)?;
+    let numbers = orders_named(alloc, units)?;
+    let named = lines_named(alloc, units)?;
+    know_orders(
+        alloc,
+        store,
+        supplier,
+        &numbers,
+        &named,
+        &mut orders,
+        &mut apart,
+    )?;
     index_units(alloc, units, &mut orders)?;
-    Ok(Known {
+    let known = Known {
         remembered,
         orders,
         number_known,
         mails: 0,
         used,
         pallets: Items::new(alloc),
-    })
+    };
+    Ok((known, apart))
 }

@@ -21,7 +21,7 @@ ghost use Rattle.hub_transactions.specs.Orders.{KeepsOrders};
 ghost use Rattle.hub_transactions.specs.StaysClean.{JudgesClean};
 ghost use Rattle.hub_transactions.specs.declared.judged.Judged.TheVariants.{Read};
 
-use crate::despatches::known_for_despatch;
+use crate::despatches::{forget_orders, known_for_despatch};
 use crate::knowing::{known_for_order, known_for_receipt, known_for_response};
 use crate::laws::lines_of_sound_tables_are_known;
 use edi_envelope::{RawMessage, mail_message_text};
@@ -219,9 +219,17 @@ fn judged_despatch<S: Store>(
         return refuse(store, &supplier.gln, &incoming, code);
     }
     let kept = mem::replace(orders, KnownOrders::new(alloc));
-    let known = known_for_despatch(alloc, store, &supplier.gln, &incoming, &despatch, kept)?;
+    let (known, apart) = known_for_despatch(
+        alloc,
+        store,
+        &supplier.gln,
+        &incoming,
+        &despatch,
+        kept,
+    )?;
     let verdict = judge_despatch(alloc, retailer, Some(supplier), &known, incoming, &despatch)?;
     *orders = known.orders;
+    forget_orders(orders, apart.as_slice());
     Ok(Judged::Read(verdict))
 }
 

@@ -1,6 +1,6 @@
 //! What is known of a supplier's rows when a message or a cancellation is judged.
-ghost use Rattle.std.specs.Prelude.{◌≡◌, ◌≢◌, ◌⊎◌, ℕ, List, [], ◌∷◌, ◌++◌, map, true, None, Err, IfOk, IfErr, OnOk};
-ghost use Rattle.hub_tables.specs.State.{lines_of, pallet_of};
+ghost use Rattle.std.specs.Prelude.{◌≡◌, ◌≢◌, ◌⊎◌, ℕ, List, [], ◌∷◌, ◌++◌, map, true, false, None, Err, IfOk, IfErr, OnOk};
+ghost use Rattle.hub_tables.specs.State.{knows_order, lines_of, pallet_of};
 ghost use Rattle.hub_tables.specs.Tables.{view};
 ghost use Rattle.hub_store.specs.Clean.{are_clean};
 ghost use Rattle.hub_store.specs.declared.fault.StoreFault.TheVariants.{Memory, Unclean};
@@ -90,6 +90,9 @@ pub(crate) fn keep_order<S: Store>(
 ) -> Result<(), StoreFault>
     ensures kept { S.honest store.new → KeepsOrders orders.old (view supplier.now (S.content store.old)) →
         OnOk result (KeepsOrders orders.new (view supplier.now (S.content store.old))) }
+    ensures added { S.honest store.new → OnOk result (is_kept orders.old order.now ≡ false → AddsOrder order.now
+        (knows_order (view supplier.now (S.content store.old)) order.now)
+        (lines_of (view supplier.now (S.content store.old)) order.now) orders.old orders.new) }
     ensures also { OnOk result (is_kept orders.new order.now ≡ true) }
     ensures still { OnOk result ((other : List ℕ) →
         is_kept orders.old other ≡ true → is_kept orders.new other ≡ true) }

@@ -1,13 +1,14 @@
-//! The lines of an order that an ORDRSP names by their numbers.
-ghost use Rattle.std.specs.Prelude.{◌≡◌, true, IfOk};
+//! The lines of orders that a message of a supplier names by their numbers.
+ghost use Rattle.std.specs.Prelude.{◌≡◌, ℕ, true, Option, Some, IfOk, OnOk};
 ghost use Rattle.std.specs.List.{AllByRecursion};
 ghost use Rattle.std.specs.Option.{IfSome};
-ghost use Rattle.hub_transactions.specs.Named.{NamesByNumber, has_number};
+ghost use Rattle.hub_transactions.specs.Named.{NamesByNumber, has_number, is_named, names_line, NamesLines, NamesMore};
 
 use edi_base::MemoryFault;
+use edi_goods::{DespatchLine, Unit};
 use edi_orders::{Answer, AnswerLine};
 use std::alloc::Global;
-use std::collections::BTreeSet;
+use std::collections::{BTreeMap, BTreeSet};
 
 // The numbers of the lines that are answered, each once. None where one is named by its article.
 fn numbers_of(alloc: Global, said: &[AnswerLine]) -> Result<Option<BTreeSet<u32>>, MemoryFault>
@@ -34,5 +35,104 @@ pub(crate) fn numbers_named(
     match answer {
         Answer::AllAccepted | Answer::AllRefused => Ok(None),
         Answer::Lines(said) => numbers_of(alloc, said.as_slice()),
+    }
+}
+
+/// The lines of an order that an advice names: those of these numbers, and perhaps some by their articles.
+#[derive(Debug, Drop)]
+pub(crate) struct LinesNamed {
+    by_article: bool,
+    numbers: BTreeSet<u32>,
+}
+
+impl LinesNamed {
+    // No line.
+    fn new(alloc: Global) -> LinesNamed {
+        LinesNamed {
+            by_article: false,
+            numbers: BTreeSet::new(alloc),
+        }
+    }
+
+    // Puts a line after others: the one of a number, or where none is given one that is named by its article.
+    fn add(&mut self, line: Option<u32>) -> Result<(), MemoryFault>
+        ensures added { OnOk result (is_named (Some self.new) line ≡ true) }
+        ensures others { OnOk result ((other : Option ℕ) →
+            is_named (Some self.old) other ≡ true → is_named (Some self.new) other ≡ true) }
+    {
+        match line {
+            Some(number) => {
+                self.numbers.insert(number)?;
+            }
+            None => self.by_article = true,
+        }
+        Ok(())
+    }
+}
+
+/// The lines that an advice names of each order.
+pub(crate) type LinesOfOrders<'a> = BTreeMap<&'a [u8], LinesNamed>;
+
+// Puts a line of an advice after others.
+fn put_line<'a>(
+    alloc: Global,
+    line: &'a DespatchLine,
+    named: &mut LinesOfOrders<'a>,
+) -> Result<(), MemoryFault>
+    ensures named { OnOk result (names_line named.new.entries line.now.order line.now.order_line ≡ true) }
+    ensures others { OnOk result (NamesMore named.old.entries named.new.entries) }
+{
+    let order = line.order.as_slice();
+    if let Some(lines) = named.get_mut(order) {
+        return lines.add(line.order_line);
+    }
+    let mut lines = LinesNamed::new(alloc);
+    lines.add(line.order_line)?;
+    named.insert(order, lines)?;
+    Ok(())
+}
+
+// Puts the lines of a unit after others.
+fn put_lines<'a>(
+    alloc: Global,
+    lines: &'a [DespatchLine],
+    named: &mut LinesOfOrders<'a>,
+) -> Result<(), MemoryFault>
+    ensures named { OnOk result (NamesLines named.new.entries lines.now) }
+    ensures others { OnOk result (NamesMore named.old.entries named.new.entries) }
+{
+    for line in lines {
+        put_line(alloc, line, named)?;
+    }
+    Ok(())
+}
+
+/// The lines that the units of an advice name.
+pub(crate) fn lines_named<'a>(
+    alloc: Global,
+    units: &'a [Unit],
+) -> Result<LinesOfOrders<'a>, MemoryFault>
+    ensures { IfOk result (λ named. AllByRecursion (λ unit. NamesLines named.entries unit.lines) units.now) }
+{
+    let mut named = BTreeMap::new(alloc);
+    for unit in units {
+        put_lines(alloc, unit.lines.as_slice(), &mut named)?;
+    }
+    Ok(named)
+}
+
+/// The numbers by which an advice names the lines of an order. None where it names one by its article.
+pub(crate) fn numbers_alone<'n>(
+    named: &'n LinesOfOrders<'_>,
+    order: &[u8],
+) -> Option<&'n BTreeSet<u32>>
+    ensures { IfSome result (λ numbers. (number : Option ℕ) →
+        names_line named.now.entries order.now number ≡ true → has_number numbers.now.keys number ≡ true) }
+{
+    let lines = named.get(order)?;
+    if lines.by_article {
+        None
+    } else {
+        Some(&lines.numbers)
     }
 }

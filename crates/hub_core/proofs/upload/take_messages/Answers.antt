@@ -63,18 +63,19 @@ returns-in_default-clause-answered g c honest may =
           c.loop-message.refused
           c.loop-message.reply.items below far
           ∙ (λ i. (record { outcome = Stopped; refused = c.loop-message.refused; body = sym body i }, sym same i));
-      leaves = λ u l. elim ((c.in_default.ensures.carried (c.loop-message.invariant.kept was may) (c.loop-message.invariant.may was may)).crash honest u l) [
-        | inl e ↦ elim (c.loop-message.invariant.left was may u e) [
-          | inl a ↦ inl (a ∙ sym same)
-          | inr b ↦ inr (inl (same ∙ b.0, b.1))
-        ]
-        | inr e ↦ inr (inr (subst (λ (u : Tables). OneMore (length c.args.upload.now.interchange.now.messages)
-            (λ mark t. uploaded deliver c.args.upload.now.moment mark (Ok c.args.upload.now.interchange.now) t) t
-            (StoppedAfter count) u) (sym e)
-            (so_far_then deliver c.args.upload.now.moment c.args.upload.now.interchange.now t before count
-            c.loop-message.refused
-            c.loop-message.reply.items c.message-item.result below there far)))
-      ];
+      leaves = λ u l. elim ((c.in_default.ensures.carried (c.loop-message.invariant.kept was may)
+          (c.loop-message.invariant.may was may)).crash honest u l) [
+            | inl e ↦ elim (c.loop-message.invariant.left was may u e) [
+              | inl a ↦ inl (a ∙ sym same)
+              | inr b ↦ inr (inl (same ∙ b.0, b.1))
+            ]
+            | inr e ↦ inr (inr (subst (λ (u : Tables). OneMore (length c.args.upload.now.interchange.now.messages)
+                (λ mark t. uploaded deliver c.args.upload.now.moment mark (Ok c.args.upload.now.interchange.now) t) t
+                (StoppedAfter count) u) (sym e)
+                (so_far_then deliver c.args.upload.now.moment c.args.upload.now.interchange.now t before count
+                c.loop-message.refused
+                c.loop-message.reply.items c.message-item.result below there far)))
+          ];
     }
 
 pub loop-message-preserved : goal.loop-message-preserved

@@ -26,12 +26,13 @@ returns-clause-judged g c = λ old. record {
       let s = c.args.supplier.now in
       let t = g.S.Store.content c.args.store.now in
       let despatch = c.in-Ok.despatch in
-      let told = c.in_ok-known.ensures.told honest kept
+      let told = c.in_ok-known.ensures.told honest
       (subst (λ (orders : Orders). KeepsOrders orders (view s.gln t)) (sym c.replace-kept.ensures.value) old) in
       let retailer = c.retailer-retailer.ensures.value in
       let judge : Despatch → Verdict =
       λ despatch. judge_despatch c.args.register.now.retailer (Some s) (has_pallet t) c.args.incoming despatch (view s.gln t) in
-      let verdict = c.in_ok-verdict.ensures (has_pallet t) (view s.gln t) told
+      let verdict = c.in_ok-verdict.ensures (has_pallet t) told.seen told.told
+      ∙ told.alike c.retailer-retailer.result.now (Some s)
       ∙ ap (λ gln. judge_despatch gln (Some s) (has_pallet t) c.args.incoming despatch (view s.gln t))
       retailer in
       ap (λ read. read_act read judge t) c.in-Ok.ensures.ok ∙ act_of_read judge despatch c.in_ok-verdict.verdict t verdict;
@@ -39,9 +40,10 @@ returns-clause-judged g c = λ old. record {
       let s = c.args.supplier.now in
       let t = g.S.Store.content c.args.store.now in
       let despatch = c.in-Ok.despatch in
-      let told = c.in_ok-known.ensures.told honest (here.sound.kept s.gln)
+      let told = c.in_ok-known.ensures.told honest
       (subst (λ (orders : Orders). KeepsOrders orders (view s.gln t)) (sym c.replace-kept.ensures.value) old) in
-      let verdict = c.in_ok-verdict.ensures (has_pallet t) (view s.gln t) told
+      let verdict = c.in_ok-verdict.ensures (has_pallet t) told.seen told.told
+      ∙ told.alike c.retailer-retailer.result.now (Some s)
       ∙ ap (λ gln. judge_despatch gln (Some s) (has_pallet t) c.args.incoming despatch (view s.gln t)) c.retailer-retailer.ensures.value in
       subst (λ verdict. VerdictFits verdict t) (sym verdict) (verdict_fits _ t (λ changes accepted.
       c.accepted_changes_fit.ensures.despatch c.args.register.now.suppliers s t c.args.register.now.retailer (has_pallet t) c.args.incoming
@@ -56,9 +58,10 @@ returns-clause-clean g c = λ old here within. record {
       let s = c.args.supplier.now in
       let t = g.S.Store.content c.args.store.now in
       let despatch = c.in-Ok.despatch in
-      let told = c.in_ok-known.ensures.told honest (here.sound.kept s.gln)
+      let told = c.in_ok-known.ensures.told honest
       (subst (λ (orders : Orders). KeepsOrders orders (view s.gln t)) (sym c.replace-kept.ensures.value) old) in
-      let verdict = c.in_ok-verdict.ensures (has_pallet t) (view s.gln t) told
+      let verdict = c.in_ok-verdict.ensures (has_pallet t) told.seen told.told
+      ∙ told.alike c.retailer-retailer.result.now (Some s)
       ∙ ap (λ gln. judge_despatch gln (Some s) (has_pallet t) c.args.incoming despatch (view s.gln t)) c.retailer-retailer.ensures.value in
       subst (λ verdict. VerdictClean verdict t) (sym verdict) (despatch_clean register c.retailer-retailer.ensures.register t clean
       c.args.message.now c.args.incoming within s here despatch c.in-Ok.ensures.ok);
@@ -83,10 +86,13 @@ returns-in-Some-clause-judged g c = λ old. record {
       let s = c.args.supplier.now in
       let t = g.S.Store.content c.args.store.now in
       let despatch = c.in-Ok.despatch in
-      let judge : Despatch → Verdict = λ despatch. judge_despatch c.args.register.now.retailer (Some s) (has_pallet t) c.args.incoming despatch (view s.gln t) in
+      let judge : Despatch → Verdict = λ despatch. judge_despatch c.args.register.now.retailer (Some s)
+      (has_pallet t) c.args.incoming despatch (view s.gln t) in
       let refusal : judge despatch ≡ Refuse c.in-Some.code =
-      ap (λ gln. judge_despatch gln (Some s) (has_pallet t) c.args.incoming despatch (view s.gln t)) (sym c.retailer-retailer.ensures.value) ∙ c.in-Some.ensures.some
-      (λ row. judge_once (referred_by row Supplier c.args.incoming) c.args.incoming.content (judge_new_despatch row (has_pallet t) despatch) (view s.gln t)) in
+      ap (λ gln. judge_despatch gln (Some s) (has_pallet t) c.args.incoming despatch (view s.gln t))
+      (sym c.retailer-retailer.ensures.value) ∙ c.in-Some.ensures.some
+      (λ row. judge_once (referred_by row Supplier c.args.incoming) c.args.incoming.content (judge_new_despatch row
+      (has_pallet t) despatch) (view s.gln t)) in
       IfOk-weaker c.refuse.result (λ judged. judged ≡ Read (Refuse c.in-Some.code)) _ (λ judged is.
       ap (λ read. read_act read judge t) c.in-Ok.ensures.ok ∙ act_refused judge despatch c.in-Some.code judged t refusal is)
       c.refuse.ensures.refused;

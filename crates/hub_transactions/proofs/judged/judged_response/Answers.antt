@@ -86,9 +86,11 @@ returns-in-Some-clause-judged g c = λ old. record {
       let s = c.args.supplier.now in
       let t = g.S.Store.content c.args.store.now in
       let response = c.in-Ok.response in
-      let judge : Response → Verdict = λ response. judge_response c.args.register.now.retailer (Some s) c.args.incoming response (view s.gln t) in
+      let judge : Response → Verdict = λ response. judge_response c.args.register.now.retailer (Some s) c.args.incoming response
+      (view s.gln t) in
       let refusal : judge response ≡ Refuse c.in-Some.code =
-      ap (λ gln. judge_response gln (Some s) c.args.incoming response (view s.gln t)) (sym c.retailer-retailer.ensures.value) ∙ c.in-Some.ensures.some
+      ap (λ gln. judge_response gln (Some s) c.args.incoming response (view s.gln t)) (sym c.retailer-retailer.ensures.value)
+      ∙ c.in-Some.ensures.some
       (λ row. judge_once (referred_by row Supplier c.args.incoming) c.args.incoming.content (judge_new_response response) (view s.gln t)) in
       IfOk-weaker c.refuse.result (λ judged. judged ≡ Read (Refuse c.in-Some.code)) _ (λ judged is.
       ap (λ read. read_act read judge t) c.in-Ok.ensures.ok ∙ act_refused judge response c.in-Some.code judged t refusal is)

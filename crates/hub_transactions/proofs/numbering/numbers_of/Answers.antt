@@ -1,27 +1,12 @@
-use Rattle.std.proofs.Common.{◌≡◌, ℕ, ◌+◌, true, ◌||◌, nat_eq, nat_cmp, List, [], ◌∷◌, drop, map, refl, sym, ap, subst, ◌∙◌, arith}
-use Rattle.std.specs.BTreeSet.{insert_key}
-use Rattle.std.proofs.lemmas.Bool.Decides.{nat_tests}
+use Rattle.std.proofs.Common.{◌≡◌, ℕ, ◌+◌, true, ◌||◌, nat_eq, ◌∷◌, drop, sym, ap, subst, ◌∙◌}
 use Rattle.std.specs.List.{AllByRecursion}
 use Rattle.std.proofs.lemmas.List.{drop_more, drop_all}
 use Rattle.std.proofs.Math.Bool.{or-true}
 use Rattle.edi_base.specs.Seen.{comes_among}
-use Rattle.edi_base.proofs.Twice.{number-insert, number_itself}
 use Rattle.edi_orders.specs.declared.response.AnswerLine.{AnswerLine}
 use Rattle.hub_transactions.specs.Named.{has_number}
+use Rattle.hub_transactions.proofs.Numbers.{one_more, itself}
 use Rattle.hub_transactions.proofs.numbering.numbers_of.Goals as goal
-
-same_keys : (keys : List ℕ) → map number_itself keys ≡ keys
-same_keys [] = refl
-same_keys (key ∷ keys) = ap (λ others. key ∷ others) (same_keys keys)
-
-one_more : (n : ℕ) (keys : List ℕ) (k : ℕ) → comes_among nat_eq n (insert_key nat_cmp keys k) ≡ (nat_eq n k || comes_among nat_eq n keys)
-one_more n keys k =
-    ap (comes_among nat_eq n) (sym (same_keys (insert_key nat_cmp keys k)))
-    ∙ number-insert n keys k
-    ∙ ap (λ others. nat_eq n k || comes_among nat_eq n others) (same_keys keys)
-
-itself : (n : ℕ) → nat_eq n n ≡ true
-itself n = grind (arith, nat_tests)
 
 pub loop-line-preserved : goal.loop-line-preserved
 loop-line-preserved c = λ later more rest.
