@@ -1,6 +1,6 @@
 """`make worst`: what the most expensive requests take of the processor, each as a multiple of a typical upload of the same size,
-1 MiB, with its bound beside it. An upload may take 4 times the typical one, and once the reading of each line of the orders that it
-names.
+1 MiB, with its bound beside it. An upload may take 4 times the typical one, and once the reading of each line that it names by its
+number, and of each line of an order of which it names one by an article.
 
 The hubs behind the requests are made by uploads, and served from copies. Each answer is compared with the right one, so that a hub
 without the rows in question cannot pass for a fast one. Two kinds of requests take minutes, so they have fewer messages than an
@@ -99,13 +99,16 @@ def one_each(number, orders, line, by_number=True):
     return advice(number, (number, [(item(line), f"{it}:{line}" if by_number else it) for it in orders]))
 
 
-def receipt(number, lines):
-    """A receiving advice of a pallet: one piece of each article."""
+def receipt(number, *units):
+    """A receiving advice. A unit is the number of its pallet and its articles, one piece of each."""
 
     def made(reference, more=()):
-        groups = (it for line in range(1, lines + 1) for it in (f"LIN+1++{item(line)}:SRV", "QTY+194:1"))
-        head = (f"BGM+632+G{number}+9", DATE, *more, f"NAD+SU+{ALPHA}::9")
-        return message("RECADV:D:01B:UN", reference, *head, "CPS+1", f"GIN+BJ+{sscc(number)}", *groups)
+        segments = [f"BGM+632+G{number}+9", DATE, *more, f"NAD+SU+{ALPHA}::9"]
+        for pallet, articles in units:
+            segments += ["CPS+1", f"GIN+BJ+{sscc(pallet)}"]
+            for it in articles:
+                segments += [f"LIN+1++{it}:SRV", "QTY+194:1"]
+        return message("RECADV:D:01B:UN", reference, *segments)
 
     return made
 
@@ -171,7 +174,7 @@ def listing(who, *entries):
 def orders_hub(_):
     for it in LARGE_ORDERS:
         yield upload(RETAILER, f"L{it}", "ORDERS", [order(it, LARGE)], size=0)
-    yield upload(RETAILER, "S", "ORDERS", [order(it, SMALL) for it in SMALL_ORDERS], size=0)
+    yield upload(RETAILER, "S", "ORDERS", [order(it, SMALL, quantity=2_000) for it in SMALL_ORDERS], size=0)
 
 
 def remembered_hub(is_long):
@@ -280,7 +283,8 @@ class Bench:
                 shutil.rmtree(it)
 
     def row(self, served, name, rounds, lines=0):
-        """An upload, and how many lines the orders have that it names."""
+        """An upload, and how many lines it may read: those that it names by their numbers, and all of an order of which it names one by
+        its article."""
         seconds = served.median(rounds)
         print(f"{name}: {1000 * seconds:.0f} ms of processor time", flush=True)
         bound = round(MOST + lines * self.reading / self.typical, 1)
@@ -319,16 +323,25 @@ def lists(bench, served):
 
 
 def status(bench, served):
+    """A status of pallets that are announced, and of the same as they were received."""
     of_each = [(line, f"{item(line):0>14}") for line in range(1, AT_ONCE + 1)]
     lines = [line_status(it, "W", 1_000, 999, 0, 0, 1, line, gtin_) for it in status_orders() for line, gtin_ in of_each]
-    pallets = (
-        article(sscc(place * AT_ONCE + line), gtin_, "A", 1, 0, 0, 0, "+0")
-        for place in range(len(status_orders()))
-        for line, gtin_ in of_each
-    )
-    asked = asking("GET", f"/p/{ALPHA}/status", ALPHA), response(200, told(*lines, *pallets, "end"))
-    name, seconds = f"a status of {len(lines):,} lines and as many pallets", served.median(repeat(asked))
-    bench.figures.tell(f"{name}: seconds of processor time", seconds, MOST_OF_STATUS)
+
+    def tell(letter, accepted, difference, word):
+        pallets = (
+            article(sscc(place * AT_ONCE + line), gtin_, letter, 1, accepted, 0, 0, difference)
+            for place in range(len(status_orders()))
+            for line, gtin_ in of_each
+        )
+        asked = asking("GET", f"/p/{ALPHA}/status", ALPHA), response(200, told(*lines, *pallets, "end"))
+        name, seconds = f"a status of {len(lines):,} lines and as many {word} pallets", served.median(repeat(asked))
+        bench.figures.tell(f"{name}: seconds of processor time", seconds, MOST_OF_STATUS)
+
+    tell("A", 0, "+0", "announced")
+    for place, it in enumerate(status_orders()):
+        units = [(place * AT_ONCE + line, [item(line)]) for line in range(1, AT_ONCE + 1)]
+        served.ask(*upload(RETAILER, f"G{it}", "RECADV", [receipt(it, *units)], size=0))
+    tell("R", 1, "+0", "received")
     bench.row(served, "a typical upload where another supplier has 90 % of the rows", (
         typical(f"T{k}", MESSAGES * k, supplier=BETA) for k in count()
     ))
@@ -355,10 +368,11 @@ def answers(name, orders, word="accepted", supplier=ALPHA):
         yield upload(ALPHA, f"{name}{k}", "ORDRSP", [answer(f"{name}{k}.{line}", it, line, supplier) for line in numbers], word)
 
 
-def despatches(bench, name, orders, messages=MESSAGES, by_number=True):
-    """Uploads of despatch advices, each of one line of each of these orders."""
+def despatches(bench, name, orders, messages=MESSAGES, by_number=True, each_another=True):
+    """Uploads of despatch advices, each of one line of each of these orders: each of another line, or all of the same."""
     for k in count():
-        makes = [one_each(next(bench.pallets), orders, line, by_number) for line in range(1, messages + 1)]
+        lines = range(1, messages + 1) if each_another else repeat(k + 1, messages)
+        makes = [one_each(next(bench.pallets), orders, line, by_number) for line in lines]
         yield upload(ALPHA, f"{name}{k}", "DESADV", makes)
 
 
@@ -369,7 +383,7 @@ def advised(bench):
         pallet = next(bench.pallets)
         lines = [(item(line), None) for line in range(1, LARGE + 1)]
         despatched.append(upload(ALPHA, f"P{it}", "DESADV", [advice(f"P{it}", (pallet, lines), named=it)]))
-        received.append(upload(RETAILER, f"P{it}", "RECADV", [receipt(pallet, LARGE)]))
+        received.append(upload(RETAILER, f"P{it}", "RECADV", [receipt(pallet, (pallet, [item(line) for line in range(1, LARGE + 1)]))]))
     return despatched, received
 
 
@@ -391,18 +405,20 @@ def orders(bench, served):
     bench.row(served, f"a DESADV of a pallet with {LARGE:,} lines", despatched, LARGE)
     bench.row(served, f"a RECADV of a pallet with {LARGE:,} lines", received)
     bench.row(served, "a DESADV of as many pallets as fit", units(bench), LARGE)
-    bench.row(served, f"{MESSAGES} ORDRSP, an order of {SMALL:,} lines", answers("a", SMALL_ORDERS), SMALL)
+    bench.row(served, f"{MESSAGES} ORDRSP, an order of {SMALL:,} lines", answers("a", SMALL_ORDERS), MESSAGES)
     of_one = f"an order of {LARGE:,} lines"
-    bench.row(served, f"{MESSAGES} ORDRSP, {of_one}", answers("A", LARGE_ORDERS), LARGE)
-    bench.row(served, f"{MESSAGES} ORDRSP, {of_one}, repeated", repeat(next(answers("A", LARGE_ORDERS, "repeated"))), LARGE)
+    bench.row(served, f"{MESSAGES} ORDRSP, {of_one}", answers("A", LARGE_ORDERS), MESSAGES)
+    bench.row(served, f"{MESSAGES} ORDRSP, {of_one}, repeated", repeat(next(answers("A", LARGE_ORDERS, "repeated"))))
     other = repeat(next(answers("X", LARGE_ORDERS, "refused B02", BETA)))
-    bench.row(served, f"{MESSAGES} ORDRSP, {of_one}, refused B02", other, LARGE)
-    bench.row(served, f"{MESSAGES} ORDRSP, {of_one}, refused B07", repeat(next(answers("Y", LARGE_ORDERS, "refused B07"))), LARGE)
-    bench.row(served, f"{MESSAGES} DESADV, {of_one}", despatches(bench, "D", LARGE_ORDERS[:1]), LARGE)
+    bench.row(served, f"{MESSAGES} ORDRSP, {of_one}, refused B02", other)
+    bench.row(served, f"{MESSAGES} ORDRSP, {of_one}, refused B07", repeat(next(answers("Y", LARGE_ORDERS, "refused B07"))), MESSAGES)
+    bench.row(served, f"{MESSAGES} DESADV, {of_one}", despatches(bench, "D", LARGE_ORDERS[:1]), MESSAGES)
     each = f"each naming {NAMED} orders of"
-    bench.row(served, f"{MESSAGES} DESADV {each} {SMALL:,} lines", despatches(bench, "d", SMALL_ORDERS), NAMED * SMALL)
-    number, lines = NAMING[bench.is_long], NAMED * LARGE
-    for how, control, by_number in (("line number", "n", True), ("article", "i", False)):
+    bench.row(served, f"{MESSAGES} DESADV {each} {SMALL:,} lines", despatches(bench, "d", SMALL_ORDERS), MESSAGES * NAMED)
+    one_line = despatches(bench, "e", SMALL_ORDERS, each_another=False)
+    bench.row(served, f"{MESSAGES} DESADV {each} {SMALL:,} lines, all the same lines", one_line, NAMED)
+    number = NAMING[bench.is_long]
+    for how, control, by_number, lines in (("line number", "n", True, number * NAMED), ("article", "i", False, NAMED * LARGE)):
         rounds = despatches(bench, control, LARGE_ORDERS, number, by_number)
         bench.row(served, f"{number} DESADV {each} {LARGE:,} lines, by {how}", rounds, lines)
 
