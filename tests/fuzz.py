@@ -72,6 +72,29 @@ def changed_bytes(draw, data):
     return bytes(data)
 
 
+# what is put in the place of an element, of a component, and of a segment
+ELEMENTS = ("", "0", "1", "999999999", "1000000000", "12,000", "S", "9:9", "x" * 36, "?", ":::", "+")
+COMPONENTS = ("", "203", "20250229", "202506030915", "9", "SRV", "PCE", "0001", "14")
+SEGMENTS = (
+    "UNS+S",
+    "CNT+2:1",
+    "LIN+1++4000862141404:SRV",
+    "QTY+21:5",
+    "FTX+AAI+++free ?' text",
+    "UNG+1",
+    "",
+    "RFF+ON:1:1",
+    "\r\nDTM+137:20250603:102",
+)
+
+
+def with_another(draw, text, separator, others):
+    """The text with one of its parts replaced by one of the others."""
+    parts = text.split(separator)
+    parts[draw.randrange(len(parts))] = draw.choice(others)
+    return separator.join(parts)
+
+
 def changed_segments(draw, text):
     """The segments of a text in the usual characters, some dropped, doubled, exchanged, or with other elements."""
     parts = text.split("'")
@@ -85,31 +108,11 @@ def changed_segments(draw, text):
         elif what == 2:
             parts[at], parts[other] = parts[other], parts[at]
         elif what == 3:
-            elements = parts[at].split("+")
-            elements[draw.randrange(len(elements))] = draw.choice(
-                ("", "0", "1", "999999999", "1000000000", "12,000", "S", "9:9", "x" * 36, "?", ":::", "+")
-            )
-            parts[at] = "+".join(elements)
+            parts[at] = with_another(draw, parts[at], "+", ELEMENTS)
         elif what == 4:
-            components = parts[at].split(":")
-            components[draw.randrange(len(components))] = draw.choice(
-                ("", "203", "20250229", "202506030915", "9", "SRV", "PCE", "0001", "14")
-            )
-            parts[at] = ":".join(components)
+            parts[at] = with_another(draw, parts[at], ":", COMPONENTS)
         else:
-            parts[at] = draw.choice(
-                (
-                    "UNS+S",
-                    "CNT+2:1",
-                    "LIN+1++4000862141404:SRV",
-                    "QTY+21:5",
-                    "FTX+AAI+++free ?' text",
-                    "UNG+1",
-                    "",
-                    "RFF+ON:1:1",
-                    "\r\nDTM+137:20250603:102",
-                )
-            )
+            parts[at] = draw.choice(SEGMENTS)
         parts = parts or [""]
     text = "'".join(parts)
     return counted(text) if draw.random() < 0.7 else text

@@ -270,16 +270,13 @@ def begins():
     ]
 
 
-def foundings():
-    """Faults are looked for in the order register, store, and the first is told alone."""
-    wrong, with_lists = of_prefixes("4012345", "40123455"), of_prefixes(["40123455", "4012345", "5012"], "8712345")
-    nine = database_files.file_of(database_files.TABLES, database_files.ROWS, "UPDATE schema SET number = 9")
-    known, no_database = database_files.file_of(), b"no database\n" * 1000
+def founded_hubs():
+    """Files and registers of which a hub is founded."""
     whole = has_rows(rows_of_register(*FIRST_TWO))
-    lists = rows_of_register((ALPHA, ["40123455", "4012345", "5012"], f"key-of-{ALPHA}"), (BETA, ["8712345"], f"key-of-{BETA}"))
     ok, version = told("ok 2 suppliers"), step(init(), "", 3, "store version\n", after=whole)
+    lists = rows_of_register((ALPHA, ["40123455", "4012345", "5012"], f"key-of-{ALPHA}"), (BETA, ["8712345"], f"key-of-{BETA}"))
+    with_lists = of_prefixes(["40123455", "4012345", "5012"], "8712345")
     full = Case("", init(), output_to="/dev/full", error=b"file\n", status=3, after=whole)
-    faults = [(name, text, verdict) for name, text, verdict in REGISTERS if not verdict.startswith("ok")]
     return [
         steps("a hub is founded, and not again", step(init(), ok, after=whole), version, step(over("status", ALPHA), told("end")), version),
         steps("a hub is founded in an empty file", step(init(), ok, files={NAME: ""}, after=whole)),
@@ -291,23 +288,33 @@ def foundings():
         ),
         steps("a hub of 1,000 suppliers", step(init(), told("ok 1000 suppliers"), files={REGISTER: crowd(1000)})),
         steps("a founding that cannot be told is done", full, version, step(over("status", ALPHA), told("end"))),
+    ]
+
+
+def foundings():
+    """Faults are looked for in the order register, store, and the first is told alone."""
+    wrong, no_database = of_prefixes("4012345", "40123455"), b"no database\n" * 1000
+    nine = database_files.file_of(database_files.TABLES, database_files.ROWS, "UPDATE schema SET number = 9")
+    known = database_files.file_of()
+    not_text = {REGISTER: b"\xff" + TWO_SUPPLIERS.encode()}
+    overlap = told("fault overlap 1 2")
+    return [
+        *founded_hubs(),
         *(
             steps(f"no hub is founded of {name}", step(init(), told(f"fault {verdict}"), 1, files={REGISTER: text}, after=no_file))
-            for name, text, verdict in faults
+            for name, text, verdict in REGISTERS
+            if not verdict.startswith("ok")
         ),
         steps("no hub is founded of a register that is not there", step(init("none.toml"), "", 3, "file\n", after=no_file)),
-        steps(
-            "no hub is founded of a register that is not UTF-8",
-            step(init(), "", 3, "file\n", {REGISTER: b"\xff" + TWO_SUPPLIERS.encode()}, no_file),
-        ),
+        steps("no hub is founded of a register that is not UTF-8", step(init(), "", 3, "file\n", not_text, no_file)),
         steps("a folder that is not there, for a founding", step(init(db="none/hub.db"), "", 3, "store disk\n", after=no_file)),
         steps(
             "prefixes that overlap, before a folder that is not there",
-            step(init(db="none/hub.db"), told("fault overlap 1 2"), 1, files={REGISTER: wrong}, after=no_file),
+            step(init(db="none/hub.db"), overlap, 1, files={REGISTER: wrong}, after=no_file),
         ),
         steps(
             "prefixes that overlap, before a schema of number 9",
-            step(init(), told("fault overlap 1 2"), 1, files={REGISTER: wrong, NAME: nine}, after=is_still(nine)),
+            step(init(), overlap, 1, files={REGISTER: wrong, NAME: nine}, after=is_still(nine)),
         ),
         steps("a schema of number 9, for a founding", step(init(), "", 3, "store version\n", {NAME: nine}, is_still(nine))),
         steps(
@@ -335,59 +342,55 @@ def join(supplier, prefixes, printed, status=0, key="gamma-key-1", after=None, *
     return step(over("join", how.pop("who", RETAILER), *words, **how), told(printed), status, after=after)
 
 
+def of_gamma(command, *more):
+    return over(command, GAMMA, *more, key="gamma-key-1")
+
+
+# gamma once it joined, and a despatch of it
+THIRD = (*FIRST_TWO, (GAMMA, ["7612345", "7612346"], "gamma-key-1"))
+SENT_BY_GAMMA = (
+    "50b.edi",
+    interchange(GAMMA, "S50", despatch("DA1", "376123460000000015", 12, supplier=GAMMA)),
+    "interchange S50 messages 1",
+    "1 DESADV accepted",
+)
+
+
+def registered(*suppliers):
+    return has_rows({table: rows for table, rows in rows_of_register(*suppliers).items() if table in REGISTERED})
+
+
+def not_joined():
+    """Joins that are refused, and one with nine prefixes, which is a fault of usage."""
+    nine = ",".join(f"351234{last}" for last in range(9))
+    words = over("join", RETAILER, "--supplier", DELTA, "--supplier-key", "delta-key-1", "--prefixes", nine)
+    return [
+        join(GAMMA, "7612345,7612346", "refused B18", 1),
+        join(DELTA, "401234", "refused B19", 1, "delta-key-1", registered(*THIRD)),
+        step(words, "", 2, is_usage, after=registered(*THIRD)),
+    ]
+
+
 def joined():
     """A supplier joins while the hub has orders: before that it is not known, and from then on it is."""
     upload = interchange(RETAILER, "1020", order(supplier=GAMMA))
     its_mail = f"UNA:+.? 'UNB+UNOC:3+{HUB}:14+{GAMMA}:14+250603:0920+1'{order(supplier=GAMMA)}UNZ+1+1'"
-    its = lambda command, *more: over(command, GAMMA, *more, key="gamma-key-1")
-    nine = ",".join(f"351234{last}" for last in range(9))
-    third = *FIRST_TWO, (GAMMA, ["7612345", "7612346"], "gamma-key-1")
-    registered = lambda *suppliers: has_rows({table: rows for table, rows in rows_of_register(*suppliers).items() if table in REGISTERED})
+    fourth = (DELTA, ["3512345", "35123456"], "delta-key-1")
+    pallet = f"P 376123460000000015 04000862141404 A {12:>14} {0:>14} {0:>14} {0:>14} {'+0':>15}"
     return founded(
         "a supplier joins, and then it is ordered from and despatches",
         one(RETAILER, "1", "1001", "ORDERS", ORDERS),
         one(RETAILER, "50", "1020", "ORDERS", upload, "refused B02"),
-        step(its("status"), told("denied"), 1),
+        step(of_gamma("status"), told("denied"), 1),
         step(over("status", RETAILER, "--of", GAMMA), told("unknown"), 1),
-        join(GAMMA, "7612345,7612346", "accepted", after=registered(*third)),
+        join(GAMMA, "7612345,7612346", "accepted", after=registered(*THIRD)),
         one(RETAILER, "50", "1020", "ORDERS", upload),
         one(RETAILER, "50", "1020", "ORDERS", upload, "repeated"),
-        step(its("mail", "--do", "item", "--n", "1"), its_mail),
-        imported(
-            GAMMA,
-            "50b",
-            (
-                "50b.edi",
-                interchange(GAMMA, "S50", despatch("DA1", "376123460000000015", 12, supplier=GAMMA)),
-                "interchange S50 messages 1",
-                "1 DESADV accepted",
-            ),
-            key="gamma-key-1",
-        ),
-        join(GAMMA, "7612345,7612346", "refused B18", 1),
-        join(DELTA, "401234", "refused B19", 1, "delta-key-1", registered(*third)),
-        step(
-            over("join", RETAILER, "--supplier", DELTA, "--supplier-key", "delta-key-1", "--prefixes", nine),
-            "",
-            2,
-            is_usage,
-            after=registered(*third),
-        ),
-        join(
-            DELTA,
-            "3512345,35123456",
-            "accepted",
-            key="delta-key-1",
-            after=registered(*third, (DELTA, ["3512345", "35123456"], "delta-key-1")),
-        ),
-        step(
-            its("status"),
-            told(
-                line_status("128576", "W", 48, 36, 0, 0, 12),
-                f"P 376123460000000015 04000862141404 A {12:>14} {0:>14} {0:>14} {0:>14} {'+0':>15}",
-                "end",
-            ),
-        ),
+        step(of_gamma("mail", "--do", "item", "--n", "1"), its_mail),
+        imported(GAMMA, "50b", SENT_BY_GAMMA, key="gamma-key-1"),
+        *not_joined(),
+        join(DELTA, "3512345,35123456", "accepted", key="delta-key-1", after=registered(*THIRD, fourth)),
+        step(of_gamma("status"), told(line_status("128576", "W", 48, 36, 0, 0, 12), pallet, "end")),
         step(over("status", RETAILER, "--of", DELTA), told("end")),
         status_of(ALPHA, line_status("128576", "W", 48, 48, 0, 0, 0)),
     )

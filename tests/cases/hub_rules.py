@@ -274,6 +274,21 @@ def line_sent(reference, named):
     return message("DESADV:D:01B:UN:EAN007", reference, *head, "LIN+1++4000862141404:SRV", "QTY+12:1", named)
 
 
+def read_once(play):
+    """In one upload an order is looked up once, but for lines that are named by their numbers: each message looks up its own."""
+    text = interchange(ALPHA, "S5", whole_answer(1, "128578"), whole_answer(2, "128578"), whole_answer(3, "none"), whole_answer(4, "none"))
+    told = ("1 ORDRSP accepted", "2 ORDRSP refused B07", "3 ORDRSP refused B05", "4 ORDRSP refused B05")
+    play.upload(ALPHA, text, "interchange S5 messages 4", *told).counts(8, 1).say("mend")
+    text = interchange(ALPHA, "S8", numbered_answer(1, "128578", 1), numbered_answer(2, "128578", 2))
+    told = ("1 ORDRSP refused B07", "2 ORDRSP refused B06")
+    play.upload(ALPHA, text, "interchange S8 messages 2", *told).counts(6, 0).say("mend")
+    # once an advice names a line by its article, the order is known whole
+    named = "RFF+ON:128577:1", "RFF+ON:128577:1", "RFF+ON:128577", "RFF+ON:128577:1"
+    advices = [line_sent(place, line) for place, line in enumerate(named, 1)]
+    told = [f"{place} DESADV accepted" for place in range(1, 5)]
+    return play.upload(ALPHA, interchange(ALPHA, "S6", *advices), "interchange S6 messages 4", *told).counts(18, 4)
+
+
 def counted():
     """The look-ups and commits of each message."""
     play = ordered().counts(3, 1)
@@ -306,19 +321,7 @@ def counted():
     # parties that are refused, for which no order is asked for
     text = interchange(ALPHA, "S4", response("R4", 27, order="128578", supplier=BETA))
     play.upload(ALPHA, text, "interchange S4 messages 1", "1 ORDRSP refused B02").counts(1, 0).say("mend")
-    # in one upload an order is looked up once
-    text = interchange(ALPHA, "S5", whole_answer(1, "128578"), whole_answer(2, "128578"), whole_answer(3, "none"), whole_answer(4, "none"))
-    told = ("1 ORDRSP accepted", "2 ORDRSP refused B07", "3 ORDRSP refused B05", "4 ORDRSP refused B05")
-    play.upload(ALPHA, text, "interchange S5 messages 4", *told).counts(8, 1).say("mend")
-    # lines that are named by their numbers alone, in one look-up for each message
-    text = interchange(ALPHA, "S8", numbered_answer(1, "128578", 1), numbered_answer(2, "128578", 2))
-    told = ("1 ORDRSP refused B07", "2 ORDRSP refused B06")
-    play.upload(ALPHA, text, "interchange S8 messages 2", *told).counts(6, 0).say("mend")
-    # so it is for an advice, until one names a line by its article: then the order is known whole
-    named = "RFF+ON:128577:1", "RFF+ON:128577:1", "RFF+ON:128577", "RFF+ON:128577:1"
-    advices = [line_sent(place, line) for place, line in enumerate(named, 1)]
-    told = [f"{place} DESADV accepted" for place in range(1, 5)]
-    return play.upload(ALPHA, interchange(ALPHA, "S6", *advices), "interchange S6 messages 4", *told).counts(18, 4)
+    return read_once(play)
 
 
 def stopped_once(calls, fault):

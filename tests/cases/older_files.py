@@ -114,60 +114,58 @@ def works_on():
     )
 
 
+def with_rows(rows):
+    """Rows of a file that has no others."""
+    return {**{table: [] for table in OLD_ROWS if table != "schema"}, **rows}
+
+
+def misfit(name, rows, text=TWO_SUPPLIERS):
+    """A register does not fit to these rows, and the file stays as it is."""
+    data = old_file(with_rows(rows))
+    founding = step(init(), MISFIT, 1, files={REGISTER: text, NAME: data}, after=is_still(data))
+    return steps(f"a register that does not fit to {name}", founding)
+
+
+def of_supplier(table, bytes_of):
+    """The row of a kind with these bytes for its supplier."""
+    row = list(ONE_OF_EACH[table][0])
+    row[1 if table == "pallet" else 0] = bytes_of
+    return {table: [tuple(row)]}
+
+
+def pallets(*rows):
+    """Pallets of these SSCCs."""
+    return {"pallet": [(sscc, ALPHA.encode(), b"DA1", 0) for sscc in rows]}
+
+
 def misfits():
     """Each kind of row is looked at, and each cell: a register fits where it knows every supplier and has each pallet under a prefix of its
     own."""
-    sound = {**{table: [] for table in OLD_ROWS if table != "schema"}, **ONE_OF_EACH}
-    fits = steps(
-        "a register that fits to a row of each kind", step(init(), FOUNDED, files={NAME: old_file(sound)}, after=has_rows(beside(sound)))
-    )
-
-    def refused(name, rows, text=TWO_SUPPLIERS, *changes):
-        data = old_file({**{table: [] for table in OLD_ROWS if table != "schema"}, **rows}, *changes)
-        return steps(
-            f"a register that does not fit to {name}", step(init(), MISFIT, 1, files={REGISTER: text, NAME: data}, after=is_still(data))
-        )
-
-    def of_kind(table, bytes_of):
-        place = 1 if table == "pallet" else 0
-        row = list(ONE_OF_EACH[table][0])
-        row[place] = bytes_of
-        return {table: [tuple(row)]}
-
-    unknown = [
-        refused(f"a row of {table} whose supplier it does not know", {table: rows}, register(B)) for table, rows in ONE_OF_EACH.items()
-    ]
-    nobody = [
-        refused(f"a row of {table} of no GLN", of_kind(table, bytes_of))
-        for table in ONE_OF_EACH
-        for bytes_of in (b"", ALPHA.encode()[:12], b"4012345500005")
-    ]
-    prefixes = [
-        refused(
-            "a pallet under a prefix of another supplier",
-            {"pallet": ONE_OF_EACH["pallet"]},
-            register((ALPHA, "40123456", KEYS[ALPHA]), (BETA, "40123455", KEYS[BETA])),
+    one = {"pallet": ONE_OF_EACH["pallet"]}
+    others = register((ALPHA, "40123456", KEYS[ALPHA]), (BETA, "40123455", KEYS[BETA]))
+    last_of_three = register((ALPHA, ["40123456", "40123457", "40123455"], KEYS[ALPHA]), B)
+    three = {"pallet": one["pallet"] + pallets(OTHER_PALLET.encode(), b"387123450000000018")["pallet"]}
+    sound = with_rows(ONE_OF_EACH)
+    return [
+        steps(
+            "a register that fits to a row of each kind",
+            step(init(), FOUNDED, files={NAME: old_file(sound)}, after=has_rows(beside(sound))),
         ),
-        refused("a pallet of no SSCC", {"pallet": [(PALLET.encode()[:17], ALPHA.encode(), b"DA1", 0)]}),
-        refused(
-            "the last pallet of three",
-            {
-                "pallet": [
-                    *ONE_OF_EACH["pallet"],
-                    (OTHER_PALLET.encode(), ALPHA.encode(), b"DA1", 0),
-                    (b"387123450000000018", ALPHA.encode(), b"DA1", 0),
-                ]
-            },
+        *(misfit(f"a row of {table} whose supplier it does not know", {table: rows}, register(B)) for table, rows in ONE_OF_EACH.items()),
+        *(
+            misfit(f"a row of {table} of no GLN", of_supplier(table, bytes_of))
+            for table in ONE_OF_EACH
+            for bytes_of in (b"", ALPHA.encode()[:12], b"4012345500005")
         ),
-        refused("the retailer as the supplier of an order", {'"order"': [(RETAILER.encode(), b"128576")]}),
+        misfit("a pallet under a prefix of another supplier", one, others),
+        misfit("a pallet of no SSCC", pallets(PALLET.encode()[:17])),
+        misfit("the last pallet of three", three),
+        misfit("the retailer as the supplier of an order", {'"order"': [(RETAILER.encode(), b"128576")]}),
+        steps(
+            "a pallet under the last of three prefixes",
+            step(init(), FOUNDED, files={REGISTER: last_of_three, NAME: old_file(with_rows(one))}),
+        ),
     ]
-    second = {"pallet": ONE_OF_EACH["pallet"]}
-    one_of_eight = register((ALPHA, ["40123456", "40123457", "40123455"], KEYS[ALPHA]), B)
-    eight = steps(
-        "a pallet under the last of three prefixes",
-        step(init(), FOUNDED, files={REGISTER: one_of_eight, NAME: old_file({**{t: [] for t in OLD_ROWS if t != "schema"}, **second})}),
-    )
-    return [fits, *unknown, *nobody, *prefixes, eight]
 
 
 def not_of_this_schema():

@@ -36,109 +36,123 @@ class Asked:
     between: dict = field(default_factory=dict)
 
 
-def sent_twice():
-    """A script, and what is asked in it."""
-    play, asked = Joining(), []
+class Twice:
+    """A script in which each input comes twice, and what is told of it."""
 
-    def answered(one):
-        play.printed = b""
+    def __init__(self):
+        self.play, self.asked = Joining(), []
+
+    def answered(self, one):
+        self.play.printed = b""
         one()
-        return play.printed
+        return self.play.printed
 
-    def twice(first, again, *heads):
+    def twice(self, first, again, *heads):
         stops = STOPPED | {b"stopped %d\n%s" % (len(head), head) for head in heads}
-        asked.append(Asked(answered(first), answered(again), stops))
+        self.asked.append(Asked(self.answered(first), self.answered(again), stops))
 
-    def sends(who, reference, kind, text, told="accepted", again="repeated"):
+    def looks(self, one):
+        self.twice(one, one)
+
+    def sends(self, who, reference, kind, text, told="accepted", again="repeated"):
         head = f"interchange {reference} messages 1"
-        twice(
-            lambda: play.upload(who, text, head, f"1 {kind} {told}"),
-            lambda: play.upload(who, text, head, f"1 {kind} {again}"),
+        self.twice(
+            lambda: self.play.upload(who, text, head, f"1 {kind} {told}"),
+            lambda: self.play.upload(who, text, head, f"1 {kind} {again}"),
             f"{head}\nstopped\n".encode(),
         )
 
-    def sends_two(who, reference, kind, text):
+    def sends_two(self, who, reference, kind, text):
         """An upload of two messages: where it is stopped behind the first, that one is repeated, and the second accepted."""
         head = f"interchange {reference} messages 2"
 
         def told(first, second):
-            return answered(lambda: play.upload(who, text, head, f"1 {kind} {first}", f"2 {kind} {second}"))
+            return self.answered(lambda: self.play.upload(who, text, head, f"1 {kind} {first}", f"2 {kind} {second}"))
 
         def stopped(*lines):
             body = "".join(f"{it}\n" for it in (head, *lines, "stopped")).encode()
             return b"stopped %d\n%s" % (len(body), body)
 
-        script, caller = play.script, play.who
+        script, caller = self.play.script, self.play.who
         between = {stopped(f"1 {kind} accepted"): told("repeated", "accepted")}
-        play.script, play.who = script, caller
-        asked.append(
-            Asked(told("accepted", "accepted"), told("repeated", "repeated"), STOPPED | {stopped(), stopped(f"1 {kind} repeated")}, between)
-        )
+        self.play.script, self.play.who = script, caller
+        stops = STOPPED | {stopped(), stopped(f"1 {kind} repeated")}
+        self.asked.append(Asked(told("accepted", "accepted"), told("repeated", "repeated"), stops, between))
 
-    def looks(one):
-        twice(one, one)
-
-    sends(RETAILER, "1001", "ORDERS", ORDERS)
-    sends(RETAILER, "1001", "ORDERS", SPELLED, "repeated")
-    sends(RETAILER, "1002", "ORDERS", SECOND)
-    sends(RETAILER, "1003", "ORDERS", interchange(RETAILER, "1003", order()), "refused B04", "refused B04")
-    sends(ALPHA, "S1", "ORDRSP", RESPONSE)
-    sends(ALPHA, "S2", "DESADV", DESPATCH)
-    sends(ALPHA, "S6", "DESADV", interchange(ALPHA, "S6", despatch("DA4", OTHER_PALLET, 12, order="128577")))
-    sends(ALPHA, "S7", "ORDRSP", interchange(ALPHA, "S7", response("R2", 27, order="128577")))
-    sends(RETAILER, "1005", "RECADV", RECEIPT)
-    twice(lambda: play.cancel("C1", 1, 10, "accepted"), lambda: play.cancel("C1", 1, 10, "repeated"))
-    looks(lambda: play.take(1))
-    twice(play.gamma_joins, lambda: play.gamma_joins("refused B18"))
-    sends(RETAILER, "1020", "ORDERS", interchange(RETAILER, "1020", order(supplier=GAMMA)))
-    # two inputs of one run
-    play.say("run")
-    sends(RETAILER, "1004", "ORDERS", interchange(RETAILER, "1004", order("128578", supplier=BETA)))
-    play.say("end")
-    sends_two(
-        RETAILER,
-        "1010",
-        "ORDERS",
-        interchange(RETAILER, "1010", order("128579", supplier=BETA), order("128580", supplier=BETA, reference=2)),
-    )
-    looks(lambda: play.upload(RETAILER, "", "refused E06", outcome="bad"))
-    looks(lambda: play.ask(RETAILER, "status", "denied", "denied\n"))
-    looks(lambda: play.ask(ALPHA, "item 9", "unknown", "unknown\n"))
-    looks(lambda: play.status(line_status("128576", "C", 48, 14, 12, 10, 12), *STATUS[1:]))
-    looks(lambda: play.status(line_status("128576", "C", 48, 14, 12, 10, 12), *STATUS[1:], who=RETAILER, line=f"status-of {ALPHA}"))
-    looks(lambda: play.list(0, (2, "ORDERS", "128577"), (3, "RECADV", "G1")))
-    looks(lambda: play.item(1, FIRST_MAIL))
-    looks(lambda: play.item(2, SECOND_MAIL))
-
-    def wired(request, body, again=None, status=200, stops=(b"", b"stopped\n")):
+    def wired(self, request, body, again=None, status=200, stops=(b"", b"stopped\n")):
         """A connection of HTTP, served twice, and the bodies that a response of 503 may have."""
 
         def printed(status, text):
             data = http_texts.response(status, text)
             return b"served %d %d\n%s" % (status, len(data), data)
 
-        play.say("connection", request)
-        play.say("connection", request)
-        asked.append(Asked(printed(status, body), printed(status, again or body), {printed(503, text) for text in stops}))
+        self.play.say("connection", request)
+        self.play.say("connection", request)
+        self.asked.append(Asked(printed(status, body), printed(status, again or body), {printed(503, text) for text in stops}))
 
+
+def messages_sent(run):
+    """Messages, a cancellation, a mark and a join."""
+    play = run.play
+    run.sends(RETAILER, "1001", "ORDERS", ORDERS)
+    run.sends(RETAILER, "1001", "ORDERS", SPELLED, "repeated")
+    run.sends(RETAILER, "1002", "ORDERS", SECOND)
+    run.sends(RETAILER, "1003", "ORDERS", interchange(RETAILER, "1003", order()), "refused B04", "refused B04")
+    run.sends(ALPHA, "S1", "ORDRSP", RESPONSE)
+    run.sends(ALPHA, "S2", "DESADV", DESPATCH)
+    run.sends(ALPHA, "S6", "DESADV", interchange(ALPHA, "S6", despatch("DA4", OTHER_PALLET, 12, order="128577")))
+    run.sends(ALPHA, "S7", "ORDRSP", interchange(ALPHA, "S7", response("R2", 27, order="128577")))
+    run.sends(RETAILER, "1005", "RECADV", RECEIPT)
+    run.twice(lambda: play.cancel("C1", 1, 10, "accepted"), lambda: play.cancel("C1", 1, 10, "repeated"))
+    run.looks(lambda: play.take(1))
+    run.twice(play.gamma_joins, lambda: play.gamma_joins("refused B18"))
+    run.sends(RETAILER, "1020", "ORDERS", interchange(RETAILER, "1020", order(supplier=GAMMA)))
+    # two inputs of one run
+    play.say("run")
+    run.sends(RETAILER, "1004", "ORDERS", interchange(RETAILER, "1004", order("128578", supplier=BETA)))
+    play.say("end")
+    two = interchange(RETAILER, "1010", order("128579", supplier=BETA), order("128580", supplier=BETA, reference=2))
+    run.sends_two(RETAILER, "1010", "ORDERS", two)
+
+
+def seen(run):
+    """What is asked without a message."""
+    play, lines = run.play, (line_status("128576", "C", 48, 14, 12, 10, 12), *STATUS[1:])
+    run.looks(lambda: play.upload(RETAILER, "", "refused E06", outcome="bad"))
+    run.looks(lambda: play.ask(RETAILER, "status", "denied", "denied\n"))
+    run.looks(lambda: play.ask(ALPHA, "item 9", "unknown", "unknown\n"))
+    run.looks(lambda: play.status(*lines))
+    run.looks(lambda: play.status(*lines, who=RETAILER, line=f"status-of {ALPHA}"))
+    run.looks(lambda: play.list(0, (2, "ORDERS", "128577"), (3, "RECADV", "G1")))
+    run.looks(lambda: play.item(1, FIRST_MAIL))
+    run.looks(lambda: play.item(2, SECOND_MAIL))
+
+
+def over_connections(run):
+    """The same over HTTP."""
     path, asking = f"/p/{ALPHA}", http_texts.asking
     head = "interchange 1011 messages 1\n"
     upload = asking("POST", f"/p/{RETAILER}/interchanges", RETAILER, interchange(RETAILER, "1011", order("128579")))
-    wired(upload, head + "1 ORDERS accepted\n", head + "1 ORDERS repeated\n", stops=(b"", b"stopped\n", f"{head}stopped\n".encode()))
-    wired(asking("GET", f"{path}/mail/item/1", ALPHA), FIRST_MAIL)
-    wired(asking("GET", f"{path}/mail/after/3", ALPHA), "             4 ORDERS 128579\nend\n")
-    wired(asking("POST", f"{path}/mail/item/4/taken", ALPHA, ""), "taken\n")
-    wired(
-        asking("GET", f"/p/{RETAILER}/status/{BETA}", RETAILER),
-        "".join(line_status(number, "W", 48, 48, 0, 0, 0) + "\n" for number in ("128578", "128579", "128580")) + "end\n",
-    )
+    run.wired(upload, head + "1 ORDERS accepted\n", head + "1 ORDERS repeated\n", stops=(b"", b"stopped\n", f"{head}stopped\n".encode()))
+    run.wired(asking("GET", f"{path}/mail/item/1", ALPHA), FIRST_MAIL)
+    run.wired(asking("GET", f"{path}/mail/after/3", ALPHA), "             4 ORDERS 128579\nend\n")
+    run.wired(asking("POST", f"{path}/mail/item/4/taken", ALPHA, ""), "taken\n")
+    lines = "".join(line_status(number, "W", 48, 48, 0, 0, 0) + "\n" for number in ("128578", "128579", "128580"))
+    run.wired(asking("GET", f"/p/{RETAILER}/status/{BETA}", RETAILER), lines + "end\n")
     cancel = f"{ALPHA}\nC5\n128579\n1\n7\n"
-    wired(asking("POST", f"/p/{RETAILER}/cancellations", RETAILER, cancel), "accepted\n", "repeated\n")
+    run.wired(asking("POST", f"/p/{RETAILER}/cancellations", RETAILER, cancel), "accepted\n", "repeated\n")
     # a refusal asks for no memory
-    wired(asking("GET", f"{path}/mail/item/x", ALPHA), "unknown\n", status=404, stops=())
-    wired(b"GET /\r\n\r\n", "bad request\n", status=400, stops=())
-    wired(asking("GET", f"{path}/status", ALPHA, None, "X-Hub-Key: alpha-key-1"), "bad request\n", status=400, stops=())
-    return play.script, asked
+    run.wired(asking("GET", f"{path}/mail/item/x", ALPHA), "unknown\n", status=404, stops=())
+    run.wired(b"GET /\r\n\r\n", "bad request\n", status=400, stops=())
+    run.wired(asking("GET", f"{path}/status", ALPHA, None, "X-Hub-Key: alpha-key-1"), "bad request\n", status=400, stops=())
+
+
+def sent_twice():
+    """A script, and what is asked in it."""
+    run = Twice()
+    for scene in (messages_sent, seen, over_connections):
+        scene(run)
+    return run.play.script, run.asked
 
 
 def pairs(output):

@@ -89,49 +89,69 @@ def cancellation(reference, quantity, supplier=ALPHA):
     return f"{supplier}\n{reference}\n128576\n1\n{quantity}\n"
 
 
+def messages_of_days():
+    """Orders, answers, despatches and a receipt."""
+    return [
+        get(ALPHA, "status", 200, told("end")),
+        ORDERED,
+        get(ALPHA, "mail/item/1", 200, FIRST_MAIL),
+        get(ALPHA, "mail/after/0", 200, listed((1, "ORDERS", "128576"))),
+        accepted(RETAILER, "1001", "ORDERS", ORDERS, "repeated"),
+        upload(RETAILER, ORDERS.replace("QTY+21:48", "QTY+21:49"), "interchange 1001 messages 1", "1 ORDERS refused B03"),
+        accepted(RETAILER, "1002", "ORDERS", SECOND),
+        get(ALPHA, "mail/item/2", 200, SECOND_MAIL),
+        upload(RETAILER, ORDERS.replace("1001'", "1003'").replace("UNT+10+1", "UNT+9+1"), "refused E12", status=400),
+        upload(RETAILER, "", "refused E06", status=400),
+        accepted(ALPHA, "S1", "ORDRSP", RESPONSE),
+        accepted(ALPHA, "S2", "DESADV", DESPATCH),
+        accepted(ALPHA, "S6", "DESADV", interchange(ALPHA, "S6", despatch("DA4", OTHER_PALLET, 12, order="128577"))),
+        accepted(ALPHA, "S7", "ORDRSP", interchange(ALPHA, "S7", answer("R2", 27, order="128577"))),
+        accepted(RETAILER, "1005", "RECADV", RECEIPT),
+    ]
+
+
+def seen_of_days():
+    """What is seen then, a mark and cancellations."""
+    return [
+        get(ALPHA, "mail/item/3", 200, THIRD_MAIL),
+        get(ALPHA, "status", 200, told(*STATUS, "end")),
+        get(RETAILER, f"status/{ALPHA}", 200, told(*STATUS, "end")),
+        get(RETAILER, f"status/{BETA}", 200, told("end")),
+        get(BETA, "status", 200, told("end")),
+        get(RETAILER, f"status/{DELTA}", 404, "unknown\n"),
+        get(RETAILER, "status/4012345500005", 404, "unknown\n"),
+        get(RETAILER, "status/x", 404, "unknown\n"),
+        post(ALPHA, "mail/item/1/taken", "", 200, "taken\n"),
+        get(ALPHA, "mail/after/0", 200, listed((2, "ORDERS", "128577"), (3, "RECADV", "G1"))),
+        get(ALPHA, "mail/item/1", 200, FIRST_MAIL),
+        get(ALPHA, "mail/item/00000000000001", 200, FIRST_MAIL),
+        post(RETAILER, "cancellations", cancellation("C1", 10), 200, "accepted\n"),
+        post(RETAILER, "cancellations", cancellation("C1", 10), 200, "repeated\n"),
+        post(RETAILER, "cancellations", cancellation("C2", 15), 200, "refused B17\n"),
+        post(RETAILER, "cancellations", cancellation("C1", 11), 200, "refused B03\n"),
+        post(RETAILER, "cancellations", cancellation("C3", 1)[:-1], 400, "bad request\n"),
+        post(RETAILER, "cancellations", "", 400, "bad request\n"),
+        get(ALPHA, "status", 200, told(line_status("128576", "C", 48, 14, 12, 10, 12), *STATUS[1:], "end")),
+    ]
+
+
 def days(program):
-    """Orders, answers, despatches, receipts and cancellations over HTTP, and what is seen of them."""
-    cancelled = [line_status("128576", "C", 48, 14, 12, 10, 12), *STATUS[1:]]
-    return served(
-        program,
-        [
-            get(ALPHA, "status", 200, told("end")),
-            ORDERED,
-            get(ALPHA, "mail/item/1", 200, FIRST_MAIL),
-            get(ALPHA, "mail/after/0", 200, listed((1, "ORDERS", "128576"))),
-            accepted(RETAILER, "1001", "ORDERS", ORDERS, "repeated"),
-            upload(RETAILER, ORDERS.replace("QTY+21:48", "QTY+21:49"), "interchange 1001 messages 1", "1 ORDERS refused B03"),
-            accepted(RETAILER, "1002", "ORDERS", SECOND),
-            get(ALPHA, "mail/item/2", 200, SECOND_MAIL),
-            upload(RETAILER, ORDERS.replace("1001'", "1003'").replace("UNT+10+1", "UNT+9+1"), "refused E12", status=400),
-            upload(RETAILER, "", "refused E06", status=400),
-            accepted(ALPHA, "S1", "ORDRSP", RESPONSE),
-            accepted(ALPHA, "S2", "DESADV", DESPATCH),
-            accepted(ALPHA, "S6", "DESADV", interchange(ALPHA, "S6", despatch("DA4", OTHER_PALLET, 12, order="128577"))),
-            accepted(ALPHA, "S7", "ORDRSP", interchange(ALPHA, "S7", answer("R2", 27, order="128577"))),
-            accepted(RETAILER, "1005", "RECADV", RECEIPT),
-            get(ALPHA, "mail/item/3", 200, THIRD_MAIL),
-            get(ALPHA, "status", 200, told(*STATUS, "end")),
-            get(RETAILER, f"status/{ALPHA}", 200, told(*STATUS, "end")),
-            get(RETAILER, f"status/{BETA}", 200, told("end")),
-            get(BETA, "status", 200, told("end")),
-            get(RETAILER, f"status/{DELTA}", 404, "unknown\n"),
-            get(RETAILER, "status/4012345500005", 404, "unknown\n"),
-            get(RETAILER, "status/x", 404, "unknown\n"),
-            post(ALPHA, "mail/item/1/taken", "", 200, "taken\n"),
-            get(ALPHA, "mail/after/0", 200, listed((2, "ORDERS", "128577"), (3, "RECADV", "G1"))),
-            get(ALPHA, "mail/item/1", 200, FIRST_MAIL),
-            get(ALPHA, "mail/item/00000000000001", 200, FIRST_MAIL),
-            post(RETAILER, "cancellations", cancellation("C1", 10), 200, "accepted\n"),
-            post(RETAILER, "cancellations", cancellation("C1", 10), 200, "repeated\n"),
-            post(RETAILER, "cancellations", cancellation("C2", 15), 200, "refused B17\n"),
-            post(RETAILER, "cancellations", cancellation("C1", 11), 200, "refused B03\n"),
-            post(RETAILER, "cancellations", cancellation("C3", 1)[:-1], 400, "bad request\n"),
-            post(RETAILER, "cancellations", "", 400, "bad request\n"),
-            get(ALPHA, "status", 200, told(*cancelled, "end")),
-        ],
-        then=lambda server: database_files.is_whole(server.folder),
-    )
+    """Days of an order over HTTP, and what is seen of them."""
+    return served(program, messages_of_days() + seen_of_days(), then=lambda server: database_files.is_whole(server.folder))
+
+
+def fields_of_heads():
+    """Heads with one key or several, in other letters, or with another key."""
+    key = "X-Hub-Key: alpha-key-1"
+    return [
+        ("two keys", head(f"GET /p/{ALPHA}/status HTTP/1.1", key, key), 400, "bad request\n"),
+        ("the field in other letters", head(f"GET /p/{ALPHA}/mail/after/0 HTTP/1.1", "x-hUB-kEY: alpha-key-1"), 200, "end\n"),
+        ("the key in other letters", head(f"GET /p/{ALPHA}/status HTTP/1.1", "X-Hub-Key: Alpha-key-1"), 403, "denied\n"),
+        ("the front of a key", head(f"GET /p/{ALPHA}/status HTTP/1.1", "X-Hub-Key: alpha-key-"), 403, "denied\n"),
+        ("a key with a byte behind it", head(f"GET /p/{ALPHA}/status HTTP/1.1", "X-Hub-Key: alpha-key-11"), 403, "denied\n"),
+        ("no key", head(f"GET /p/{ALPHA}/status HTTP/1.1"), 403, "denied\n"),
+        ("the hub asks", head(f"GET /p/{HUB}/status HTTP/1.1", "X-Hub-Key: retail-key"), 403, "denied\n"),
+    ]
 
 
 def seen_by_others(program):
@@ -161,19 +181,10 @@ def seen_by_others(program):
             get(ALPHA, "mail/item/x", 404, "unknown\n"),
             get(ALPHA, "mail/item/0", 404, "unknown\n"),
             get(ALPHA, "mail/item/000000000000001", 404, "unknown\n"),
-            get(ALPHA, "status?x", 404, "unknown\n"),
-            get(ALPHA, "status?", 404, "unknown\n"),
-            get(ALPHA, "Status", 404, "unknown\n"),
-            get(ALPHA, "status/", 404, "unknown\n"),
+            *(get(ALPHA, rest, 404, "unknown\n") for rest in ("status?x", "status?", "Status", "status/")),
             ("no path", head("GET / HTTP/1.1", key), 404, "unknown\n"),
             ("no GLN", head("GET /p//status HTTP/1.1", key), 404, "unknown\n"),
-            ("two keys", head(f"GET /p/{ALPHA}/status HTTP/1.1", key, key), 400, "bad request\n"),
-            ("the field in other letters", head(f"GET /p/{ALPHA}/mail/after/0 HTTP/1.1", "x-hUB-kEY: alpha-key-1"), 200, "end\n"),
-            ("the key in other letters", head(f"GET /p/{ALPHA}/status HTTP/1.1", "X-Hub-Key: Alpha-key-1"), 403, "denied\n"),
-            ("the front of a key", head(f"GET /p/{ALPHA}/status HTTP/1.1", "X-Hub-Key: alpha-key-"), 403, "denied\n"),
-            ("a key with a byte behind it", head(f"GET /p/{ALPHA}/status HTTP/1.1", "X-Hub-Key: alpha-key-11"), 403, "denied\n"),
-            ("no key", head(f"GET /p/{ALPHA}/status HTTP/1.1"), 403, "denied\n"),
-            ("the hub asks", head(f"GET /p/{HUB}/status HTTP/1.1", "X-Hub-Key: retail-key"), 403, "denied\n"),
+            *fields_of_heads(),
             get(RETAILER, "status", 403, "denied\n"),
             get(RETAILER, "mail/after/0", 403, "denied\n"),
             get(ALPHA, f"status/{ALPHA}", 403, "denied\n"),
