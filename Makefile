@@ -1,6 +1,7 @@
 # the hub, the supplier, the moment of the mail and the number of its first text
 EXAMPLE = 5412345000006 4012345500004 1748942400 1
 PROVED = crates/edihub/out/edihub
+SCRIPT = crates/trial_script/out/trial_script
 
 .PHONY: run day serve page page-test page-pictures try case test wrong split-commit hostile fuzz year crowd worst hubs bench
 .PHONY: edihub trial_script tests_of_calls install uninstall clean
@@ -98,38 +99,38 @@ split-commit:
 
 # Kills, full disks, damaged files and refused memory, for some minutes; no part of the gate.
 hostile: edihub trial_script tests_of_calls
-	python3 -m tests.hostile crates/edihub/out/edihub crates/trial_script/out/trial_script
+	python3 -m tests.hostile $(PROVED) $(SCRIPT)
 
 # Inputs made right and then changed, through the program: make fuzz SEED=2 NUMBER=10000
 SEED = 1
 NUMBER = 100000
 
 fuzz: edihub
-	python3 -m tests.fuzz crates/edihub/out/edihub $(SEED) $(NUMBER)
+	python3 -m tests.fuzz $(PROVED) $(SEED) $(NUMBER)
 
 # A retailer's year with 1,000 suppliers over HTTP, each answer compared with the right one: ORDERS=100000 for a whole one, which takes
 # 1 GB in TMPDIR.
 ORDERS = 10000
 
 year: edihub
-	python3 -m bench.year crates/edihub/out/edihub $(ORDERS)
+	python3 -m bench.year $(PROVED) $(ORDERS)
 
 # 1,000 suppliers at once, through HAProxy as examples/front has it; no part of the gate.
 crowd: edihub
-	python3 -m bench.crowd crates/edihub/out/edihub
+	python3 -m bench.crowd $(PROVED)
 
 # The most expensive requests beside a typical upload, some 10 minutes; no part of the gate. LONG=--long sends the longest in full.
 LONG =
 
 worst: edihub
-	python3 -m bench.worst crates/edihub/out/edihub $(LONG)
+	python3 -m bench.worst $(PROVED) $(LONG)
 
 # One hub, and three behind HAProxy as examples/hubs has them, asked the same; no part of the gate.
 hubs: edihub
-	python3 -m tests.three_hubs crates/edihub/out/edihub
+	python3 -m tests.three_hubs $(PROVED)
 
 bench: edihub trial_script
-	python3 -m bench ./edihub crates/trial_script/out/trial_script
+	python3 -m bench ./edihub $(SCRIPT)
 
 clean:
 	rm -rf edihub crates/*/out
