@@ -1,0 +1,210 @@
+"""Refuses each allocation of the program in turn, command by command, foundings and `serve` with an upload among them.
+
+The program reports `memory`, stops, or does without. The same command with ample memory then leaves the rows that it would have left, and
+reports `repeated` for what was done. A script over tables of SQL is played in the same way, and so are the tests of calls
+(trials/refused_in_calls.py)."""
+import os
+import shutil
+import socket
+import subprocess
+from collections import Counter
+
+from tests.harness.database_files import NAME, OLD_ROWS, OLD_TABLES, file_of
+from tests.harness.first_order import ORDERS
+from tests.harness.http_texts import response
+from tests.harness.hub_scripts import MOMENT
+from tests.harness.hub_steps import init, over, told
+from tests.harness.register_texts import BETA, RETAILER
+from tests.harness.servers import all_of, free_port, upload
+from tests.harness.shims import REFUSE, built
+from tests.hostile import commands_in_turn
+from tests.hostile.shared import FOUNDED, KNOWN, folder_with_file, folder_with_hub, folder_without_hub, in_words, on_all_processors, put
+from tests.hostile.shared import rows_of, run
+from tests.trials.refused_in_scripts import refusals
+
+# how a command ends that ran out of memory before it did anything
+FAULTS = {(3, b"", b"store memory\n"): "store memory", (3, b"", b"memory\n"): "memory"}
+
+
+class Shim:
+    """The library that counts or refuses allocations: the variables with which a program loads it."""
+
+    def __init__(self, top):
+        self.path, self.count = built(REFUSE, top), os.path.join(top, "count")
+
+    def counting(self):
+        return {"LD_PRELOAD": self.path, "COUNT": self.count}
+
+    def refusing(self, number):
+        return {"LD_PRELOAD": self.path, "REFUSE": str(number)}
+
+    def counted(self):
+        """How many allocations the last program made that counted them."""
+        with open(self.count, encoding="ascii") as file:
+            return int(file.read())
+
+
+def each_refused(tried, allocations):
+    """Refuses this many allocations in turn. `tried` refuses one, and returns what came of it and what is wrong. Returns the counts of what
+    came of them, in words, and what is wrong, if anything."""
+    found = on_all_processors(tried, range(1, allocations + 1))
+    wrong = [why for _, why in found if why]
+    return in_words(Counter(kind for kind, _ in found)), f"{len(wrong)} of {allocations} wrong, first {wrong[0]}" if wrong else None
+
+
+def founding_refused(program, top):
+    return foundings_refused(program, top, lambda: folder_without_hub(top), "init")
+
+
+def migration_refused(program, top):
+    data = file_of(OLD_TABLES, OLD_ROWS)
+    return foundings_refused(program, top, lambda: folder_with_file(top, data), "init over schema 1")
+
+
+def foundings_refused(program, top, new_folder, name):
+    """Refuses each allocation of a founding in turn, each time in a new folder, and makes the founding again."""
+    shim, whole, kinds = Shim(top), new_folder(), {FOUNDED: "as ever", **FAULTS}
+    if run(program, init(), whole, env=shim.counting()) != FOUNDED:
+        return "a founding with ample memory"
+    wanted, allocations = rows_of(whole), shim.counted()
+
+    def tried(number):
+        folder = new_folder()
+        first = run(program, init(), folder, env=shim.refusing(number))
+        kind = kinds.get(first)
+        if not kind:
+            return kind, f"allocation {number} refused: {first!r:.300}"
+        again = run(program, init(), folder)
+        # a fault leaves no hub
+        if again != (KNOWN if first == FOUNDED else FOUNDED) or rows_of(folder) != wanted:
+            return kind, f"allocation {number} refused, {kind}, then: {again!r:.300}"
+        shutil.rmtree(folder)
+        return kind, None
+
+    counts, why = each_refused(tried, allocations)
+    if not why:
+        print(f"{name}: {allocations} allocations; each refused in turn: {counts}", flush=True)
+    return why
+
+
+def memory_refused(program, top):
+    """Refuses each allocation of each command in turn, in the folder that the commands before it leave."""
+    shim, base = Shim(top), folder_with_hub(program, top)
+    for command in [*commands_in_turn.changes(), *commands_in_turn.questions()]:
+        put(base, command.files)
+        # the folder as the command leaves it, which the next one finds
+        end = shutil.copytree(base, os.path.join(top, command.name))
+        why = command_refused(program, shim, command, base, end)
+        if why:
+            return why
+        base = end
+    return None
+
+
+def command_refused(program, shim, command, base, end):
+    """Gives a command with ample memory in the folder `end`, and with each of its allocations refused in copies of the folder `base`."""
+
+    def once(folder, variables):
+        return run(program, command.words, folder, input=command.stdin, env=variables)
+
+    whole = once(end, shim.counting())
+    allocations, wanted = shim.counted(), rows_of(end)
+    if command.printed not in (None, whole[1]):
+        return f"{command.name}: {whole}"
+
+    def tried(number):
+        folder = shutil.copytree(base, f"{end}{number}")
+        first = once(folder, shim.refusing(number))
+        kind, refused = kind_of(command, first, whole), f"{command.name}: allocation {number} refused"
+        if not kind:
+            return kind, f"{refused}: {first!r:.300}"
+        later = once(folder, {})
+        # what was acknowledged is kept
+        if later != command.answer_again(whole) and (first == whole or later != whole):
+            return kind, f"{refused}, {kind}, then: {later!r:.300}"
+        if rows_of(folder) != wanted:
+            return kind, f"{refused}, {kind}, then other rows"
+        shutil.rmtree(folder)
+        return kind, None
+
+    counts, why = each_refused(tried, allocations)
+    if why:
+        return why
+    own = f", {allocations - opening(program, shim, base)} of them once the file is open" if command.is_over_hub() else ""
+    print(f"{command.name}: {allocations} allocations{own}; each refused in turn: {counts}", flush=True)
+    return None
+
+
+def kind_of(command, ran, whole):
+    """What came of a command with a refused allocation, if it answers `whole` with ample memory; `None` if that is wrong."""
+    status, printed, error = ran
+    if ran == whole:
+        return "as ever"
+    if ran in FAULTS:
+        return FAULTS[ran]
+    if (status, error) == (3, b"memory\n") and whole[1].startswith(printed):
+        return "memory"
+    # nothing is printed if there is no memory even for `stopped`
+    is_stop = not printed or printed.endswith(b"stopped\n") or printed == whole[1].split(b"\n")[0] + b"\n"
+    return "stopped" if command.is_over_hub() and (status, error) == (3, b"") and is_stop else None
+
+
+def opening(program, shim, base):
+    """How many allocations it takes to open the file of a folder: a caller that is denied does no more."""
+    folder = shutil.copytree(base, f"{base}opened")
+    run(program, over("status", BETA, key="another-key"), folder, env=shim.counting())
+    return shim.counted()
+
+
+def served_once(program, folder, request, variables):
+    """What comes of `serve` for one connection: its status, lines and standard error, and what the client was sent. It is started again if
+    another program took the port first."""
+    how = {"stdout": subprocess.PIPE, "stderr": subprocess.PIPE, "env": {**os.environ, **variables}}
+    for _ in range(3):
+        port = free_port()
+        words = ["serve", "--db", NAME, "--port", str(port), "--count", "1", "--moment", MOMENT]
+        child, found = subprocess.Popen([program, *words], cwd=folder, **how), b""
+        first = child.stdout.readline()
+        if first:
+            with socket.create_connection(("127.0.0.1", port), 60) as one:
+                one.sendall(request)
+                one.shutdown(socket.SHUT_WR)
+                found = all_of(one)
+        printed, error = child.communicate(timeout=60)
+        if error != b"listen\n":
+            break
+    return child.returncode, (first + printed).replace(str(port).encode(), b"PORT"), error, found
+
+
+def serving_refused(program, top):
+    shim, head = Shim(top), "interchange 1001 messages 1"
+    _, request, _, body = upload(RETAILER, ORDERS, head, "1 ORDERS accepted")
+    lines = b"listening PORT\nconnection 1 %d\n"
+    whole, again = ((0, lines % 200, b"", response(200, it)) for it in (body, told(head, "1 ORDERS repeated")))
+    stops = [(3, lines % 503, b"", response(503, text)) for text in (b"", b"stopped\n", told(head, "stopped"))]
+    kinds = {whole: "as ever", **dict.fromkeys(stops, "503"), **{(*fault, b""): kind for fault, kind in FAULTS.items()}}
+    end = folder_with_hub(program, top)
+    if served_once(program, end, request, shim.counting()) != whole:
+        return "an upload that is served with ample memory"
+    wanted, allocations = rows_of(end), shim.counted()
+
+    def tried(number):
+        folder = folder_with_hub(program, top)
+        found = served_once(program, folder, request, shim.refusing(number))
+        kind = kinds.get(found)
+        if not kind:
+            return kind, f"allocation {number} refused: {found!r:.300}"
+        later = served_once(program, folder, request, {})
+        if later != again and (found == whole or later != whole) or rows_of(folder) != wanted:
+            return kind, f"allocation {number} refused, {kind}, then: {later!r:.300}"
+        shutil.rmtree(folder)
+        return kind, None
+
+    counts, why = each_refused(tried, allocations)
+    if not why:
+        print(f"serve: {allocations} of {allocations} allocations refused in turn: {counts}", flush=True)
+    return why
+
+
+def script_refused(scripts, _):
+    return refusals(scripts, "sql")
