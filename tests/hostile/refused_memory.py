@@ -52,6 +52,14 @@ def each_refused(tried, allocations):
     return in_words(Counter(kind for kind, _ in found)), f"{len(wrong)} of {allocations} wrong, first {wrong[0]}" if wrong else None
 
 
+def each_told(tried, allocations, what):
+    """The same, with a line that tells it where nothing is wrong. Returns what is wrong."""
+    counts, why = each_refused(tried, allocations)
+    if not why:
+        print(f"{what}: {counts}", flush=True)
+    return why
+
+
 def founding_refused(program, top):
     return foundings_refused(program, top, lambda: folder_without_hub(top), "init")
 
@@ -81,10 +89,7 @@ def foundings_refused(program, top, new_folder, name):
         shutil.rmtree(folder)
         return kind, None
 
-    counts, why = each_refused(tried, allocations)
-    if not why:
-        print(f"{name}: {allocations} allocations; each refused in turn: {counts}", flush=True)
-    return why
+    return each_told(tried, allocations, f"{name}: {allocations} allocations; each refused in turn")
 
 
 def memory_refused(program, top):
@@ -200,10 +205,7 @@ def serving_refused(program, top):
         shutil.rmtree(folder)
         return kind, None
 
-    counts, why = each_refused(tried, allocations)
-    if not why:
-        print(f"serve: {allocations} of {allocations} allocations refused in turn: {counts}", flush=True)
-    return why
+    return each_told(tried, allocations, f"serve: {allocations} of {allocations} allocations refused in turn")
 
 
 def script_refused(scripts, _):

@@ -222,7 +222,7 @@ TWO, HUBS, LOGGED = "ok 2 suppliers", "ok 3 hubs, 10 suppliers", told("file 1.ed
 PICTURE, NGINX = "a picture", "a configuration of nginx"
 # of each document with blocks, how each begins, and how it is tried; or what it is, where it has no command
 BLOCKS = {
-    "README.md": {"make run": looked_up, "HTTP ": PICTURE},
+    "README.md": {"make run": looked_up},
     "docs/ARCHITECTURE.md": {"doors ": PICTURE},
     "docs/CONTRIBUTING.md": {"grep -rn 'WithoutLines'": looked_up},
     "docs/FORMATS.md": {"UNA:": "the form of mail", "service component": shown_lines, "HTTP/1.1 200 OK": head_of_a_list},
