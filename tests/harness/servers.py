@@ -1,4 +1,5 @@
 """The built program, serving on 127.0.0.1, and clients of it."""
+import errno
 import os
 import resource
 import shutil
@@ -33,10 +34,10 @@ def limit(room, seconds):
 
 
 class Server:
-    """The program, serving so many connections in a folder of its own: over the database file that is given or stands there, or over a hub
-    that is founded before."""
+    """The program, serving so many connections in a folder of its own, with more words where there are some: over the database file that is
+    given or stands there, or over a hub that is founded before."""
 
-    def __init__(self, program, count, moment=MOMENT, data=(), folder=None, output=None, room=0, seconds=0, env=None):
+    def __init__(self, program, count, moment=MOMENT, data=(), folder=None, output=None, room=0, seconds=0, env=None, more=()):
         self.folder = folder or tempfile.mkdtemp()
         for name, it in dict(data).items():
             with open(os.path.join(self.folder, name), "wb") as file:
@@ -48,6 +49,7 @@ class Server:
             self.port = free_port()
             words = ["serve", "--db", NAME, "--port", str(self.port), "--count", str(count)]
             words += ["--moment", moment] if moment else []
+            words += more
             self.child = subprocess.Popen([program, *words], cwd=self.folder, **how)
             self.lines = [] if output else [self.child.stdout.readline()]
             self.error = self.child.stderr.read() if self.lines == [b""] else b""
@@ -71,9 +73,7 @@ class Server:
     def ask(self, request, ends=True):
         """What is answered to these bytes, after which the client ends, or does not."""
         with self.connect() as one:
-            one.sendall(request)
-            if ends:
-                one.shutdown(socket.SHUT_WR)
+            send(one, request, ends)
             return all_of(one)
 
     def line(self):
@@ -84,6 +84,22 @@ class Server:
         """The exit status, what was printed, and what on standard error."""
         printed, error = self.child.communicate(timeout=SECONDS)
         return self.child.returncode, b"".join(self.lines) + (printed or b""), self.error + error
+
+
+# what a client is told that is still sending, or says that it ends, when the server has answered and closed
+CLOSED_BEFORE = (errno.EPIPE, errno.ECONNRESET, errno.ENOTCONN)
+
+
+def send(one, request, ends):
+    """Sends these bytes, after which the client ends, or does not. The server may answer before it has read all of them, and close: its
+    answer can then be read all the same."""
+    try:
+        one.sendall(request)
+        if ends:
+            one.shutdown(socket.SHUT_WR)
+    except OSError as error:
+        if error.errno not in CLOSED_BEFORE:
+            raise
 
 
 def all_of(one):
