@@ -12,8 +12,8 @@ a body is refused where the check says so of its own function. One whose functio
 next check. What is not refused so, or only by a proof that names what the edit took away, is tried again alone, by `rt must-fail`,
 and that counts.
 
-What was refused is kept in crates/NAME/out/refused, under a sum of the edit and of all that it was tried on, comments left out, and is not
-tried again, and of what a library was proved in crates/NAME/out/proved: so a run goes on where the last one was stopped. A crate of
+What was refused is kept in crates/NAME/out/refused, under a sum of the edit and of what the verdict hangs on, comments left out, and is
+not tried again, and of what a library was proved in crates/NAME/out/proved: so a run goes on where the last one was stopped. A crate of
 which each edit was refused has its line in tests/refused.txt, with the number of its edits and a sum of theirs; of another
 crate each edit that was refused has one, with the beginning of its own sum. They are kept with the tree: while a sum is right,
 its edits are not tried again on any machine. `--anew` looks at none of this.
@@ -31,7 +31,7 @@ import time
 from concurrent.futures import FIRST_COMPLETED, ThreadPoolExecutor, wait
 from dataclasses import dataclass
 
-from tests.harness.crate_functions import edits, functions_of, pairs_of, sources
+from tests.harness.crate_functions import edits, functions_of, pairs_of, sources, without_bodies
 from tests.harness.tree import ROOT
 from tests.harness.tree_copies import PARTS, copied, crates, lanes, library_proved, linked, room_beside, run
 
@@ -67,6 +67,18 @@ def library(crate):
                 yield Wrong(crate, folder, name, text)
 
 
+def summed(crate, parts, seen, with_comments=False):
+    """The sum of a crate's files in these folders, of each what is seen of it."""
+    total, folder = hashlib.sha256(), os.path.join(ROOT, "crates", crate)
+    for path in sorted(os.path.join(at, name) for part in parts for at, _, names in os.walk(os.path.join(folder, part)) for name in names):
+        comment = b"--" if path.endswith(".antt") else b"//"
+        with open(path, encoding="utf-8") as file:
+            lines = seen(path, file.read()).encode().splitlines(keepends=True)
+        said = [line for line in lines if with_comments or not line.lstrip().startswith(comment)]
+        total.update(repr((os.path.relpath(path, folder), said)).encode())
+    return total.hexdigest()
+
+
 class Kept:
     """What earlier runs refused, by the sum of all that it was tried on."""
 
@@ -89,26 +101,34 @@ class Kept:
     @functools.cache
     def sum_of(self, crate, with_comments=False):
         """The sum of a crate's text, with lines of comments or without them, since no proof hangs on them."""
-        total, folder = hashlib.sha256(), os.path.join(ROOT, "crates", crate)
-        for path in sorted(
-            os.path.join(at, name) for part in PARTS for at, _, names in os.walk(os.path.join(folder, part)) for name in names
-        ):
-            with open(path, "rb") as file:
-                comment = b"--" if path.endswith(".antt") else b"//"
-                said = [line for line in file if with_comments or not line.lstrip().startswith(comment)]
-            total.update(repr((os.path.relpath(path, folder), said)).encode())
-        return total.hexdigest()
+        return summed(crate, PARTS, lambda _, text: text, with_comments)
+
+    @functools.cache
+    def promised(self, crate):
+        """The sum of what a crate promises to those above it: its definitions, and its functions without their bodies."""
+        return summed(crate, ("src", "specs"), lambda path, text: without_bodies(text) if path.endswith(".rt") else text)
 
     @functools.cache
     def toolchain(self):
         return run(["version"], ROOT)[1]
 
+    def logic(self):
+        """The logic in which the toolchain proves. Kits share it, and what one of them refuses is not proved in it."""
+        return self.toolchain()[0].partition(" ")[2]
+
     def texts(self, crate, with_comments=False):
         """What a crate is proved of: its text, and that of all below it."""
         return [(it, self.sum_of(it, with_comments)) for it in sorted(self.below[crate] | {crate})]
 
+    def tried_on(self, wrong):
+        """What the verdict on an edit hangs on: the crate that has to refuse it, and for a definition those between, whole; of all
+        others what they promise, since a proof sees no body of another crate."""
+        judge = wrong.refused_by or wrong.crate
+        whole = {judge, wrong.crate} | {it for it in self.below[judge] if wrong.crate in self.below[it]}
+        return [(it, self.sum_of(it) if it in whole else self.promised(it)) for it in sorted(self.below[judge] | {judge})]
+
     def key(self, wrong):
-        return hashlib.sha256(repr((wrong, self.texts(wrong.refused_by or wrong.crate), self.toolchain())).encode()).hexdigest()
+        return hashlib.sha256(repr((wrong, self.tried_on(wrong), self.logic())).encode()).hexdigest()
 
     def library(self, crate):
         """The file that says of what the crate's library was proved, and what it says where that is the crate as it stands."""

@@ -82,6 +82,25 @@ def functions_in(file, text):
     return [function_from(file, lines, first) for first in range(len(lines)) if HEADER.match(lines[first])]
 
 
+def without_bodies(text):
+    """A source file as callers see it: of each function what it promises, and not its body."""
+    lines, kept, after = text.split("\n"), [], 0
+    for function in functions_in("", text):
+        first, last = function.lines[0] - 1, function.lines[-1] - 1
+        if function.has_body and first >= after:
+            kept += lines[after : opening_of(lines, first, last) + 1]
+            after = last
+    return "\n".join(kept + lines[after:])
+
+
+def opening_of(lines, first, last):
+    """The line on which the body of a function opens: behind its clauses, or at the end of its header."""
+    header = next(at for at in range(first, last + 1) if HEADER.match(lines[at]))
+    indent = HEADER.match(lines[header])[1]
+    at_header = (at for at in range(header, last) if lines[at].endswith("{") and (at == header or lines[at].startswith(indent + ")")))
+    return next((at for at in range(header, last) if lines[at] == indent + "{"), None) or next(at_header, header)
+
+
 def function_at(file, text, place):
     """The function around a place of a source file, if there is one."""
     at = text.count("\n", 0, place) + 1

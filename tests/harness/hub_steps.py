@@ -17,6 +17,22 @@ def over(command, who, *more, key=None, moment=MOMENT, db=NAME):
     return words + (["--moment", moment] if moment else [])
 
 
+# each option for a key, and the one for its file
+KEY_FILES = {"--key": "--key-file", "--supplier-key": "--supplier-key-file"}
+
+
+def in_files(words):
+    """The same words with each key in a file, and the texts of these files."""
+    given, files = [], {}
+    for word in words:
+        if given and given[-1] in KEY_FILES:
+            name = f"{given[-1].strip('-')}.txt"
+            given[-1], files[name] = KEY_FILES[given[-1]], f"{word}\n"
+            word = name
+        given.append(word)
+    return given, files
+
+
 def init(of=REGISTER, db=NAME):
     """The words that found a hub."""
     return ["init", "--register", of, "--db", db]

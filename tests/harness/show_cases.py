@@ -1,23 +1,17 @@
 """How a case of `show` is written: an interchange, and the lines that say what it says."""
-import os
 import re
 from dataclasses import dataclass, field
 
 from tests.harness.case import Case
-from tests.harness.tree import ROOT
+from tests.harness.code_list import read_codes
 
 RETAILER, SUPPLIER, HUB = "5412345000013", "4012345500004", "5412345000006"
 USUAL_MARKS = "service component : element + decimal . release ? terminator '"
 HEAD = f"UNB+UNOC:3+{RETAILER}:14+{HUB}:14+250603:0915+1001'"
 
 
-def names():
-    """The names of faults in words, by their codes, as docs/FORMATS.md has them."""
-    with open(os.path.join(ROOT, "docs", "FORMATS.md"), encoding="utf-8") as formats:
-        return dict(re.findall(r"^- \*\*([EM]\d\d) ([^*]+)\*\*", formats.read(), re.MULTILINE))
-
-
-NAMES = names()
+# the names of faults in words, by their codes
+NAMES = {code: said["name"] for code, said in read_codes().items() if "name" in said}
 
 
 @dataclass

@@ -4,6 +4,7 @@ import shutil
 import subprocess
 import tempfile
 import threading
+from graphlib import TopologicalSorter
 
 from tests.harness.tree import ROOT
 
@@ -15,14 +16,16 @@ TAKEN_OVER = threading.Lock()
 
 
 def crates():
-    """The crates and all crates of the repository below each, lowest first."""
-    below = {}
+    """The crates and all crates of the repository below each, lowest first; crates.txt lists them by layers, in no such order."""
+    needs, below = {}, {}
     with open(os.path.join(ROOT, "crates.txt"), encoding="utf-8") as lines:
         for line in lines:
-            name, colon, needs = line.partition("#")[0].partition(":")
+            name, colon, of_crate = line.partition("#")[0].partition(":")
             if colon:
-                direct = [it for it in needs.split() if it in below]
-                below[name.split()[0]] = {it for crate in direct for it in below[crate] | {crate}}
+                needs[name.split()[0]] = of_crate.split()
+    direct = {crate: [it for it in of_crate if it in needs] for crate, of_crate in needs.items()}
+    for crate in TopologicalSorter(direct).static_order():
+        below[crate] = {it for one in direct[crate] for it in below[one] | {one}}
     return below
 
 

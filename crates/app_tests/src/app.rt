@@ -3,8 +3,8 @@ ghost use Rattle.edi_relay.specs.Relay.{AreRelayWords};
 
 use edi_envelope::Moment;
 use edi_relay::{RelayWords, relay_run, relay_text};
-use edi_tokens::{Sink, Source};
-use hub_commands::{TextFault, check_run, read_register_text, show_run};
+use edi_tokens::{ReadFault, Sink, Source};
+use hub_commands::{TextFault, check_run, key_in, read_key, read_register_text, show_run};
 use std::alloc::Global;
 use std::io;
 use std::test::Fail;
@@ -391,5 +391,70 @@ fn the_text_of_a_register_is_read(rt: HostRuntime) -> Result<(), Fail> {
         assert!(rt; is_read_as(rt.alloc(), left, *fails, *is_read)?, "{name}");
     }
     assert!(rt; is_limit_kept(rt.alloc())?, "the longest text");
+    Ok(())
+}
+
+fn key(alloc: Global, input: &mut Brittle<'_>) -> Result<Vec<u8>, ReadFault> {
+    read_key(alloc, input)
+}
+
+// Whether this key is read from an input, or none because a read fails.
+fn is_read_as_key(
+    alloc: Global,
+    left: &[u8],
+    fails: bool,
+    wanted: Option<&[u8]>,
+) -> Result<bool, Fail> {
+    match key(alloc, &mut Brittle { left, fails }) {
+        Ok(key) => Ok(Some(key.as_slice()) == wanted),
+        Err(ReadFault::Read) => Ok(wanted.is_none()),
+        Err(ReadFault::Memory) => Err(Fail::new("out of memory")),
+    }
+}
+
+// What a file gives, whether the read after it fails, and the key.
+static KEYS: [(&[u8], bool, Option<&[u8]>); 9] = [
+    (b"alpha-key-1", false, Some(b"alpha-key-1")),
+    (b"alpha-key-1\n", false, Some(b"alpha-key-1")),
+    (b"alpha-key-1\r\n", false, Some(b"alpha-key-1")),
+    (b"alpha-key-1\nbeta-key-1\n", false, Some(b"alpha-key-1")),
+    (b"alpha-key-1\r", false, Some(b"alpha-key-1\r")),
+    (b"alpha\rkey\r\r\n", false, Some(b"alpha\rkey\r")),
+    (b"\nalpha-key-1\n", false, Some(b"")),
+    (b"", false, Some(b"")),
+    (b"alpha-key-1\n", true, None),
+];
+
+#[test]
+fn the_key_in_a_file_is_read(rt: HostRuntime) -> Result<(), Fail> {
+    for (left, fails, wanted) in &KEYS {
+        assert!(rt; is_read_as_key(rt.alloc(), left, *fails, *wanted)?);
+    }
+    Ok(())
+}
+
+// Whether a line of so many bytes, and what ends it, is read as a key of so many bytes.
+fn is_length(alloc: Global, length: usize, end: &[u8], wanted: usize) -> Result<bool, Fail> {
+    let mut file = Vec::from_elem(alloc, b'k', length)?;
+    file.extend_from_slice(end)?;
+    let read = key(
+        alloc,
+        &mut Brittle {
+            left: file.as_slice(),
+            fails: false,
+        },
+    );
+    let Ok(read) = read else {
+        return Err(Fail::new("no key"));
+    };
+    Ok(read.len() == wanted && key_in(file.as_slice()).len() == wanted)
+}
+
+#[test]
+fn a_longer_line_is_no_key(rt: HostRuntime) -> Result<(), Fail> {
+    assert!(rt; is_length(rt.alloc(), 64, b"\r\nmore", 64)?);
+    assert!(rt; is_length(rt.alloc(), 65, b"\r\n", 65)?);
+    assert!(rt; is_length(rt.alloc(), 64, b"\rk\n", 65)?);
+    assert!(rt; is_length(rt.alloc(), 100_000, b"", 65)?);
     Ok(())
 }

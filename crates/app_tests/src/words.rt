@@ -1,4 +1,6 @@
-use hub_app::{HubTask, HubWords, Words, WordsFault, read_words};
+use hub_app::{
+    HubTask, HubWords, JoinByFile, KeyWord, Words, WordsFault, file_key_refused, read_words,
+};
 use hub_parties::SupplierRow;
 use std::alloc::{AllocError, Global};
 use std::test::Fail;
@@ -10,7 +12,7 @@ struct Row {
     told: &'static str,
 }
 
-static ROWS: [Row; 27] = [
+static ROWS: [Row; 35] = [
     Row {
         words: "edihub check --register r.toml",
         told: "check r.toml",
@@ -65,6 +67,42 @@ static ROWS: [Row; 27] = [
         words: "edihub join --db h --as 5412345000013 --key retail-key --supplier 7612345000008 --supplier-key \
             gamma-key-1 --prefixes 76123456,7612345,40123455 --moment 0",
         told: "h 5412345000013 retail-key then join of 7612345000008 40123455 7612345 76123456",
+    },
+    Row {
+        words: "edihub status --db h --as 4012345500004 --key-file alpha.key",
+        told: "h 4012345500004 file alpha.key now status",
+    },
+    Row {
+        words: "edihub join --db h --as 5412345000013 --key-file r --supplier 7612345000008 --supplier-key-file g \
+            --prefixes 7612346,7612345",
+        told: "h 5412345000013 file r now join of 7612345000008 file g 7612346 7612345",
+    },
+    Row {
+        words: "edihub join --db h --as 5412345000013 --key-file r --supplier 7612345000008 --supplier-key gamma-key-1 \
+            --prefixes 7612345",
+        told: "h 5412345000013 file r now join of 7612345000008 7612345",
+    },
+    Row {
+        words: "edihub status --db h --as 4012345500004 --key-file alpha.key --key alpha-key-1",
+        told: "status 2",
+    },
+    Row {
+        words: "edihub status --db h --as 4012345500004",
+        told: "status 2",
+    },
+    Row {
+        words: "edihub join --db h --as 5412345000013 --key-file r --supplier 7612345000008 --supplier-key-file g \
+            --supplier-key gamma-key-1 --prefixes 7612345",
+        told: "status 2",
+    },
+    Row {
+        words: "edihub join --db h --as 5412345000013 --key-file r --supplier 7612345000008 --prefixes 7612345",
+        told: "status 2",
+    },
+    Row {
+        words: "edihub join --db h --as 5412345000013 --key-file r --supplier 7612345000008 --supplier-key-file g \
+            --prefixes 7612345,7612345",
+        told: "status 2",
     },
     Row {
         words: "edihub serve --db h --port 8080 --count 1000000",
@@ -138,6 +176,16 @@ fn join_told(alloc: Global, row: &SupplierRow) -> Result<String, AllocError> {
     Ok(told)
 }
 
+// A supplier that is to be registered, with the key in a file.
+fn join_by_file_told(alloc: Global, join: &JoinByFile<'_>) -> Result<String, AllocError> {
+    let mut told = format!(in alloc; "join of {} file {}", join.supplier, join.key_file)?;
+    for prefix in join.prefixes.as_slice() {
+        let more = format!(in alloc; " {prefix}")?;
+        told.push_str(more.as_str())?;
+    }
+    Ok(told)
+}
+
 // What is asked of a hub.
 fn task_told(alloc: Global, task: &HubTask<'_>) -> Result<String, AllocError> {
     match task {
@@ -152,6 +200,14 @@ fn task_told(alloc: Global, task: &HubTask<'_>) -> Result<String, AllocError> {
             cancel.supplier, cancel.line, cancel.quantity
         ),
         HubTask::Join(join) => join_told(alloc, join.row()),
+        HubTask::JoinByFile(join) => join_by_file_told(alloc, join),
+    }
+}
+
+fn key_told<'a>(alloc: Global, key: KeyWord<'a>) -> Result<String, AllocError> {
+    match key {
+        KeyWord::Given(key) => String::from_str(alloc, key),
+        KeyWord::InFile(path) => format!(in alloc; "file {path}"),
     }
 }
 
@@ -162,8 +218,9 @@ fn hub_words_told(alloc: Global, words: &HubWords<'_>) -> Result<String, AllocEr
     } else {
         "then"
     };
+    let key = key_told(alloc, words.key)?;
     let task = task_told(alloc, &words.task)?;
-    format!(in alloc; "{} {} {} {when} {task}", words.db, words.caller, words.key)
+    format!(in alloc; "{} {} {key} {when} {task}", words.db, words.caller)
 }
 
 fn words_told(alloc: Global, words: &Words<'_>) -> Result<String, AllocError> {
@@ -213,8 +270,49 @@ fn a_key_is_not_shown(rt: HostRuntime) -> Result<(), Fail> {
     let import = debug_of(rt.alloc(), ROWS[4].words)?;
     assert!(rt; import.contains("key: Key(..)"));
     assert!(rt; !import.contains("alpha-key-1"));
+    let status = debug_of(rt.alloc(), ROWS[13].words)?;
+    assert!(rt; status.contains("key: File(\"alpha.key\")"));
     let join = debug_of(rt.alloc(), ROWS[11].words)?;
     assert!(rt; join.contains("key: Key(..)"));
     assert!(rt; !join.contains("retail-key") && !join.contains("gamma-key-1"));
+    Ok(())
+}
+
+// The join that words and the key in their file make, or nothing.
+fn joined(alloc: Global, key: &[u8]) -> Result<Option<String>, AllocError> {
+    let words = ROWS[14].words.split(' ').collect::<Vec<&str>>(alloc)?;
+    let Ok(Words::Hub(words)) = read_words(alloc, words.as_slice()) else {
+        return Ok(None);
+    };
+    let HubTask::JoinByFile(join) = words.task else {
+        return Ok(None);
+    };
+    match join.with_key(alloc, key)? {
+        Some(join) => Ok(Some(join_told(alloc, join.row())?)),
+        None => Ok(None),
+    }
+}
+
+#[test]
+fn a_join_has_the_key_of_its_file(rt: HostRuntime) -> Result<(), Fail> {
+    let joins = joined(rt.alloc(), b"gamma-key-1")?;
+    assert!(rt; joins.is_some_and(|told| told.as_str() == "join of 7612345000008 7612345 7612346"));
+    assert!(rt; joined(rt.alloc(), b"gamma-k")?.is_none());
+    assert!(rt; joined(rt.alloc(), b"gamma key 1")?.is_none());
+    Ok(())
+}
+
+// Whether a fault of the words is a usage error.
+fn is_usage_error(fault: &WordsFault) -> bool {
+    match fault {
+        WordsFault::Told(error) => error.exit_code() == 2,
+        WordsFault::Memory => false,
+    }
+}
+
+#[test]
+fn a_file_without_a_key_is_a_usage_error(rt: HostRuntime) -> Result<(), Fail> {
+    let fault = file_key_refused(rt.alloc(), &["edihub"]);
+    assert!(rt; is_usage_error(&fault));
     Ok(())
 }

@@ -1,3 +1,5 @@
+pub use Rattle.edi_segments.specs as EdiSegments
+pub use Rattle.edi_tokens.specs as EdiTokens
 pub mod Segments
 pub mod Limits
 pub mod Header

@@ -16,6 +16,7 @@ mod tally;
 
 pub use check::{EnvelopeCheck, Place};
 pub use edi_moment::{Moment, date_digits, time_digits};
+pub use edi_tokens::Segment;
 pub use fault::{EnvelopeFault, OpenFault};
 pub use interchange::{Head, Interchange, RawMessage};
 pub use law::lowest_condition;

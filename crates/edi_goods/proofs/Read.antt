@@ -4,8 +4,8 @@ use Rattle.std.specs.List.{list_all}
 use Rattle.std.proofs.lemmas.Bool.{not-true, not-false, and_parts, and_from}
 use Rattle.std.proofs.lemmas.Simd.{map-map}
 use Rattle.edi_base.specs.Seen.{has_twice}
-use Rattle.edi_segments.specs.declared.segment.Segment.{Segment}
-use Rattle.edi_envelope.specs.declared.interchange.RawMessage.{RawMessage}
+use Rattle.edi_messages.specs.EdiSegments.declared.segment.Segment.{Segment}
+use Rattle.edi_messages.specs.EdiEnvelope.declared.interchange.RawMessage.{RawMessage}
 use Rattle.edi_messages.specs.Fault.{faults, faults_from, unless}
 use Rattle.edi_messages.specs.Parts.{line_groups}
 use Rattle.edi_messages.specs.declared.fault.MessageFault.{MessageFault}

@@ -1,6 +1,6 @@
 -- The parties of a despatch advice or a receiving advice, whose header may leave out the buyer.
 use Rattle.std.specs.Prelude.{ℕ, Bool, ◌&&◌, List, is_some, codes, Option}
-use Rattle.edi_segments.specs.declared.segment.Segment.{Segment}
+use Rattle.edi_messages.specs.EdiSegments.declared.segment.Segment.{Segment}
 use Rattle.edi_messages.specs.Header.{named_by, party}
 use Rattle.edi_messages.specs.Parts.{header, none_or_one, is_read}
 

@@ -1,6 +1,6 @@
 -- What a line of a despatch advice names, beside its group.
 use Rattle.std.specs.Prelude.{◌≡◌, ℕ, List, Option, Some}
-use Rattle.edi_segments.specs.declared.segment.Segment.{Segment}
+use Rattle.edi_messages.specs.EdiSegments.declared.segment.Segment.{Segment}
 use Rattle.edi_messages.specs.References.{group_order, group_line}
 use Rattle.edi_goods.specs.Despatch.{despatched}
 

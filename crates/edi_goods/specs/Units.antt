@@ -6,9 +6,9 @@ use Rattle.std.specs.List.{list_all, list_any}
 use Rattle.std.specs.Option.{unwrap_or}
 use Rattle.edi_base.specs.Seen.{has_twice}
 use Rattle.gs1_ids.specs.Sscc.{sscc_of}
-use Rattle.edi_segments.specs.declared.segment.Segment.{Segment}
-use Rattle.edi_segments.specs.Segment.{element_at}
-use Rattle.edi_envelope.specs.Segments.{component, first_segment, is_unt}
+use Rattle.edi_messages.specs.EdiSegments.declared.segment.Segment.{Segment}
+use Rattle.edi_messages.specs.EdiSegments.Segment.{element_at}
+use Rattle.edi_messages.specs.EdiEnvelope.Segments.{component, first_segment, is_unt}
 use Rattle.edi_messages.specs.Lines.{is_line}
 use Rattle.edi_messages.specs.Parts.{is_lin, is_cps, before_first, up_to_next, parts_of, line_groups, only_qualified}
 

@@ -6,11 +6,10 @@ ghost use Rattle.edi_goods.specs.Despatch as spec;
 
 use crate::despatch::DespatchLine;
 use crate::units::ItemUnit;
-use edi_base::copied;
-use edi_messages::MessageFault;
+use edi_base::{Items, copied};
 use edi_messages::lines::{LineItem, quantity_of};
 use edi_messages::references::{NamedOrder, has_reference, read_reference, reference};
-use edi_tokens::{Items, Segment};
+use edi_messages::{MessageFault, Segment};
 use std::alloc::Global;
 use std::marker::Model;
 
@@ -23,7 +22,7 @@ pub(crate) struct DespatchItem<'a, 'b> {
 
 impl<'a, 'b> Model for DespatchItem<'a, 'b> {
     ghost use Rattle.std.specs.Prelude.{◌≡◌, List, Some};
-    ghost use Rattle.edi_segments.specs.declared.segment.Segment.{Segment};
+    ghost use Rattle.edi_messages.specs.EdiSegments.declared.segment.Segment.{Segment};
     ghost use Rattle.edi_goods.specs.Despatch.{despatched};
 
     ghost Value = { List Segment };
@@ -42,7 +41,7 @@ pub(crate) struct DespatchUnit<'a, 'b> {
 
 impl<'a, 'b> Model for DespatchUnit<'a, 'b> {
     ghost use Rattle.std.specs.Prelude.{◌≡◌, List};
-    ghost use Rattle.edi_segments.specs.declared.segment.Segment.{Segment};
+    ghost use Rattle.edi_messages.specs.EdiSegments.declared.segment.Segment.{Segment};
     ghost use Rattle.edi_messages.specs.Parts.{line_groups};
 
     ghost Value = { List Segment };
@@ -100,7 +99,7 @@ pub(crate) struct ReferredItem<'a, 'b> {
 
 impl<'a, 'b> Model for ReferredItem<'a, 'b> {
     ghost use Rattle.std.specs.Prelude.{List, option_map};
-    ghost use Rattle.edi_segments.specs.declared.segment.Segment.{Segment};
+    ghost use Rattle.edi_messages.specs.EdiSegments.declared.segment.Segment.{Segment};
     ghost use Rattle.edi_goods.specs.Referred.{IsReferredItem};
 
     ghost Value = { List Segment };
@@ -120,7 +119,7 @@ pub(crate) struct ReferredUnit<'a, 'b> {
 
 impl<'a, 'b> Model for ReferredUnit<'a, 'b> {
     ghost use Rattle.std.specs.Prelude.{◌≡◌, List};
-    ghost use Rattle.edi_segments.specs.declared.segment.Segment.{Segment};
+    ghost use Rattle.edi_messages.specs.EdiSegments.declared.segment.Segment.{Segment};
     ghost use Rattle.edi_messages.specs.Parts.{line_groups};
 
     ghost Value = { List Segment };

@@ -10,14 +10,12 @@ ghost use Rattle.edi_goods.specs.Units.{has_units, read_units, sscc_or_none};
 use crate::announced::{DespatchUnit, ReferredUnit, despatch_units, lines_in_unit, referred_units};
 use crate::parties::{Parties, read_parties};
 use crate::units::{ItemUnit, item_units, ssccs};
-use edi_base::copied;
-use edi_envelope::RawMessage;
-use edi_messages::MessageFault;
+use edi_base::{Items, copied};
 use edi_messages::header::{begins_as, document_number, function, has_date, is_type};
 use edi_messages::parts::header;
 use edi_messages::references::{has_reference, order};
 use edi_messages::summary::{is_controlled, line_count};
-use edi_tokens::{Items, Segment};
+use edi_messages::{MessageFault, RawMessage, Segment};
 use gs1_ids::{Gln, Gtin, Sscc};
 use std::alloc::Global;
 

@@ -3,10 +3,9 @@ ghost use Rattle.std.specs.Prelude.{◌≡◌, true, false, Some, IfOk, IfErr, c
 ghost use Rattle.edi_messages.specs.Header.{party};
 ghost use Rattle.edi_goods.specs.Parties as spec;
 
-use edi_messages::MessageFault;
 use edi_messages::header::party;
 use edi_messages::parts::{has_qualified, header};
-use edi_tokens::Segment;
+use edi_messages::{MessageFault, Segment};
 use gs1_ids::Gln;
 
 /// The buyer (NAD BY) and the supplier (NAD SU) that the header names.

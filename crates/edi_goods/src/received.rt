@@ -8,10 +8,9 @@ use crate::kind::Kind;
 use crate::receipt::ReceiptLine;
 use crate::sums::{Amount, sums_within};
 use crate::units::ItemUnit;
-use edi_messages::MessageFault;
 use edi_messages::lines::{LineItem, quantity_of};
 use edi_messages::parts::has_qualified;
-use edi_tokens::Segment;
+use edi_messages::{MessageFault, Segment};
 use std::alloc::Global;
 use std::marker::Model;
 
@@ -24,7 +23,7 @@ pub(crate) struct ReceivedUnit<'a, 'b> {
 
 impl<'a, 'b> Model for ReceivedUnit<'a, 'b> {
     ghost use Rattle.std.specs.Prelude.{◌≡◌, List};
-    ghost use Rattle.edi_segments.specs.declared.segment.Segment.{Segment};
+    ghost use Rattle.edi_messages.specs.EdiSegments.declared.segment.Segment.{Segment};
     ghost use Rattle.edi_goods.specs.Receipt.{lines_in_unit};
 
     ghost Value = { List Segment };

@@ -6,10 +6,9 @@ ghost use Rattle.edi_messages.specs.Parts.{is_lin, is_cps, line_groups};
 ghost use Rattle.edi_goods.specs.Units as spec;
 
 use edi_base::Seen;
-use edi_messages::MessageFault;
 use edi_messages::lines::{LineItem, line_items};
 use edi_messages::parts::{has_lin, is_cps, is_lin, only_qualified};
-use edi_tokens::Segment;
+use edi_messages::{MessageFault, Segment};
 use gs1_ids::Sscc;
 use std::alloc::Global;
 use std::marker::Model;
@@ -23,7 +22,7 @@ pub(crate) struct ItemUnit<'a> {
 
 impl<'a> Model for ItemUnit<'a> {
     ghost use Rattle.std.specs.Prelude.{◌≡◌, List};
-    ghost use Rattle.edi_segments.specs.declared.segment.Segment.{Segment};
+    ghost use Rattle.edi_messages.specs.EdiSegments.declared.segment.Segment.{Segment};
     ghost use Rattle.edi_messages.specs.Parts.{line_groups};
 
     ghost Value = { List Segment };

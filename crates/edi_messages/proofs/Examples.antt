@@ -1,7 +1,7 @@
 -- Segments of small messages, and the definitions at some values.
 use Rattle.std.proofs.Common.{◌≡◌, ℕ, List, [], ◌∷◌, Some, None, codes, refl}
 use Rattle.std.specs.Prelude.{true, false}
-use Rattle.edi_segments.specs.declared.segment.Segment.{Segment}
+use Rattle.edi_envelope.specs.EdiSegments.declared.segment.Segment.{Segment}
 use Rattle.edi_messages.specs.Header.{supplier_of}
 use Rattle.edi_messages.specs.Values.{is_date, quantity}
 

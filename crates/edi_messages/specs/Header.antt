@@ -3,7 +3,7 @@ use Rattle.std.specs.Prelude.{ℕ, ◌==◌, Bool, false, ◌&&◌, if◌then◌
 use Rattle.std.specs.Prelude.{Option, Some, None, option_and_then}
 use Rattle.std.specs.Str.{bytes_eq}
 use Rattle.gs1_ids.specs.Gln.{is_gln}
-use Rattle.edi_segments.specs.declared.segment.Segment.{Segment}
+use Rattle.edi_envelope.specs.EdiSegments.declared.segment.Segment.{Segment}
 use Rattle.edi_envelope.specs.Segments.{has_tag, component, no_segment}
 use Rattle.edi_envelope.specs.declared.interchange.RawMessage.{RawMessage}
 use Rattle.edi_messages.specs.Parts.{header, only_qualified}

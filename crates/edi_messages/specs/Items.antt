@@ -1,6 +1,6 @@
 -- What the LIN of a line group says, beside the group.
 use Rattle.std.specs.Prelude.{◌≡◌, ℕ, List, Some}
-use Rattle.edi_segments.specs.declared.segment.Segment.{Segment}
+use Rattle.edi_envelope.specs.EdiSegments.declared.segment.Segment.{Segment}
 use Rattle.edi_messages.specs.Lines as lines
 
 -- the number and the article are those of the group

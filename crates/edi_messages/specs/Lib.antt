@@ -1,3 +1,5 @@
+pub use Rattle.edi_envelope.specs as EdiEnvelope
+pub use Rattle.edi_envelope.specs.EdiSegments
 pub mod Fault
 pub mod Header
 pub mod Items

@@ -4,8 +4,8 @@ use Rattle.std.specs.Prelude.{Option, Some, None, option_and_then}
 use Rattle.std.specs.Option.{unwrap_or}
 use Rattle.std.specs.Str.{bytes_eq}
 use Rattle.gs1_ids.specs.Gtin.{gtin_of}
-use Rattle.edi_segments.specs.declared.segment.Segment.{Segment}
-use Rattle.edi_segments.specs.Segment.{element_at}
+use Rattle.edi_envelope.specs.EdiSegments.declared.segment.Segment.{Segment}
+use Rattle.edi_envelope.specs.EdiSegments.Segment.{element_at}
 use Rattle.edi_envelope.specs.Segments.{component, first_segment}
 use Rattle.edi_messages.specs.Parts.{only_qualified}
 use Rattle.edi_messages.specs.Values.{line_number, quantity}

@@ -4,7 +4,7 @@ use Rattle.std.specs.Prelude.{ℕ, Bool, not, ◌||◌, ◌&&◌, if◌then◌el
 use Rattle.std.specs.Prelude.{Option, Some, None, option_and_then}
 use Rattle.std.specs.List.{list_any, take_while}
 use Rattle.std.specs.Str.{bytes_eq}
-use Rattle.edi_segments.specs.declared.segment.Segment.{Segment}
+use Rattle.edi_envelope.specs.EdiSegments.declared.segment.Segment.{Segment}
 use Rattle.edi_envelope.specs.Segments.{has_tag, is_unt, component}
 
 -- line item, and packing group

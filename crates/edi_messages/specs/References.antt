@@ -1,7 +1,7 @@
 -- References to an order and its lines: RFF with 1153 ON.
 use Rattle.std.specs.Prelude.{ℕ, ◌==◌, Bool, ◌&&◌, ◌||◌, if◌then◌else◌, List, length, is_some, codes, Option, Some}
 use Rattle.std.specs.Prelude.{None, option_and_then}
-use Rattle.edi_segments.specs.declared.segment.Segment.{Segment}
+use Rattle.edi_envelope.specs.EdiSegments.declared.segment.Segment.{Segment}
 use Rattle.edi_envelope.specs.Segments.{component}
 use Rattle.edi_messages.specs.Parts.{header, has_qualified, only_qualified, none_or_one}
 use Rattle.edi_messages.specs.Values.{is_document_number, line_number}

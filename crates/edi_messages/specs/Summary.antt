@@ -4,7 +4,7 @@ use Rattle.std.specs.Prelude.{Some, None}
 use Rattle.std.specs.List.{list_any}
 use Rattle.std.specs.Str.{bytes_eq}
 use Rattle.edi_base.specs.Limits.{is_count_of}
-use Rattle.edi_segments.specs.declared.segment.Segment.{Segment}
+use Rattle.edi_envelope.specs.EdiSegments.declared.segment.Segment.{Segment}
 use Rattle.edi_envelope.specs.Segments.{component}
 use Rattle.edi_messages.specs.Parts.{is_lin, is_uns, only, none_or_one}
 

@@ -5,8 +5,7 @@ ghost use Rattle.edi_messages.specs.Header as spec;
 
 use crate::parts::{header, only_qualified};
 use crate::values::{is_date, is_document_number};
-use edi_envelope::RawMessage;
-use edi_tokens::Segment;
+use edi_envelope::{RawMessage, Segment};
 use gs1_ids::Gln;
 
 /// Whether a message is of this type, of the directory D.01B of UN.

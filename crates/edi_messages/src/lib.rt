@@ -10,5 +10,6 @@ pub mod references;
 pub mod summary;
 mod values;
 
+pub use edi_envelope::{RawMessage, Segment};
 pub use fault::MessageFault;
 pub use header::supplier_of;

@@ -10,7 +10,7 @@ use crate::fault::MessageFault;
 use crate::parts::{group_of, is_lin, only_qualified};
 use crate::values::{line_number, quantity};
 use edi_base::number_twice;
-use edi_tokens::Segment;
+use edi_envelope::Segment;
 use gs1_ids::Gtin;
 use std::alloc::Global;
 use std::marker::Model;
@@ -25,7 +25,7 @@ pub struct LineItem<'a> {
 
 impl<'a> Model for LineItem<'a> {
     ghost use Rattle.std.specs.Prelude.{List};
-    ghost use Rattle.edi_segments.specs.declared.segment.Segment.{Segment};
+    ghost use Rattle.edi_envelope.specs.EdiSegments.declared.segment.Segment.{Segment};
     ghost use Rattle.edi_messages.specs.Items.{IsLineItem};
 
     ghost Value = { List Segment };

@@ -3,7 +3,7 @@ ghost use Rattle.std.specs.Prelude.{◌≡◌, ◌≤◌, length, not, option_ma
 ghost use Rattle.std.specs.List.{list_any, prefix_len};
 ghost use Rattle.edi_messages.specs.Parts as spec;
 
-use edi_tokens::Segment;
+use edi_envelope::Segment;
 
 /// Whether a segment is a line item.
 pub fn is_lin(segment: &Segment) -> bool

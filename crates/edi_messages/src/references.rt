@@ -5,7 +5,7 @@ ghost use Rattle.edi_messages.specs.References as spec;
 
 use crate::parts::{has_qualified, header, only_qualified};
 use crate::values::{is_document_number, line_number};
-use edi_tokens::Segment;
+use edi_envelope::Segment;
 
 /// Whether a part has a reference to an order.
 pub fn has_reference(part: &[Segment]) -> bool

@@ -5,7 +5,7 @@ ghost use Rattle.edi_messages.specs.Summary as spec;
 
 use crate::parts::{has_lin, has_qualified, is_lin, is_uns, only_qualified};
 use edi_base::is_count_of;
-use edi_tokens::Segment;
+use edi_envelope::Segment;
 
 // The section control, where there is just one.
 fn only_section(message: &[Segment]) -> Option<&Segment>

@@ -4,8 +4,8 @@ use Rattle.std.specs.List.{list_all}
 use Rattle.std.specs.Option.{unwrap_or}
 use Rattle.std.specs.Str.{bytes_eq}
 use Rattle.edi_base.specs.Seen.{has_number_twice}
-use Rattle.edi_segments.specs.declared.segment.Segment.{Segment}
-use Rattle.edi_envelope.specs.declared.interchange.RawMessage.{RawMessage}
+use Rattle.edi_messages.specs.EdiSegments.declared.segment.Segment.{Segment}
+use Rattle.edi_messages.specs.EdiEnvelope.declared.interchange.RawMessage.{RawMessage}
 use Rattle.edi_messages.specs.Parts.{line_groups}
 use Rattle.edi_messages.specs.Header.{is_type, begins_as, document_number, function, has_date, party}
 use Rattle.edi_messages.specs.Lines.{number_or_zero, gtin, is_line, quantity_of}

@@ -4,9 +4,9 @@ use Rattle.std.specs.Prelude.{is_some, codes, Option, Some, None, option_map, Re
 use Rattle.std.specs.List.{list_all}
 use Rattle.std.specs.Option.{unwrap_or}
 use Rattle.std.specs.Str.{bytes_eq}
-use Rattle.edi_segments.specs.declared.segment.Segment.{Segment}
-use Rattle.edi_envelope.specs.Segments.{component}
-use Rattle.edi_envelope.specs.declared.interchange.RawMessage.{RawMessage}
+use Rattle.edi_messages.specs.EdiSegments.declared.segment.Segment.{Segment}
+use Rattle.edi_messages.specs.EdiEnvelope.Segments.{component}
+use Rattle.edi_messages.specs.EdiEnvelope.declared.interchange.RawMessage.{RawMessage}
 use Rattle.edi_messages.specs.Parts.{line_groups, has_qualified}
 use Rattle.edi_messages.specs.Header.{is_type, begins_as, document_number, function, has_date, party}
 use Rattle.edi_messages.specs.Lines.{line, gtin, is_line, quantity_of}

@@ -6,11 +6,11 @@ ghost use Rattle.edi_orders.specs.Response as spec;
 
 use crate::action::{Action, action_of};
 use crate::response::{AnswerLine, LineAnswer};
-use edi_messages::MessageFault;
+use edi_base::Items;
 use edi_messages::lines::{LineItem, quantity_of};
 use edi_messages::parts::has_qualified;
 use edi_messages::references::{has_reference, read_reference, reference};
-use edi_tokens::{Items, Segment};
+use edi_messages::{MessageFault, Segment};
 use std::alloc::Global;
 use std::marker::Model;
 
@@ -23,7 +23,7 @@ pub(crate) struct ActionItem<'a, 'b> {
 
 impl<'a, 'b> Model for ActionItem<'a, 'b> {
     ghost use Rattle.std.specs.Prelude.{◌≡◌, List, Some};
-    ghost use Rattle.edi_segments.specs.declared.segment.Segment.{Segment};
+    ghost use Rattle.edi_messages.specs.EdiSegments.declared.segment.Segment.{Segment};
     ghost use Rattle.edi_orders.specs.Response as said;
 
     ghost Value = { List Segment };
@@ -42,7 +42,7 @@ pub(crate) struct AnsweredItem<'a, 'b> {
 
 impl<'a, 'b> Model for AnsweredItem<'a, 'b> {
     ghost use Rattle.std.specs.Prelude.{◌≡◌, List, Some};
-    ghost use Rattle.edi_segments.specs.declared.segment.Segment.{Segment};
+    ghost use Rattle.edi_messages.specs.EdiSegments.declared.segment.Segment.{Segment};
     ghost use Rattle.edi_orders.specs.Response as said;
 
     ghost Value = { List Segment };

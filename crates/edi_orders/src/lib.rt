@@ -7,6 +7,6 @@ mod extent;
 mod order;
 mod response;
 
-pub use edi_messages::{MessageFault, supplier_of};
+pub use edi_messages::{MessageFault, RawMessage, supplier_of};
 pub use order::{Order, OrderLine};
 pub use response::{Answer, AnswerLine, LineAnswer, Response};

@@ -8,13 +8,11 @@ ghost use Rattle.edi_messages.specs.Lines.{number_or_zero};
 ghost use Rattle.edi_messages.specs.Parts.{line_groups};
 ghost use Rattle.edi_orders.specs.Order as spec;
 
-use edi_base::copied;
-use edi_envelope::RawMessage;
-use edi_messages::MessageFault;
+use edi_base::{Items, copied};
 use edi_messages::header::{begins_as, document_number, function, has_date, is_type, party};
 use edi_messages::lines::{LineItem, has_number_twice, line_items, quantity_of};
 use edi_messages::summary::{has_summary, is_controlled, line_count};
-use edi_tokens::Items;
+use edi_messages::{MessageFault, RawMessage};
 use gs1_ids::{Gln, Gtin};
 use std::alloc::Global;
 

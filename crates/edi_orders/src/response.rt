@@ -9,14 +9,12 @@ ghost use Rattle.edi_orders.specs.Response as spec;
 
 use crate::answers::{action_items, answer_lines, answered_items};
 use crate::extent::{Extent, extent_of};
-use edi_base::copied;
-use edi_envelope::RawMessage;
-use edi_messages::MessageFault;
+use edi_base::{Items, copied};
 use edi_messages::header::{begins_as, document_number, function, has_date, is_type, party};
 use edi_messages::lines::{LineItem, line_items};
 use edi_messages::references::order;
 use edi_messages::summary::{has_summary, is_controlled, line_count};
-use edi_tokens::{Items, Segment};
+use edi_messages::{MessageFault, RawMessage, Segment};
 use gs1_ids::{Gln, Gtin};
 use std::alloc::Global;
 

@@ -1,45 +1,31 @@
-//! What a message says.
-ghost use Rattle.std.specs.Prelude.{◌≡◌, ◌+◌, IfOk};
-ghost use Rattle.edi_orders.specs.Order.{order_of};
-ghost use Rattle.edi_orders.specs.Response.{response_of};
-ghost use Rattle.edi_goods.specs.Despatch.{despatch_of};
-ghost use Rattle.edi_goods.specs.Receipt.{receipt_of};
-ghost use Rattle.edi_show.specs.declared.content.Content.TheVariants as contents;
+//! Reads each message of an interchange, or finds what it is refused for and where.
+ghost use Rattle.std.specs.Prelude.{◌≡◌, ◌+◌, Some, IfOk};
 ghost use Rattle.edi_show.specs.Content as spec;
-ghost use Rattle.edi_places.specs.Goods as goods;
-ghost use Rattle.edi_places.specs.Orders as orders;
 
 use edi_base::copied;
+use edi_documents::{Document, DocumentType};
 use edi_envelope::RawMessage;
-use edi_goods::{Despatch, Receipt};
 use edi_messages::MessageFault;
-use edi_orders::{Order, Response};
 use edi_places::{despatch_place, order_place, receipt_place, response_place};
-use edi_tokens::{Items, MemoryFault};
+use edi_tokens::{Items, MemoryFault, Segment};
 use std::alloc::{AllocError, Global};
 
-/// What a message says: the record of its type, or the fault that it is refused for.
+/// What a message says: the document that it is, or the fault that it is refused for.
 #[derive(Debug, Drop)]
 pub enum Content {
-    /// ORDERS.
-    Order(Order),
-    /// ORDRSP.
-    Response(Response),
-    /// DESADV.
-    Despatch(Despatch),
-    /// RECADV.
-    Receipt(Receipt),
-    /// The message is none of these, or has a fault; and the number in the interchange of the segment that shows it, UNB
-    /// counted as 1, or of UNH where no one segment does.
+    /// It was read.
+    Read(Document),
+    /// The message is none that the hub reads, or has a fault; and the number in the interchange of the segment that shows
+    /// it, UNB counted as 1, or of UNH where no one segment does.
     Refused(MessageFault, usize),
 }
 
 /// A message of an interchange, with what it says.
 #[derive(Debug, Drop)]
 pub struct ShownMessage {
-    /// The message reference number as it stands in UNH, 1 to 14 bytes.
+    /// The message reference number in UNH, 1 to 14 bytes.
     pub reference: Items<u8>,
-    /// The message type as it stands in UNH, 1 to 6 bytes.
+    /// The message type in UNH, 1 to 6 bytes.
     pub kind: Items<u8>,
     /// What the message says.
     pub content: Content,
@@ -52,93 +38,49 @@ fn sum(one: usize, other: usize) -> Result<usize, MemoryFault>
     one.checked_add(other).ok_or(AllocError)
 }
 
-// What an order says, behind so many segments.
-fn order_content(alloc: Global, before: usize, message: &RawMessage) -> Result<Content, MemoryFault>
-    ensures { IfOk result (λ content. content ≡ spec.content_from contents.Order
-        (λ fault. before + orders.order_place fault message.now.segments) (order_of message.now)) }
+// Returns the segment of a message of a type that shows a fault, counted from UNH as 1.
+fn fault_place(
+    alloc: Global,
+    kind: DocumentType,
+    fault: MessageFault,
+    segments: &[Segment],
+) -> Result<usize, MemoryFault>
+    ensures { IfOk result (λ place. place ≡ spec.place_as kind fault segments.now) }
 {
-    match Order::read(alloc, message) {
-        Ok(order) => Ok(Content::Order(order)),
-        Err(MessageFault::Memory) => Err(AllocError),
-        Err(fault) => {
-            let place = order_place(alloc, fault, message.segments.as_slice())?;
-            Ok(Content::Refused(fault, sum(before, place)?))
-        }
+    match kind {
+        DocumentType::Order => order_place(alloc, fault, segments),
+        DocumentType::Response => Ok(response_place(fault, segments)),
+        DocumentType::Despatch => despatch_place(alloc, fault, segments),
+        DocumentType::Receipt => receipt_place(alloc, fault, segments),
     }
 }
 
-// What a response says, behind so many segments.
-fn response_content(
+// Reads a message of a type, behind so many segments.
+fn content_as(
     alloc: Global,
+    kind: DocumentType,
     before: usize,
     message: &RawMessage,
 ) -> Result<Content, MemoryFault>
-    ensures { IfOk result (λ content. content ≡ spec.content_from contents.Response
-        (λ fault. before + orders.response_place fault message.now.segments) (response_of message.now)) }
+    ensures { IfOk result (λ content. content ≡ spec.content_by (Some kind) before message.now) }
 {
-    match Response::read(alloc, message) {
-        Ok(response) => Ok(Content::Response(response)),
+    match Document::read_as(alloc, kind, message) {
+        Ok(document) => Ok(Content::Read(document)),
         Err(MessageFault::Memory) => Err(AllocError),
         Err(fault) => {
-            let place = response_place(fault, message.segments.as_slice());
+            let place = fault_place(alloc, kind, fault, message.segments.as_slice())?;
             Ok(Content::Refused(fault, sum(before, place)?))
         }
     }
 }
 
-// What a despatch advice says, behind so many segments.
-fn despatch_content(
-    alloc: Global,
-    before: usize,
-    message: &RawMessage,
-) -> Result<Content, MemoryFault>
-    ensures { IfOk result (λ content. content ≡ spec.content_from contents.Despatch
-        (λ fault. before + goods.despatch_place fault message.now.segments) (despatch_of message.now)) }
-{
-    match Despatch::read(alloc, message) {
-        Ok(despatch) => Ok(Content::Despatch(despatch)),
-        Err(MessageFault::Memory) => Err(AllocError),
-        Err(fault) => {
-            let place = despatch_place(alloc, fault, message.segments.as_slice())?;
-            Ok(Content::Refused(fault, sum(before, place)?))
-        }
-    }
-}
-
-// What a receiving advice says, behind so many segments.
-fn receipt_content(
-    alloc: Global,
-    before: usize,
-    message: &RawMessage,
-) -> Result<Content, MemoryFault>
-    ensures { IfOk result (λ content. content ≡ spec.content_from contents.Receipt
-        (λ fault. before + goods.receipt_place fault message.now.segments) (receipt_of message.now)) }
-{
-    match Receipt::read(alloc, message) {
-        Ok(receipt) => Ok(Content::Receipt(receipt)),
-        Err(MessageFault::Memory) => Err(AllocError),
-        Err(fault) => {
-            let place = receipt_place(alloc, fault, message.segments.as_slice())?;
-            Ok(Content::Refused(fault, sum(before, place)?))
-        }
-    }
-}
-
-// What a message says, by its type, behind so many segments.
+// Reads a message by its type, behind so many segments.
 fn content_of(alloc: Global, before: usize, message: &RawMessage) -> Result<Content, MemoryFault>
     ensures { IfOk result (λ content. content ≡ spec.content_of before message.now) }
 {
-    let kind = message.kind.as_slice();
-    if kind == b"ORDERS".as_slice() {
-        order_content(alloc, before, message)
-    } else if kind == b"ORDRSP".as_slice() {
-        response_content(alloc, before, message)
-    } else if kind == b"DESADV".as_slice() {
-        despatch_content(alloc, before, message)
-    } else if kind == b"RECADV".as_slice() {
-        receipt_content(alloc, before, message)
-    } else {
-        Ok(Content::Refused(MessageFault::MessageType, sum(before, 1)?))
+    match DocumentType::of(message.kind.as_slice()) {
+        Some(kind) => content_as(alloc, kind, before, message),
+        None => Ok(Content::Refused(MessageFault::MessageType, sum(before, 1)?)),
     }
 }
 
@@ -160,7 +102,7 @@ fn shown_message(
     })
 }
 
-/// The messages of an interchange in their order, each with what it says. UNB stands before the first.
+/// Reads the messages of an interchange, in their order. UNB is counted before the first.
 pub(crate) fn shown_messages(
     alloc: Global,
     messages: &[RawMessage],

@@ -7,6 +7,7 @@ use crate::fault::message_words;
 use crate::goods::{put_despatch, put_receipt};
 use crate::lines::put_line;
 use crate::orders::{put_order, put_response};
+use edi_documents::Document;
 use edi_messages::MessageFault;
 use edi_tokens::MemoryFault;
 use std::alloc::Global;
@@ -28,15 +29,24 @@ fn put_fault(
     Ok(())
 }
 
+// Appends what a document says.
+fn put_document(alloc: Global, out: &mut Vec<u8>, document: &Document) -> Result<(), MemoryFault>
+    ensures { OnOk result (out.new.items ≡ out.old.items ++ spec.document_lines document.now) }
+{
+    match document {
+        Document::Order(order) => put_order(alloc, out, order),
+        Document::Response(response) => put_response(alloc, out, response),
+        Document::Despatch(despatch) => put_despatch(alloc, out, despatch),
+        Document::Receipt(receipt) => put_receipt(alloc, out, receipt),
+    }
+}
+
 // Appends what a message says.
 fn put_content(alloc: Global, out: &mut Vec<u8>, content: &Content) -> Result<(), MemoryFault>
     ensures { OnOk result (out.new.items ≡ out.old.items ++ spec.content_lines content.now) }
 {
     match content {
-        Content::Order(order) => put_order(alloc, out, order),
-        Content::Response(response) => put_response(alloc, out, response),
-        Content::Despatch(despatch) => put_despatch(alloc, out, despatch),
-        Content::Receipt(receipt) => put_receipt(alloc, out, receipt),
+        Content::Read(document) => put_document(alloc, out, document),
         Content::Refused(fault, place) => put_fault(alloc, out, *fault, *place),
     }
 }

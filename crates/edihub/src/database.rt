@@ -3,12 +3,13 @@ ghost use Rattle.hub_tables.specs.Register.{HoldsRegister};
 ghost use Rattle.hub_sql.specs.Stored.{content, honest};
 
 use crate::fault::BeginFault;
+use crate::keys::Asked;
 use crate::serve::serve_over;
 use crate::tasks::obey;
 use crate::tell;
 use edi_base::exit::FAILED;
-use hub_app::{HubWords, ServeWords};
-use hub_core::Hub;
+use hub_app::ServeWords;
+use hub_commands::Hub;
 use hub_sql::SqliteStore;
 use hub_store::StoreFault;
 use sqlite::Alter;
@@ -21,7 +22,7 @@ use std::path::Path;
 #[derive(Drop)]
 pub(crate) enum Work<'a> {
     /// One command.
-    Command(HubWords<'a>),
+    Command(Asked<'a>),
     /// Serving it over the network.
     Serve(ServeWords<'a>),
 }
@@ -29,7 +30,7 @@ pub(crate) enum Work<'a> {
 // The path of the database file.
 fn db_of<'a>(work: &Work<'a>) -> &'a str {
     match work {
-        Work::Command(words) => words.db,
+        Work::Command(asked) => asked.db,
         Work::Serve(words) => words.db,
     }
 }
@@ -57,7 +58,7 @@ fn over_tables<A: Alter + Drop>(
         Err((tables, fault)) => return (Err(BeginFault::Store(fault)), tables),
     };
     let status = match work {
-        Work::Command(words) => obey(rt, &mut hub, words),
+        Work::Command(asked) => obey(rt, &mut hub, asked),
         Work::Serve(words) => serve_over(rt, &mut hub, &words),
     };
     let (_register, tables) = hub.into_store();

@@ -1,12 +1,13 @@
 //! Why a hub was not founded, or a command over one not begun or not ended.
 use edi_base::ReadFault;
 use hub_commands::TextFault;
-use hub_store::StoreFault;
+use hub_store::{LastingFault, StoreFault};
 use std::alloc::AllocError;
 use std::error::Error;
 use std::fmt;
 
-/// Why a hub was not founded, or a command over one not begun, in the order in which it is looked for, or not ended.
+/// Why a hub was not founded, or a command over one not begun, in the order in which it is looked for, or not ended. Files
+/// with keys are read first of all.
 #[derive(Clone, Copy, Debug)]
 pub(crate) enum BeginFault {
     /// The database file was not opened.
@@ -69,11 +70,41 @@ impl From<StoreFault> for BeginFault {
     }
 }
 
+impl From<LastingFault> for BeginFault {
+    fn from(fault: LastingFault) -> BeginFault {
+        match fault {
+            LastingFault::Disk => BeginFault::Store(StoreFault::Disk),
+            LastingFault::Unclean => BeginFault::Store(StoreFault::Unclean),
+        }
+    }
+}
+
 impl From<ReadFault> for BeginFault {
     fn from(fault: ReadFault) -> BeginFault {
         match fault {
             ReadFault::Read => BeginFault::File,
             ReadFault::Memory => BeginFault::Memory,
         }
+    }
+}
+
+/// Why a command was not begun with its keys.
+#[derive(Clone, Copy, Debug)]
+pub(crate) enum KeyFault {
+    /// A file with a key was not read.
+    Unread(BeginFault),
+    /// The file of a supplier that joins has no key.
+    Refused,
+}
+
+impl From<BeginFault> for KeyFault {
+    fn from(fault: BeginFault) -> KeyFault {
+        KeyFault::Unread(fault)
+    }
+}
+
+impl From<AllocError> for KeyFault {
+    fn from(_error: AllocError) -> KeyFault {
+        KeyFault::Unread(BeginFault::Memory)
     }
 }

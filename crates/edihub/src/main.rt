@@ -4,6 +4,7 @@
 mod database;
 mod fault;
 mod init;
+mod keys;
 mod register;
 mod serve;
 mod tasks;
@@ -13,9 +14,11 @@ use database::{Work, over_a_hub};
 use edi_base::exit::{FAILED, USAGE};
 use edi_relay::relay_run;
 use edi_tokens::{OfRead, OfWrite};
-use hub_app::{Words, WordsFault, read_words};
+use fault::KeyFault;
+use hub_app::{HubWords, Words, WordsFault, file_key_refused, read_words};
 use hub_commands::{check_run, show_run};
 use init::init;
+use keys::with_keys;
 use register::register_text;
 use std::fmt::Display;
 use std::process::ExitCode;
@@ -32,6 +35,23 @@ fn tell_words(rt: &HostRuntime, error: &Error) -> u8 {
     match error.print(rt) {
         Ok(()) => error.exit_code() as u8,
         Err(_) => tell(rt, "file", FAILED),
+    }
+}
+
+// Prints why words are not taken.
+fn tell_refused(rt: &HostRuntime, fault: &WordsFault) -> u8 {
+    match fault {
+        WordsFault::Told(error) => tell_words(rt, error),
+        WordsFault::Memory => tell(rt, "memory", FAILED),
+    }
+}
+
+// Does a command over a hub, once its keys are read.
+fn with_the_hub(rt: &HostRuntime, given: &[String], words: HubWords<'_>) -> u8 {
+    match with_keys(rt, words) {
+        Ok(asked) => over_a_hub(rt, Work::Command(asked)),
+        Err(KeyFault::Unread(fault)) => tell(rt, fault, FAILED),
+        Err(KeyFault::Refused) => tell_refused(rt, &file_key_refused(rt.alloc(), given)),
     }
 }
 
@@ -66,10 +86,9 @@ fn run(rt: &HostRuntime, given: &[String]) -> u8 {
             &mut OfWrite::new(rt.stderr()),
         ),
         Ok(Words::Init(words)) => init(rt, &words),
-        Ok(Words::Hub(words)) => over_a_hub(rt, Work::Command(words)),
+        Ok(Words::Hub(words)) => with_the_hub(rt, given, words),
         Ok(Words::Serve(words)) => over_a_hub(rt, Work::Serve(words)),
-        Err(WordsFault::Told(error)) => tell_words(rt, &error),
-        Err(WordsFault::Memory) => tell(rt, "memory", FAILED),
+        Err(fault) => tell_refused(rt, &fault),
     }
 }
 

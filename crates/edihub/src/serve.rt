@@ -3,9 +3,18 @@ use crate::fault::BeginFault;
 use crate::tasks::written;
 use edi_base::OfWrite;
 use hub_app::ServeWords;
-use hub_core::Hub;
-use hub_serve::{ClockMoments, Listening, NamedOr, Paths, print_listening, serve_on};
+use hub_commands::Hub;
+use hub_serve::{ClockMoments, Listening, NamedOr, OnBroken, Paths, print_listening, serve_on};
 use hub_store::Store;
+
+// What is done once the store has failed for good.
+fn on_broken(words: &ServeWords<'_>) -> OnBroken {
+    if words.stop_when_broken {
+        OnBroken::Stop
+    } else {
+        OnBroken::ServeOn
+    }
+}
 
 /// Serves what comes over the network. A fault is told where it ends that.
 pub(crate) fn serve_over<S: Store>(
@@ -27,8 +36,14 @@ pub(crate) fn serve_over<S: Store>(
         hub,
         &mut moments,
         words.count,
+        on_broken(words),
         &mut out,
     );
+    if words.stop_when_broken {
+        if let Some(fault) = hub.fault() {
+            return Err(BeginFault::from(fault));
+        }
+    }
     if moments.clock().has_failed() {
         return Err(BeginFault::Clock);
     }

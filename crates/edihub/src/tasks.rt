@@ -1,11 +1,10 @@
 //! What a command asks of a hub.
 use crate::fault::BeginFault;
+use crate::keys::{Asked, Task};
 use edi_base::OfWrite;
 use edi_envelope::Moment;
 use gs1_ids::Gln;
-use hub_app::{HubTask, HubWords};
-use hub_commands::{Folder, import_run, reply_run};
-use hub_core::{Hub, Request};
+use hub_commands::{Folder, Hub, Request, import_run, reply_run};
 use hub_serve::moment_now;
 use hub_store::Store;
 
@@ -52,27 +51,25 @@ fn ask<S: Store>(
     written(&out, status)
 }
 
-/// Does what the words of a command ask of a hub.
+/// Does what a command asks of a hub.
 pub(crate) fn obey<S: Store>(
     rt: &HostRuntime,
     hub: &mut Hub<S>,
-    words: HubWords<'_>,
+    asked: Asked<'_>,
 ) -> Result<u8, BeginFault> {
-    let moment = match words.moment {
+    let Asked {
+        db: _,
+        caller,
+        key,
+        moment,
+        task,
+    } = asked;
+    let moment = match moment {
         Some(moment) => moment,
         None => now(rt)?,
     };
-    let caller = words.caller;
-    let key = words.key.as_bytes();
-    let request = match words.task {
-        HubTask::Import(folder) => return import(rt, hub, moment, &caller, key, folder),
-        HubTask::Status(None) => Request::Status,
-        HubTask::Status(Some(supplier)) => Request::StatusOf(supplier),
-        HubTask::MailAfter(number) => Request::MailAfter(number),
-        HubTask::MailItem(number) => Request::MailItem(number),
-        HubTask::MailTaken(number) => Request::MailTaken(number),
-        HubTask::Cancel(cancel) => Request::Cancel(cancel),
-        HubTask::Join(join) => Request::Join(join),
-    };
-    ask(rt, hub, moment, &caller, key, request)
+    match task {
+        Task::Import(folder) => import(rt, hub, moment, &caller, key.as_slice(), folder),
+        Task::Ask(request) => ask(rt, hub, moment, &caller, key.as_slice(), request),
+    }
 }

@@ -1,7 +1,8 @@
 -- The values of options.
-use Rattle.std.specs.Prelude.{ℕ, ◌++◌, ◌&&◌, if◌then◌else◌, nat_eq, nat_le, List, [], ◌∷◌, Option, Some, None, option_map}
-use Rattle.std.specs.Prelude.{option_and_then}
+use Rattle.std.specs.Prelude.{ℕ, Bool, false, codes, ◌++◌, ◌&&◌, if◌then◌else◌, nat_eq, nat_le, List, [], ◌∷◌}
+use Rattle.std.specs.Prelude.{Option, Some, None, option_map, option_and_then}
 use Rattle.std.specs.List.{list_all, slice_split}
+use Rattle.std.specs.Str.{bytes_eq}
 use Rattle.clap.specs.Words.{Row, Text, first_of}
 use Rattle.edi_moment.specs.Moment.{last_moment}
 use Rattle.gs1_ids.specs.Prefix.{is_prefix}
@@ -27,6 +28,16 @@ connections_of text = option_and_then (number_within 1 1_000_000) (number_in tex
 abbrev pub if_given : {X : Type 0} → (Text → Option X) → Option Text → Option (Option X)
 if_given read None = Some None
 if_given read (Some text) = option_map (λ x. Some x) (read text)
+
+-- whether an option without a value is given: it then has the value `true`
+abbrev pub is_set : Option Text → Bool
+is_set None = false
+is_set (Some text) = bytes_eq text (codes "true")
+
+-- nothing, if this option is given
+abbrev pub unless_given : {X : Type 0} → Option Text → Option X → Option X
+unless_given None found = found
+unless_given (Some text) found = None
 
 -- the values of options, where all are given
 abbrev pub values_given : List Text → List Row → Option (List Text)

@@ -1,11 +1,11 @@
 -- The commands of the program, as `clap` parses them.
 use Rattle.std.specs.Prelude.{◌≡◌, Bool, true, false, List, [], ◌∷◌, ◌++◌, Some, codes}
 use Rattle.clap.specs.Words.{App, Rule, Shape, Text, app_of, new_app, new_rule}
-use Rattle.clap.specs.declared.builder.action.ArgAction.TheVariants.{Set}
+use Rattle.clap.specs.declared.builder.action.ArgAction.TheVariants.{Set, SetTrue}
 use Rattle.clap.specs.declared.builder.command.Command.{Command}
 use Rattle.clap.specs.declared.builder.command.Command.TheViews.{out-Command as fields_of}
 use Rattle.hub_app.specs.declared.program.Choice.{Choice}
-use Rattle.hub_app.specs.declared.program.Choice.TheVariants.{Wanted, Offered}
+use Rattle.hub_app.specs.declared.program.Choice.TheVariants.{Wanted, Offered, Flag}
 
 -- an option with one value, that has to be given or not
 abbrev pub option : Bool → Text → Rule
@@ -22,6 +22,10 @@ wanted = option true
 abbrev pub offered : Text → Rule
 offered = option false
 
+-- an option without a value, that may be left out
+abbrev pub flagged : Text → Rule
+flagged name = record (new_rule name) { long = Some name; action = Some SetTrue }
+
 -- a command with these options
 abbrev pub with_options : Text → List Rule → Shape
 with_options name rules = record (new_app name).top { rules = rules }
@@ -34,6 +38,7 @@ with_option shape rule = record shape { rules = shape.rules ++ rule ∷ [] }
 abbrev pub rule_of_choice : Choice → Rule
 rule_of_choice (Wanted name value help) = wanted name.now
 rule_of_choice (Offered name value help) = offered name.now
+rule_of_choice (Flag name help) = flagged name.now
 
 -- options of a table more
 abbrev pub with_choices : Shape → List Choice → Shape
@@ -43,7 +48,8 @@ with_choices shape (choice ∷ choices) = with_choices (with_option shape (rule_
 -- the options of every command over a hub, and more
 abbrev pub over_a_hub : Text → List Rule → Shape
 over_a_hub name more = with_options name (
-    wanted (codes "db") ∷ wanted (codes "as") ∷ wanted (codes "key") ∷ offered (codes "moment") ∷ more)
+    wanted (codes "db") ∷ wanted (codes "as") ∷ offered (codes "key-file") ∷ offered (codes "key")
+    ∷ offered (codes "moment") ∷ more)
 
 abbrev pub check : Shape
 check = with_options (codes "check") (wanted (codes "register") ∷ [])
@@ -60,7 +66,8 @@ init = with_options (codes "init") (wanted (codes "register") ∷ wanted (codes 
 
 abbrev pub join : Shape
 join = over_a_hub (codes "join") (
-    wanted (codes "supplier") ∷ wanted (codes "supplier-key") ∷ wanted (codes "prefixes") ∷ [])
+    wanted (codes "supplier") ∷ offered (codes "supplier-key-file") ∷ offered (codes "supplier-key")
+    ∷ wanted (codes "prefixes") ∷ [])
 
 abbrev pub import : Shape
 import = over_a_hub (codes "import") (wanted (codes "folder") ∷ [])
@@ -78,7 +85,8 @@ cancel = over_a_hub (codes "cancel") (
 
 abbrev pub serve : Shape
 serve = with_options (codes "serve") (
-    wanted (codes "db") ∷ wanted (codes "port") ∷ wanted (codes "count") ∷ offered (codes "moment") ∷ [])
+    wanted (codes "db") ∷ wanted (codes "port") ∷ wanted (codes "count") ∷ offered (codes "moment")
+    ∷ flagged (codes "stop-when-broken") ∷ [])
 
 -- the program before its commands, of which it wants one
 abbrev pub bare : App

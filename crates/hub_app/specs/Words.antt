@@ -1,23 +1,31 @@
 -- What the words of the command line say, as `clap` parses them.
-use Rattle.std.specs.Prelude.{◌≡◌, ◌⊎◌, ℕ, true, List, [], ◌∷◌, Option, Some, None, option_and_then, codes}
-use Rattle.clap.specs.Words.{Row, Text, first_of, subcommand_of, takes}
+use Rattle.std.specs.Prelude.{◌≡◌, ◌⊎◌, ℕ, true, List, [], ◌∷◌, Option, Some, None, option_and_then, option_map, codes}
+use Rattle.std.specs.Prelude.{if◌then◌else◌, is_some}
+use Rattle.clap.specs.Words.{Row, Text, first_of, kind_of, subcommand_of, takes}
+use Rattle.clap.specs.declared.error.kind.ErrorKind.TheVariants.{ValueValidation}
 use Rattle.gs1_ids.specs.Gln.{gln_of}
 use Rattle.hub_app.specs.declared.words.HubOptions.{HubOptions}
 use Rattle.hub_app.specs.declared.words.CancelLines.{CancelLines}
 use Rattle.hub_app.specs.declared.words.HubTask.{HubTask}
 use Rattle.hub_app.specs.declared.words.HubTask.TheVariants.{Import, Status, MailAfter, MailItem, MailTaken, Cancel, Join}
+use Rattle.hub_app.specs.declared.words.HubTask.TheVariants.{JoinByFile}
 use Rattle.hub_app.specs.declared.words.HubWords.{HubWords}
 use Rattle.hub_app.specs.declared.words.InitWords.{InitWords}
+use Rattle.hub_app.specs.declared.words.JoinByFile.{JoinByFile as FileJoin}
 use Rattle.hub_app.specs.declared.words.JoinTexts.{JoinTexts}
+use Rattle.hub_app.specs.declared.words.KeyWord.{KeyWord}
+use Rattle.hub_app.specs.declared.words.KeyWord.TheVariants as word
 use Rattle.hub_app.specs.declared.words.ServeWords.{ServeWords}
 use Rattle.hub_app.specs.declared.words.Words.{Words}
 use Rattle.hub_app.specs.declared.words.Words.TheVariants.{Check, Relay, Show, Init, Hub, Serve}
 use Rattle.hub_app.specs.declared.words.WordsFault.{WordsFault}
-use Rattle.hub_app.specs.declared.words.WordsFault.TheVariants.{Memory}
+use Rattle.hub_app.specs.declared.words.WordsFault.TheVariants.{Told, Memory}
 use Rattle.edi_relay.specs.declared.relay.RelayWords.{RelayWords}
-use Rattle.hub_app.specs.Options.{moment_of, port_of, connections_of, prefixes_of, if_given, values_given, in_lines}
+use Rattle.hub_app.specs.Options.{moment_of, port_of, connections_of, is_set, prefixes_of, if_given, unless_given, values_given}
+use Rattle.hub_app.specs.Options.{in_lines}
 use Rattle.hub_app.specs.Program.{edihub}
 use Rattle.edi_relay.specs.Relay.{AreRelayWords, relay_words_of}
+use Rattle.hub_parties.specs.Prefixes.{company_prefixes_of}
 use Rattle.hub_parties.specs.declared.row.SupplierRow.{SupplierRow}
 use Rattle.hub_rules.specs.JoinRules.{join_of}
 use Rattle.hub_rules.specs.declared.cancel.Cancel.{Cancel as Cancellation}
@@ -49,9 +57,29 @@ texts_of lines = lines.supplier.now ∷ lines.reference.now ∷ lines.order.now 
 abbrev pub cancellation_given : List Row → Option Cancellation
 cancellation_given rows = option_and_then (λ lines. cancel_of (in_lines lines)) (values_given cancel_options rows)
 
--- the options of a join
-abbrev pub join_options : List Text
-join_options = codes "supplier" ∷ codes "supplier-key" ∷ codes "prefixes" ∷ []
+-- how a key is given: by itself, or by the path of the file that has it
+pub data KeyGiven : Type 0 where
+  Itself : Text → KeyGiven
+  InFile : Text → KeyGiven
+
+-- by the values of two options, one for the key and one for its file, if exactly one of them is given
+abbrev pub key_by : Option Text → Option Text → Option KeyGiven
+key_by (Some key) None = Some (Itself key)
+key_by None (Some path) = Some (InFile path)
+key_by (Some key) (Some path) = None
+key_by None None = None
+
+-- the same by the names of the two options
+abbrev pub key_given : Text → Text → List Row → Option KeyGiven
+key_given key file rows = key_by (first_of key rows) (first_of file rows)
+
+abbrev pub given_as : KeyWord → KeyGiven
+given_as (word.Given key) = Itself key.now
+given_as (word.InFile path) = InFile path.now
+
+-- the options of a join; this one gives the key, or the file that has it
+abbrev pub join_options : Text → List Text
+join_options key = codes "supplier" ∷ key ∷ codes "prefixes" ∷ []
 
 abbrev pub texts_of_join : JoinTexts → List Text
 texts_of_join texts = texts.supplier.now ∷ texts.key.now ∷ texts.prefixes.now ∷ []
@@ -62,9 +90,36 @@ join_in (supplier ∷ key ∷ listed ∷ []) =
     option_and_then (λ gln. option_and_then (join_of gln key) (prefixes_of listed)) (gln_of supplier)
 join_in texts = None
 
+-- the values of these options, if the other option for the key is left out
+abbrev pub join_values : Text → Text → List Row → Option (List Text)
+join_values key other rows = unless_given (first_of other rows) (values_given (join_options key) rows)
+
 -- the join that is given by its options
 abbrev pub join_given : List Row → Option SupplierRow
-join_given rows = option_and_then join_in (values_given join_options rows)
+join_given rows = option_and_then join_in (join_values (codes "supplier-key") (codes "supplier-key-file") rows)
+
+-- a supplier, the path of the file that has its key, and its prefixes
+abbrev pub JoinParts : Type 0
+JoinParts = Text × Text × List Text
+
+abbrev pub parts_of_join : FileJoin → JoinParts
+parts_of_join join = (join.supplier, join.key_file.now, join.prefixes.items)
+
+-- prefixes that one supplier may have
+abbrev pub joining_prefixes : List Text → Option (List Text)
+joining_prefixes prefixes = if is_some (company_prefixes_of prefixes) then Some prefixes else None
+
+-- a join with this GLN, with the key in this file, and with the prefixes that are listed
+abbrev pub join_by_file_in : List Text → Option JoinParts
+join_by_file_in (supplier ∷ file ∷ listed ∷ []) =
+    option_and_then (λ gln. option_map (λ prefixes. (gln, file, prefixes))
+    (option_and_then joining_prefixes (prefixes_of listed))) (gln_of supplier)
+join_by_file_in texts = None
+
+-- the same that is given by its options
+abbrev pub join_by_file_given : List Row → Option JoinParts
+join_by_file_given rows =
+    option_and_then join_by_file_in (join_values (codes "supplier-key-file") (codes "supplier-key") rows)
 
 -- what a command over a hub asks
 abbrev pub IsTask : Text → List Row → HubTask → Type 0
@@ -77,12 +132,13 @@ IsTask command rows (MailItem number) = (command ≡ codes "mail") × IsMail (co
 IsTask command rows (MailTaken number) = (command ≡ codes "mail") × IsMail (codes "taken") number rows
 IsTask command rows (Cancel cancellation) = (command ≡ codes "cancel") × (cancellation_given rows ≡ Some cancellation)
 IsTask command rows (Join join) = (command ≡ codes "join") × (join_given rows ≡ Some join)
+IsTask command rows (JoinByFile join) = (command ≡ codes "join") × (join_by_file_given rows ≡ Some (parts_of_join join))
 
 -- the options of every command over a hub
 pub record AreHubOptions (rows : List Row) (options : HubOptions) : Type 0 where
   pub db : first_of (codes "db") rows ≡ Some options.db.now
   pub caller : option_and_then gln_of (first_of (codes "as") rows) ≡ Some options.caller
-  pub key : first_of (codes "key") rows ≡ Some options.key.now
+  pub key : key_given (codes "key") (codes "key-file") rows ≡ Some (given_as options.key)
   pub moment : if_given moment_of (first_of (codes "moment") rows) ≡ Some options.moment
 
 abbrev pub AreHubWords : List Row → HubWords → Type 0
@@ -104,6 +160,7 @@ pub record IsServe (rows : List Row) (words : ServeWords) : Type 0 where
   pub port : option_and_then port_of (first_of (codes "port") rows) ≡ Some words.port
   pub count : option_and_then connections_of (first_of (codes "count") rows) ≡ Some words.count
   pub moment : if_given moment_of (first_of (codes "moment") rows) ≡ Some words.moment
+  pub stop_when_broken : words.stop_when_broken ≡ is_set (first_of (codes "stop-when-broken") rows)
 
 -- what a command with these options asks for
 abbrev pub Asks : Text → List Row → Words → Type 0
@@ -132,6 +189,11 @@ Say texts words = Names (subcommand_of edihub texts) words
 -- Words that `clap` takes are refused where memory runs out, and else only where they say nothing.
 abbrev pub Refuses : List Text → WordsFault → Type 0
 Refuses texts fault = takes edihub texts ≡ true → (fault ≡ Memory) ⊎ ((words : Words) → Say texts words → ⊥)
+
+-- it is reported as an option against its limits, unless memory ran out
+abbrev pub IsUsageError : WordsFault → Type 0
+IsUsageError (Told error) = kind_of error ≡ ValueValidation
+IsUsageError Memory = Unit {0}
 
 -- the numbers of `relay` are within their limits
 abbrev pub AreWords : Words → Type 0

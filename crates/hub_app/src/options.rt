@@ -22,6 +22,16 @@ pub(crate) fn text<'a>(options: &ArgMatches<'a>, name: &str) -> Option<&'a str>
     options.get_str(name)
 }
 
+/// Whether an option without a value is given.
+pub(crate) fn is_set(options: &ArgMatches<'_>, name: &str) -> bool
+    ensures { result ≡ spec.is_set (first_of name.now (rows_of (found_of options.now))) }
+{
+    match text(options, name) {
+        Some(value) => value == "true",
+        None => false,
+    }
+}
+
 /// The number of 1 to 14 digits.
 pub(crate) fn number(text: &str) -> Option<u64>
     ensures { result ≡ number_in text.now }

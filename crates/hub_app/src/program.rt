@@ -2,7 +2,7 @@
 
 ghost use Rattle.std.specs.Prelude.{◌≡◌, [], false, IfOk};
 ghost use Rattle.clap.specs.Words.{App, Shape, app_of, rule_of, with_subcommand};
-ghost use Rattle.hub_app.specs.Program.{wanted, offered, rule_of_choice, with_choices, with_options, over_a_hub, IsCommand};
+ghost use Rattle.hub_app.specs.Program.{wanted, offered, flagged, rule_of_choice, with_choices, with_options, over_a_hub, IsCommand};
 ghost use Rattle.hub_app.specs.Program.{bare, check, relay, show, init, join, import, status, mail, cancel, serve, edihub};
 
 use clap::{Arg, ArgAction, Command};
@@ -21,12 +21,23 @@ fn option<'a>(alloc: Global, name: &'a str, value: &'a str, help: &'a str) -> Ar
         .help(help)
 }
 
-// The same, where it may be left out.
+// Like `option`, but it may be left out.
 fn extra<'a>(alloc: Global, name: &'a str, value: &'a str, help: &'a str) -> Arg<'a>
     ensures rule { rule_of result ≡ offered name.now }
     ensures local { result.global ≡ false }
 {
     option(alloc, name, value, help).required(false)
+}
+
+// An option without a value, that may be left out.
+fn flag<'a>(alloc: Global, name: &'a str, help: &'a str) -> Arg<'a>
+    ensures rule { rule_of result ≡ flagged name.now }
+    ensures local { result.global ≡ false }
+{
+    Arg::new(alloc, name)
+        .long(name)
+        .action(ArgAction::SetTrue)
+        .help(help)
 }
 
 // A command that has no options yet.
@@ -45,6 +56,7 @@ fn named<'a>(
 enum Choice {
     Wanted(&'static str, &'static str, &'static str),
     Offered(&'static str, &'static str, &'static str),
+    Flag(&'static str, &'static str),
 }
 
 fn arg_of(alloc: Global, choice: &Choice) -> Arg<'static>
@@ -54,6 +66,7 @@ fn arg_of(alloc: Global, choice: &Choice) -> Arg<'static>
     match choice {
         Choice::Wanted(name, value, help) => option(alloc, name, value, help),
         Choice::Offered(name, value, help) => extra(alloc, name, value, help),
+        Choice::Flag(name, help) => flag(alloc, name, help),
     }
 }
 
@@ -214,14 +227,23 @@ fn init_command<'a>(alloc: Global) -> Result<Command<'a>, AllocError>
     choosing(named(alloc, "init", INIT, INIT_HELP), alloc, &INIT_OPTIONS)
 }
 
-static HUB_OPTIONS: [Choice; 4] = [
+static HUB_OPTIONS: [Choice; 5] = [
     Choice::Wanted("db", "FILE", "The hub's database, which 'init' made"),
     Choice::Wanted(
         "as",
         "GLN",
         "GLN of the retailer or supplier who asks, 13 digits",
     ),
-    Choice::Wanted("key", "KEY", "Its key, as the hub has it"),
+    Choice::Offered(
+        "key-file",
+        "FILE",
+        "File whose first line is the key of that party; required unless --key is given",
+    ),
+    Choice::Offered(
+        "key",
+        "KEY",
+        "The key itself, in place of --key-file; every user of the machine can see it",
+    ),
     Choice::Offered(
         "moment",
         "SECONDS",
@@ -246,8 +268,8 @@ const JOIN: &str = "Lets a supplier into a hub that was founded";
 const JOIN_HELP: &str =
     "The retailer alone lets a supplier in, with its key and its 1 to 8 company prefixes:
 
-  edihub join --db hub.db --as 5412345000013 --key retail-key \\
-    --supplier 7612345000008 --supplier-key gamma-key-1 --prefixes 7612345,7612346
+  edihub join --db hub.db --as 5412345000013 --key-file retail.key \\
+    --supplier 7612345000008 --supplier-key-file gamma.key --prefixes 7612345,7612346
 
 It prints 'accepted', and from then on the supplier may send and be sent messages; or 'refused' with the code:
 
@@ -258,12 +280,17 @@ It prints 'accepted', and from then on the supplier may send and be sent message
 Exit status: 0 accepted; 1 refused or denied; 2 usage error; \
 3 a file or the database failed, the hub stopped, or out of memory";
 
-static JOIN_OPTIONS: [Choice; 3] = [
+static JOIN_OPTIONS: [Choice; 4] = [
     Choice::Wanted("supplier", "GLN", "GLN of the supplier, 13 digits"),
-    Choice::Wanted(
+    Choice::Offered(
+        "supplier-key-file",
+        "FILE",
+        "File whose first line is the key that the supplier gets, 8 to 64 visible characters; required unless --supplier-key is given",
+    ),
+    Choice::Offered(
         "supplier-key",
         "KEY",
-        "The key that the supplier gets, 8 to 64 visible ASCII characters",
+        "That key itself, in place of --supplier-key-file; every user of the machine can see it",
     ),
     Choice::Wanted(
         "prefixes",
@@ -288,7 +315,7 @@ const IMPORT_HELP: &str =
     "The plain files of the folder are uploaded in the order of their names' bytes, and stay where they
 are. A file has at most 1048576 bytes.
 
-  edihub import --db hub.db --as 5412345000013 --key retail-key --folder out
+  edihub import --db hub.db --as 5412345000013 --key-file retail.key --folder out
 
 prints for each file its name and the hub's reply, which has a line for each message:
 
@@ -323,8 +350,8 @@ const REPORT: &str = "Prints the order lines and pallets of a supplier";
 const REPORT_HELP: &str =
     "A supplier asks for its own report, the retailer names the supplier with --of:
 
-  edihub status --db hub.db --as 4012345500004 --key alpha-key-1
-  edihub status --db hub.db --as 5412345000013 --key retail-key --of 4012345500004
+  edihub status --db hub.db --as 4012345500004 --key-file alpha.key
+  edihub status --db hub.db --as 5412345000013 --key-file retail.key --of 4012345500004
 
 It prints a line L for each order line: order number, line number, GTIN, the answer's letter, and what is
 ordered, open, refused, cancelled and despatched; then a line P for each article on a pallet: SSCC, GTIN, A
@@ -354,9 +381,9 @@ const MAIL: &str = "Lists a supplier's mailbox, prints an entry of it, or marks 
 
 const MAIL_HELP: &str = "A supplier works through its mailbox in three steps:
 
-  edihub mail --db hub.db --as 4012345500004 --key alpha-key-1 --do after --n 0
-  edihub mail --db hub.db --as 4012345500004 --key alpha-key-1 --do item --n 1
-  edihub mail --db hub.db --as 4012345500004 --key alpha-key-1 --do taken --n 1
+  edihub mail --db hub.db --as 4012345500004 --key-file alpha.key --do after --n 0
+  edihub mail --db hub.db --as 4012345500004 --key-file alpha.key --do item --n 1
+  edihub mail --db hub.db --as 4012345500004 --key-file alpha.key --do taken --n 1
 
   after  lists the entries above number N that are not taken, at most 100: number, type, document number;
          then 'more' where there are further ones, else 'end'
@@ -387,7 +414,7 @@ const CANCEL: &str = "Cancels a quantity of an order line that is still open";
 
 const CANCEL_HELP: &str = "The retailer cancels 10 pieces of line 1 of order 128576:
 
-  edihub cancel --db hub.db --as 5412345000013 --key retail-key \\
+  edihub cancel --db hub.db --as 5412345000013 --key-file retail.key \\
     --supplier 4012345500004 --reference C1 --order 128576 --line 1 --quantity 10
 
 It prints 'accepted', 'repeated' where this cancellation was accepted before, or 'refused' with the code, as
@@ -440,6 +467,10 @@ prints, once it listens, and then of each connection its number and the status t
 A fault is a connection that failed: its client went away, or its 10 seconds were over before all of the answer
 was taken. The next connection is served.
 
+After a read or write of the database has failed, as on a full disk, each request that needs it is answered 503 until
+the program is restarted. With --stop-when-broken it ends instead, after the connection at which that happened, and
+says why on standard error, as 'store disk', so that a supervisor can restart it.
+
 A request to the hub as it runs, and its answer:
 
   curl -H 'X-Hub-Key: alpha-key-1' http://127.0.0.1:8080/p/4012345500004/mail/after/0
@@ -448,7 +479,7 @@ Exit status: 0 all connections were answered 200; 1 one was not; 2 usage error; 
 3 a connection failed or was answered 503, a file or the database failed, the port cannot be listened on, \
 or out of memory";
 
-static SERVE_OPTIONS: [Choice; 4] = [
+static SERVE_OPTIONS: [Choice; 5] = [
     Choice::Wanted("db", "FILE", "The hub's database, which 'init' made"),
     Choice::Wanted("port", "N", "Port to listen on, 1 to 65535"),
     Choice::Wanted("count", "N", "How many connections to serve, 1 to 1000000"),
@@ -456,6 +487,10 @@ static SERVE_OPTIONS: [Choice; 4] = [
         "moment",
         "SECONDS",
         "Moment of every connection, in seconds since 1970 began at UTC, at most 4102444799 [default: when it comes]",
+    ),
+    Choice::Flag(
+        "stop-when-broken",
+        "End after the connection at which the database fails for good, with status 3",
     ),
 ];
 
@@ -469,8 +504,8 @@ fn serve_command<'a>(alloc: Global) -> Result<Command<'a>, AllocError>
     )
 }
 
-// With the number of the database's schema, and what proved it: `rt version`.
-const VERSION: &str = "1.0.0 (schema 3, rattle-kit-13f logic dac8208d650f15bf)";
+// With the number of the database's schema, and the logic that its proofs are in, which several kits share: the end of `rt version`.
+const VERSION: &str = "1.0.0 (schema 3, logic dac8208d650f15bf)";
 
 // The program without its commands.
 fn bare_program<'a>(alloc: Global) -> Command<'a>

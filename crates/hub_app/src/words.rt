@@ -7,16 +7,19 @@ ghost use Rattle.hub_app.specs.Options.{Finds, if_given, moment_of, values_given
 ghost use Rattle.edi_relay.specs.Relay.{AreRelayWords};
 ghost use Rattle.hub_texts.specs.Cancel as body;
 ghost use Rattle.hub_app.specs.Words.{cancel_options, texts_of, AreWords, Asks, AreHubOptions, AreHubWords, IsOverHub};
-ghost use Rattle.hub_app.specs.Words.{IsInit, IsRelay, IsServe, IsTask, Names, Refuses, Say, join_in, join_options, texts_of_join};
+ghost use Rattle.hub_app.specs.Words.{IsInit, IsRelay, IsServe, IsTask, IsUsageError, Names, Refuses, Say, join_in, texts_of_join};
+ghost use Rattle.hub_app.specs.Words.{join_by_file_given, join_by_file_in, join_given, join_values, key_given, given_as, parts_of_join};
+ghost use Rattle.hub_rules.specs.JoinRules as rules;
 ghost use Rattle.hub_app.specs.Program.{edihub};
 
-use crate::options::{count, gln, in_lines, moment, number, port, prefixes, text};
+use crate::options::{count, gln, in_lines, is_set, moment, number, port, prefixes, text};
 use crate::program::program;
 use clap::error::ErrorKind;
 use clap::{ArgMatches, Command, Error};
 use edi_envelope::Moment;
 use edi_relay::RelayWords;
-use gs1_ids::Gln;
+use gs1_ids::{Gln, Prefix};
+use hub_parties::CompanyPrefixes;
 use hub_rules::{Cancel, Join};
 use hub_texts::read_cancel;
 use std::alloc::{AllocError, Global};
@@ -39,6 +42,44 @@ pub struct InitWords<'a> {
     pub db: &'a str,
 }
 
+/// Where a key is. `Debug` does not show the key.
+#[derive(Clone, Copy)]
+pub enum KeyWord<'a> {
+    /// On the command line: the key itself.
+    Given(&'a str),
+    /// In the first line of the file at this path.
+    InFile(&'a str),
+}
+
+impl fmt::Debug for KeyWord<'_> {
+    fn fmt<W: fmt::Write>(&self, f: &mut fmt::Formatter<W>) -> fmt::Result {
+        match self {
+            KeyWord::Given(_) => f.write_str("Key(..)"),
+            KeyWord::InFile(path) => f.debug_tuple("File").field(path).finish(),
+        }
+    }
+}
+
+/// A join whose key is in a file. The prefixes are 1 to 8 different ones.
+#[derive(Debug, Drop)]
+pub struct JoinByFile<'a> {
+    /// The supplier's GLN.
+    pub supplier: Gln,
+    /// The path of the file whose first line is the supplier's key.
+    pub key_file: &'a str,
+    /// The supplier's company prefixes.
+    pub prefixes: Vec<Prefix>,
+}
+
+impl JoinByFile<'_> {
+    /// The join with the key that is in the file; `None` if that is not 8 to 64 bytes of 0x21 to 0x7E.
+    pub fn with_key(&self, alloc: Global, key: &[u8]) -> Result<Option<Join>, AllocError>
+        ensures { IfOk result (λ found. found ≡ rules.join_of self.now.supplier key.now self.now.prefixes.items) }
+    {
+        Join::new(alloc, self.supplier, key, self.prefixes.as_slice())
+    }
+}
+
 /// What is asked of a hub. Numbers of mailbox entries have at most 14 digits.
 #[derive(Debug, Drop)]
 pub enum HubTask<'a> {
@@ -54,44 +95,25 @@ pub enum HubTask<'a> {
     MailTaken(u64),
     /// To cancel a quantity of an order line.
     Cancel(Cancel),
-    /// To let a supplier in.
+    /// To register a supplier.
     Join(Join),
+    /// To register a supplier whose key is in a file.
+    JoinByFile(JoinByFile<'a>),
 }
 
-/// What a command over a hub is asked for. `Debug` does not show the key.
-#[derive(Drop)]
+/// What a command over a hub is asked for. `Debug` does not show a key.
+#[derive(Debug, Drop)]
 pub struct HubWords<'a> {
     /// The path of the database's file.
     pub db: &'a str,
     /// Who asks.
     pub caller: Gln,
-    /// The key with which it is asked.
-    pub key: &'a str,
+    /// Where the caller's key is.
+    pub key: KeyWord<'a>,
     /// When it is asked; now where there is none.
     pub moment: Option<Moment>,
     /// What is asked.
     pub task: HubTask<'a>,
-}
-
-// What `Debug` shows of a key.
-struct UnshownKey;
-
-impl fmt::Debug for UnshownKey {
-    fn fmt<W: fmt::Write>(&self, f: &mut fmt::Formatter<W>) -> fmt::Result {
-        f.write_str("Key(..)")
-    }
-}
-
-impl fmt::Debug for HubWords<'_> {
-    fn fmt<W: fmt::Write>(&self, f: &mut fmt::Formatter<W>) -> fmt::Result {
-        f.debug_struct("HubWords")
-            .field("db", &self.db)
-            .field("caller", &self.caller)
-            .field("key", &UnshownKey)
-            .field("moment", &self.moment)
-            .field("task", &self.task)
-            .finish()
-    }
 }
 
 /// What `serve` is asked for.
@@ -105,6 +127,8 @@ pub struct ServeWords<'a> {
     pub count: u64,
     /// The moment of every connection; of each the one at which it comes where there is none.
     pub moment: Option<Moment>,
+    /// Whether no more connections are served once the database has failed for good.
+    pub stop_when_broken: bool,
 }
 
 /// What the words ask for: a command with its options.
@@ -252,7 +276,7 @@ fn cancel_task<'a>(
     }
 }
 
-// The texts of a join.
+// The texts of a join. The key is on the command line or in a file, of which this is the path.
 #[derive(Drop)]
 struct JoinTexts<'a> {
     supplier: &'a str,
@@ -260,12 +284,16 @@ struct JoinTexts<'a> {
     prefixes: &'a str,
 }
 
-fn join_texts<'a>(options: &ArgMatches<'a>) -> Option<JoinTexts<'a>>
-    ensures { option_map texts_of_join result ≡ values_given join_options (rows_of (found_of options.now)) }
+// The texts of a join whose key is given by the option `key`. The option `other` gives none.
+fn join_texts<'a>(options: &ArgMatches<'a>, key: &str, other: &str) -> Option<JoinTexts<'a>>
+    ensures { option_map texts_of_join result ≡ join_values key.now other.now (rows_of (found_of options.now)) }
 {
+    if text(options, other).is_some() {
+        return None;
+    }
     Some(JoinTexts {
         supplier: text(options, "supplier")?,
-        key: text(options, "supplier-key")?,
+        key: text(options, key)?,
         prefixes: text(options, "prefixes")?,
     })
 }
@@ -283,15 +311,63 @@ fn join_of(alloc: Global, texts: &JoinTexts<'_>) -> Result<Option<Join>, AllocEr
     }
 }
 
-// What `join` asks.
-fn join_task<'a>(alloc: Global, options: &ArgMatches<'_>) -> Result<Option<HubTask<'a>>, AllocError>
-    ensures { IfOk result (Finds (IsTask (codes "join") (rows_of (found_of options.now)))) }
+// The join that has these texts, and its key in a file.
+fn join_by_file_of<'a>(
+    alloc: Global,
+    texts: &JoinTexts<'a>,
+) -> Result<Option<JoinByFile<'a>>, AllocError>
+    ensures { IfOk result (λ found.
+        option_map parts_of_join found ≡ join_by_file_in (texts_of_join texts.now)) }
 {
-    let Some(texts) = join_texts(options) else {
+    let Some(supplier) = gln(texts.supplier) else {
         return Ok(None);
     };
-    match join_of(alloc, &texts)? {
-        Some(join) => Ok(Some(HubTask::Join(join))),
+    let Some(prefixes) = prefixes(alloc, texts.prefixes)? else {
+        return Ok(None);
+    };
+    if CompanyPrefixes::of(alloc, prefixes.as_slice())?.is_none() {
+        return Ok(None);
+    }
+    Ok(Some(JoinByFile {
+        supplier,
+        key_file: texts.key,
+        prefixes,
+    }))
+}
+
+// The join whose key is on the command line.
+fn given_join(alloc: Global, options: &ArgMatches<'_>) -> Result<Option<Join>, AllocError>
+    ensures { IfOk result (λ found. found ≡ join_given (rows_of (found_of options.now))) }
+{
+    match join_texts(options, "supplier-key", "supplier-key-file") {
+        Some(texts) => join_of(alloc, &texts),
+        None => Ok(None),
+    }
+}
+
+// The join whose key is in a file.
+fn join_by_file<'a>(
+    alloc: Global,
+    options: &ArgMatches<'a>,
+) -> Result<Option<JoinByFile<'a>>, AllocError>
+    ensures { IfOk result (λ found.
+        option_map parts_of_join found ≡ join_by_file_given (rows_of (found_of options.now))) }
+{
+    match join_texts(options, "supplier-key-file", "supplier-key") {
+        Some(texts) => join_by_file_of(alloc, &texts),
+        None => Ok(None),
+    }
+}
+
+// What `join` asks.
+fn join_task<'a>(alloc: Global, options: &ArgMatches<'a>) -> Result<Option<HubTask<'a>>, AllocError>
+    ensures { IfOk result (Finds (IsTask (codes "join") (rows_of (found_of options.now)))) }
+{
+    if let Some(join) = given_join(alloc, options)? {
+        return Ok(Some(HubTask::Join(join)));
+    }
+    match join_by_file(alloc, options)? {
+        Some(join) => Ok(Some(HubTask::JoinByFile(join))),
         None => Ok(None),
     }
 }
@@ -324,12 +400,23 @@ fn named_moment(options: &ArgMatches<'_>) -> Option<Option<Moment>>
     }
 }
 
+// Where the key is, if exactly one of the options for it and for its file is given.
+fn key_word<'a>(options: &ArgMatches<'a>, key: &str, file: &str) -> Option<KeyWord<'a>>
+    ensures { option_map given_as result ≡ key_given key.now file.now (rows_of (found_of options.now)) }
+{
+    match (text(options, key), text(options, file)) {
+        (Some(key), None) => Some(KeyWord::Given(key)),
+        (None, Some(path)) => Some(KeyWord::InFile(path)),
+        _ => None,
+    }
+}
+
 // The options of every command over a hub.
 #[derive(Clone, Copy)]
 struct HubOptions<'a> {
     db: &'a str,
     caller: Gln,
-    key: &'a str,
+    key: KeyWord<'a>,
     moment: Option<Moment>,
 }
 
@@ -339,7 +426,7 @@ fn hub_options<'a>(options: &ArgMatches<'a>) -> Option<HubOptions<'a>>
     Some(HubOptions {
         db: text(options, "db")?,
         caller: gln(text(options, "as")?)?,
-        key: text(options, "key")?,
+        key: key_word(options, "key", "key-file")?,
         moment: named_moment(options)?,
     })
 }
@@ -380,6 +467,7 @@ fn serve_words<'a>(options: &ArgMatches<'a>) -> Option<ServeWords<'a>>
         port: port(text(options, "port")?)?,
         count: count(text(options, "count")?)?,
         moment: named_moment(options)?,
+        stop_when_broken: is_set(options, "stop-when-broken"),
     })
 }
 
@@ -452,15 +540,43 @@ const JOIN_LIMITS: &str =
 const SERVE_LIMITS: &str =
     "--port is 1 to 65535, --count is 1 to 1000000, and --moment is 0 to 4102444799";
 
+const KEY_WORDS: &str = "the key is given either by --key-file or by --key";
+
+const SUPPLIER_KEY_WORDS: &str =
+    "the supplier's key is given either by --supplier-key-file or by --supplier-key";
+
+const FILE_KEY_LIMITS: &str =
+    "the first line of the file of --supplier-key-file is 8 to 64 visible ASCII characters";
+
 // What is wrong with options that are against their limits.
-fn limits(command: Option<&str>) -> &'static str {
+fn limits(command: &str) -> &'static str {
     match command {
-        Some("relay") => RELAY_LIMITS,
-        Some("mail") => MAIL_LIMITS,
-        Some("cancel") => CANCEL_LIMITS,
-        Some("join") => JOIN_LIMITS,
-        Some("serve") => SERVE_LIMITS,
+        "relay" => RELAY_LIMITS,
+        "mail" => MAIL_LIMITS,
+        "cancel" => CANCEL_LIMITS,
+        "join" => JOIN_LIMITS,
+        "serve" => SERVE_LIMITS,
         _ => HUB_LIMITS,
+    }
+}
+
+// What is wrong with how the keys of a command over a hub are given, if anything.
+fn key_fault(command: &str, options: &ArgMatches<'_>) -> Option<&'static str> {
+    match command {
+        "import" | "status" | "mail" | "cancel" | "join"
+            if key_word(options, "key", "key-file").is_none() => { Some(KEY_WORDS) }
+        "join" if key_word(options, "supplier-key", "supplier-key-file").is_none() => {
+            Some(SUPPLIER_KEY_WORDS)
+        }
+        _ => None,
+    }
+}
+
+// What is wrong with words that `clap` takes.
+fn fault_text(matches: &ArgMatches<'_>) -> &'static str {
+    match matches.subcommand() {
+        Some((command, options)) => key_fault(command, options).unwrap_or(limits(command)),
+        None => HUB_LIMITS,
     }
 }
 
@@ -478,9 +594,11 @@ fn matched_words<'a>(
     }
 }
 
-// Why words are refused that `clap` takes, and of which an option is against its limits.
-fn beyond_limits(program: &mut Command<'_>, command: Option<&str>) -> WordsFault {
-    match program.error(ErrorKind::ValueValidation, limits(command)) {
+// A usage error with this text.
+fn usage_error(program: &mut Command<'_>, text: &'static str) -> WordsFault
+    ensures { IsUsageError result }
+{
+    match program.error(ErrorKind::ValueValidation, text) {
         Ok(error) => WordsFault::Told(error),
         Err(_) => WordsFault::Memory,
     }
@@ -501,7 +619,7 @@ fn words_by<'a, S: AsStr>(
     let found = matched_words(alloc, &matches)?;
     match found {
         Some(read) => Ok(read),
-        None => Err(beyond_limits(program, matches.subcommand_name())),
+        None => Err(usage_error(program, fault_text(&matches))),
     }
 }
 
@@ -514,4 +632,16 @@ pub fn read_words<'a, S: AsStr>(alloc: Global, words: &'a [S]) -> Result<Words<'
 {
     let mut program = program(alloc)?;
     words_by(alloc, &mut program, words)
+}
+
+/// The usage error of a join whose key is in a file and is not 8 to 64 visible characters.
+pub fn file_key_refused<S: AsStr>(alloc: Global, words: &[S]) -> WordsFault
+    ensures { IsUsageError result }
+{
+    let Ok(mut program) = program(alloc) else {
+        return WordsFault::Memory;
+    };
+    // The usage line names the program as the words do.
+    let _ = program.try_get_matches_from_mut(words);
+    usage_error(&mut program, FILE_KEY_LIMITS)
 }

@@ -1,3 +1,5 @@
+mod FirstLine
+mod KeyExamples
 mod OneFile
 mod Output
 mod RegisterTexts

@@ -2,6 +2,7 @@ pub mod Check
 pub mod Files
 pub mod Folder
 pub mod Import
+pub mod Key
 pub mod OneFile
 pub mod Output
 pub mod Replies

@@ -14,9 +14,8 @@ use edi_base::{ReadFault, Sink, Source, WriteFault};
 use edi_envelope::{Interchange, Moment, OpenFault, open_lent};
 use edi_tokens::{Lender, TokenFault};
 use gs1_ids::Gln;
-use hub_core::{Hub, Reply};
+use hub_core::{Hub, Reply, STOPPED};
 use hub_store::Store;
-use hub_texts::STOPPED;
 use std::alloc::Global;
 
 // The line of a file that cannot be read or has no name.

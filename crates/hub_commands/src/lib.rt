@@ -1,11 +1,12 @@
-//! What the commands of the program do: the check of a register, the lines of an interchange, an import of files, and the
-//! printing of one reply.
+//! What the commands of the program do: the check of a register, the lines of an interchange, an import of files, the key
+//! in a file, and the printing of one reply.
 #![tactic(auto)]
 
 mod check;
 mod files;
 mod folder;
 mod import;
+mod key;
 mod print;
 mod reply;
 mod show;
@@ -13,6 +14,8 @@ mod show;
 pub use check::{TextFault, Verdict, check_run, print_verdict, read_register_text};
 pub use files::{Files, NamedFile, NextFile};
 pub use folder::Folder;
+pub use hub_core::{Hub, Input, Join, Reply, Request, Role};
 pub use import::import_run;
+pub use key::{key_in, read_key};
 pub use reply::reply_run;
 pub use show::show_run;

@@ -4,7 +4,7 @@ use Rattle.edi_envelope.specs.declared.interchange.RawMessage.{RawMessage}
 use Rattle.hub_parties.specs.Rows.{RegisterRows, parties_of, role_of, row_of}
 use Rattle.hub_parties.specs.declared.role.Role.TheVariants as roles
 use Rattle.hub_tables.specs.Tables.{Tables, view}
-use Rattle.hub_order_lines.specs.Book.{Orders}
+use Rattle.hub_transactions.specs.HubOrderLines.Book.{Orders}
 use Rattle.hub_rules.specs.Laws.{SoundUnder, Registered, PartiesRise}
 use Rattle.hub_rules.specs.declared.incoming.IncomingMessage.{IncomingMessage}
 use Rattle.hub_law.specs.Messages.{deliver_suppliers}

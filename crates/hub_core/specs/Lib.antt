@@ -1,3 +1,7 @@
+pub use Rattle.hub_law.specs as HubLaw
+pub use Rattle.hub_rules.specs as HubRules
+pub use Rattle.hub_tables.specs as HubTables
+pub use Rattle.hub_transactions.specs.HubTexts
 pub mod Broken
 pub mod Callers
 pub mod Hub

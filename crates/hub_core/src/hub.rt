@@ -25,7 +25,7 @@ use gs1_ids::Gln;
 use hub_parties::Role;
 use hub_register::Register;
 use hub_requests::{Input, Reply, Request};
-use hub_store::{Store, StoreFault};
+use hub_store::{LastingFault, Store, StoreFault};
 use std::alloc::Global;
 use std::marker::Model;
 
@@ -84,6 +84,13 @@ impl<S: Store> Hub<S> {
         ensures { result.now ≡ self.now.1 }
     {
         &self.store
+    }
+
+    /// Why the store has failed for good, if it has: the fault that each look-up and commit answers from now on.
+    pub fn fault(&self) -> Option<LastingFault>
+        ensures { result ≡ S.broken self.now.1 }
+    {
+        self.store.fault()
     }
 
     /// The side of a caller with this GLN and this key, as the register has it. It takes no memory.

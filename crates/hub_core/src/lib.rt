@@ -15,5 +15,5 @@ pub use hub::Hub;
 pub use hub_parties::Role;
 pub use hub_requests::{Input, Outcome, Reply, Request};
 pub use hub_rules::{Cancel, Join};
-pub use hub_texts::read_cancel;
+pub use hub_transactions::{STOPPED, number_of, read_cancel};
 pub use laws::{accepted_by_steps, hubs_alike, repeated_by_hubs, repeated_by_steps};

@@ -4,7 +4,7 @@ ghost use Rattle.hub_law.specs.Replies.{denied, unknown, refused_reply};
 
 use edi_base::{MemoryFault, copied};
 use hub_requests::{Outcome, Reply};
-use hub_texts::refused_line;
+use hub_transactions::refused_line;
 use std::alloc::Global;
 
 /// The reply to who is not known by its key, or may not ask this.

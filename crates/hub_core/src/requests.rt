@@ -23,9 +23,9 @@ use hub_parties::SupplierRow;
 use hub_register::Register;
 use hub_requests::{Reply, Request};
 use hub_store::{Store, StoreFault};
-use hub_texts::{STOPPED, interchange_line};
 use hub_transactions::{
-    mailbox_entry, mailbox_list, status_report, take_cancel, take_entry, take_join,
+    STOPPED, interchange_line, mailbox_entry, mailbox_list, status_report, take_cancel, take_entry,
+    take_join,
 };
 use std::alloc::Global;
 

@@ -31,7 +31,7 @@ use hub_law::{acts_keep_the_register, acts_stay_sound};
 use hub_register::Register;
 use hub_requests::{Input, Outcome, Reply, Request};
 use hub_store::{Store, StoreFault};
-use hub_texts::STOPPED;
+use hub_transactions::STOPPED;
 use std::alloc::Global;
 
 // Answers a request, where memory and the store suffice.

@@ -6,7 +6,7 @@ ghost use Rattle.hub_law.specs.Requests.{uploaded};
 ghost use Rattle.hub_law.specs.Told as law;
 ghost use Rattle.hub_transactions.specs.Acts.{Carried, FailsWith, AnyCause, OfAny, Unharmed};
 ghost use Rattle.hub_transactions.specs.Messages.{AddsLine, MayStop};
-ghost use Rattle.hub_texts.specs.Decision.{told_of};
+ghost use Rattle.hub_transactions.specs.HubTexts.Decision.{told_of};
 ghost use Rattle.hub_core.specs.Broken.{Breaks};
 ghost use Rattle.hub_core.specs.Callers.{delivered, KeepsFor, MayDeliver};
 ghost use Rattle.hub_core.specs.Steps.{Answered};
@@ -15,12 +15,12 @@ use crate::caller::Caller;
 use edi_base::Items;
 use edi_envelope::{Interchange, Moment, RawMessage};
 use hub_law::acts_stay_sound;
-use hub_order_lines::KnownOrders;
 use hub_register::Register;
 use hub_requests::{Outcome, Reply};
 use hub_store::{Store, StoreFault};
-use hub_texts::{Decision, STOPPED};
-use hub_transactions::{take_retailers_message, take_suppliers_message};
+use hub_transactions::{
+    Decision, KnownOrders, STOPPED, take_retailers_message, take_suppliers_message,
+};
 use std::alloc::Global;
 
 /// An upload whose messages are taken: its interchange, who sends it, and when, under a register.
@@ -89,8 +89,8 @@ fn either_refused(before: bool, told: Decision) -> bool
     before || told.is_refused()
 }
 
-/// Takes the messages one after another, until one is stopped. An order of the supplier that they name is looked up once. The reply begins as the line of the interchange, with
-/// room for the line `stopped`.
+/// Takes the messages one after another, until one is stopped. An order of the supplier that they name is looked up
+/// once. The reply begins as the line of the interchange, with room for the line `stopped`.
 pub(crate) fn take_messages<S: Store>(
     alloc: Global,
     upload: &OpenedUpload<'_>,

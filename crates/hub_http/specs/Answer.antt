@@ -1,12 +1,12 @@
 -- What is answered, and what became of the hub.
 use Rattle.std.specs.Prelude.{◌≡◌, ◌⊎◌, ◌+◌, ℕ, Bool, true, false, List, Option, Some, None, Result, Ok, Err}
 use Rattle.edi_base.specs.Source.{TakesAtMost}
-use Rattle.hub_law.specs.Replies.{stopped_line}
+use Rattle.hub_core.specs.HubLaw.Replies.{stopped_line}
 use Rattle.hub_requests.specs.declared.reply.Outcome.{Outcome}
 use Rattle.hub_requests.specs.declared.reply.Outcome.TheVariants.{Done, Bad, Denied, Unknown, Stopped}
 use Rattle.hub_requests.specs.declared.reply.Reply.{Reply}
 use Rattle.hub_parties.specs.Rows.{RegisterRows}
-use Rattle.hub_tables.specs.Tables.{Tables}
+use Rattle.hub_core.specs.HubTables.Tables.{Tables}
 use Rattle.hub_core.specs.Hub.{StaysSound, StepsFrom}
 use Rattle.hub_core.specs.Steps.{input_of}
 use Rattle.http_messages.specs.Head.{Heading, HeadIs, longest_head}

@@ -1,3 +1,5 @@
+pub use Rattle.hub_core.specs as HubCore
+pub use Rattle.hub_core.specs.HubRules
 pub mod Answer
 pub mod Asked
 pub mod Extent

@@ -2,8 +2,8 @@
 use Rattle.std.specs.Prelude.{◌≡◌, ℕ, List, Option, Some, None, Result, Ok, Err}
 use Rattle.gs1_ids.specs.Gln.{gln_of}
 use Rattle.hub_parties.specs.Rows.{RegisterRows}
-use Rattle.hub_rules.specs.declared.cancel.Cancel.{Cancel as Cancellation}
-use Rattle.hub_texts.specs.Cancel.{cancel_of}
+use Rattle.hub_core.specs.HubRules.declared.cancel.Cancel.{Cancel as Cancellation}
+use Rattle.hub_core.specs.HubTexts.Cancel.{cancel_of}
 use Rattle.hub_requests.specs.declared.request.Request.{Request}
 use Rattle.hub_requests.specs.declared.request.Request.TheVariants as asks
 use Rattle.http_messages.specs.Body.{body_in}

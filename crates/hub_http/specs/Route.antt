@@ -2,7 +2,7 @@
 use Rattle.std.specs.Prelude.{ℕ, Bool, true, false, if◌then◌else◌, List, codes, Option, Some}
 use Rattle.hub_parties.specs.declared.role.Role.{Role}
 use Rattle.hub_parties.specs.declared.role.Role.TheVariants.{Retailer, Supplier}
-use Rattle.hub_texts.specs.Number.{number_in}
+use Rattle.hub_core.specs.HubTexts.Number.{number_in}
 use Rattle.hub_http.specs.declared.route.Route.{Route}
 use Rattle.hub_http.specs.declared.route.Route.TheVariants.{Interchanges, MailAfter, MailItem, MailTaken}
 use Rattle.hub_http.specs.declared.route.Route.TheVariants.{Status, StatusOf, Cancellations}

@@ -5,7 +5,7 @@ ghost use Rattle.edi_base.specs.Source.{TakesAtMost};
 ghost use Rattle.edi_envelope.specs.Opened.{opened, Opens};
 ghost use Rattle.http_messages.specs.Head.{before, longest_head};
 ghost use Rattle.http_messages.specs.Body.{body_in};
-ghost use Rattle.hub_law.specs.Replies.{stopped_line};
+ghost use Rattle.hub_core.specs.HubLaw.Replies.{stopped_line};
 ghost use Rattle.hub_core.specs.Steps.{IsNoJoin};
 ghost use Rattle.hub_http.specs.Answer as spec;
 ghost use Rattle.hub_http.specs.Asked.{asked_by, is_single, longest_body};
@@ -26,9 +26,8 @@ use edi_envelope::{Moment, OpenFault};
 use edi_tokens::TokenFault;
 use http::StatusCode;
 use http_messages::{Head, HeadFault, read_body, read_head};
-use hub_core::{Hub, Outcome, Reply, Request};
+use hub_core::{Hub, Outcome, Reply, Request, STOPPED};
 use hub_store::Store;
-use hub_texts::STOPPED;
 use std::alloc::Global;
 
 /// The body of a response.

@@ -12,6 +12,7 @@ mod route;
 mod serve;
 mod upload;
 
+pub use hub_core::{Hub, Input, Join, Outcome, Reply, Request, read_cancel};
 pub use parts::{part_in, party_in};
 pub use paths::Paths;
 pub use route::Route;

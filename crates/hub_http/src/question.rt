@@ -3,7 +3,7 @@ ghost use Rattle.std.specs.Prelude.{◌≡◌, ◌≢◌, None, IfOk, IsOk, OnEr
 ghost use Rattle.hub_core.specs.Steps.{IsNoJoin};
 ghost use Rattle.hub_http.specs.Question as spec;
 ghost use Rattle.hub_http.specs.Wording.{asked_as};
-ghost use Rattle.hub_texts.specs.Cancel.{cancel_of};
+ghost use Rattle.hub_core.specs.HubTexts.Cancel.{cancel_of};
 
 use crate::asked::Asked;
 use crate::refusal::Refusal;

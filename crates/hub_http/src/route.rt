@@ -2,8 +2,7 @@
 ghost use Rattle.std.specs.Prelude.{◌≡◌};
 ghost use Rattle.hub_http.specs.Route as spec;
 
-use hub_core::Role;
-use hub_texts::number_of;
+use hub_core::{Role, number_of};
 
 /// The route of a path: what is asked for, but for the parts in braces and the body.
 #[derive(Clone, Copy, Debug, PartialEq, Eq)]

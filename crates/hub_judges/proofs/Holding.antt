@@ -1,12 +1,12 @@
 -- Which sums rows can hold.
-use Rattle.std.proofs.Common.{◌≡◌, ℕ, ◌+◌, ◌<◌, ◌≤◌, ◌^◌, Bool, true, cond, nat_le, ◌⊎◌, inl, inr, List, [], ◌∷◌, map, refl, sym}
+use Rattle.std.proofs.Common.{◌≡◌, ℕ, ◌<◌, ◌≤◌, ◌^◌, Bool, true, nat_le, ◌⊎◌, inl, inr, List, [], ◌∷◌, map, refl, sym}
 use Rattle.std.proofs.Common.{◌∙◌, ap, arith}
 use Rattle.std.specs.List.{AllByRecursion, list_all}
 use Rattle.std.proofs.lemmas.Bool.{and_parts, leb-true}
 use Rattle.std.proofs.lemmas.List.Folds.{list_all-map}
 use Rattle.edi_base.specs.Limits.{greatest}
 use Rattle.edi_goods.specs.Receipt.{has_sums}
-use Rattle.edi_goods.specs.Sums.{sum_of, sums_within}
+use Rattle.edi_goods.specs.Sums.{sums_within}
 use Rattle.edi_goods.specs.declared.receipt.ReceiptLine.{ReceiptLine}
 use Rattle.edi_goods.specs.declared.receipt.ReceiptUnit.{ReceiptUnit}
 use Rattle.hub_tables.specs.Rows.{same}
@@ -16,25 +16,10 @@ use Rattle.hub_tables.specs.declared.rows.ReceiptRow.{ReceiptRow}
 use Rattle.hub_tables.proofs.Lists.{decide, same_is}
 use Rattle.hub_rules.specs.ReceiptRules.{total, new_receipt}
 use Rattle.hub_judges.specs.Totals.{RowsHold}
-use Rattle.hub_judges.proofs.Summed.{total_with, total_without}
+use Rattle.hub_rules.proofs.Totalled.{sum_by_kind, sum_total, total_without}
 
 -- amounts of one kind
 module _ (kind : ReceiptLine → ℕ) where
-  abbrev pub sum_by_kind : List ℕ → List ReceiptLine → ℕ
-  sum_by_kind article lines =
-      sum_of article (map (λ (line : ReceiptLine). record { gtin = line.gtin; quantity = kind line }) lines)
-
-  pub sum_total : (article : List ℕ) (lines : List ReceiptLine) → sum_by_kind article lines ≡ total kind article lines
-  sum_total article [] = refl
-  sum_total article (line ∷ lines) =
-      let ih = sum_total article lines in
-      elim (decide (same line.gtin article)) [
-        | inl e ↦ let t = total_with article line lines kind e in
-            ap (λ v. cond v (kind line) 0 + sum_by_kind article lines) e ∙ omega (arith, t, ih)
-        | inr e ↦ let t = total_without article line lines kind e in
-            ap (λ v. cond v (kind line) 0 + sum_by_kind article lines) e ∙ omega (arith, t, ih)
-      ]
-
   -- an article passes what the article of each line does, or there is none of it
   passes_or_none : (p : List ℕ → Bool) (article : List ℕ) (lines : List ReceiptLine)
       → list_all (λ line. p line.gtin) lines ≡ true
@@ -54,11 +39,11 @@ module _ (kind : ReceiptLine → ℕ) where
       → sums_within (map (λ (line : ReceiptLine). record { gtin = line.gtin; quantity = kind line }) lines) ≡ true
       → total kind article lines < 2 ^ 32
   within article lines all =
-      let each : list_all (λ line. nat_le (sum_by_kind line.gtin lines) greatest) lines ≡ true =
+      let each : list_all (λ line. nat_le (sum_by_kind kind line.gtin lines) greatest) lines ≡ true =
       sym (list_all-map _ _ lines) ∙ all in
-      elim (passes_or_none (λ gtin. nat_le (sum_by_kind gtin lines) greatest) article lines each) [
-        | inl passes ↦ let t = sum_total article lines in
-            let l = leb-true (sum_by_kind article lines) greatest passes in
+      elim (passes_or_none (λ gtin. nat_le (sum_by_kind kind gtin lines) greatest) article lines each) [
+        | inl passes ↦ let t = sum_total kind article lines in
+            let l = leb-true (sum_by_kind kind article lines) greatest passes in
             omega (arith, t, l)
         | inr none ↦ omega (arith, none)
       ]

@@ -7,8 +7,9 @@ use Rattle.edi_goods.specs.declared.receipt.ReceiptLine.{ReceiptLine}
 use Rattle.hub_tables.specs.Rows.{same}
 use Rattle.hub_tables.specs.declared.change.Change.{Change}
 use Rattle.hub_tables.specs.declared.change.Change.TheVariants.{AddReceipt}
-use Rattle.hub_tables.proofs.Lists.{decide, same_if, all_weaker, all_filter}
+use Rattle.hub_tables.proofs.Lists.{decide, same_if, all_weaker}
 use Rattle.hub_rules.specs.ReceiptRules.{gtins, total, new_receipt}
+use Rattle.hub_rules.proofs.Totalled.{all_gtins}
 use Rattle.hub_judges.specs.Totals.{nothing, with_line, total_from}
 use Rattle.hub_judges.specs.declared.totals.Total.{Total}
 use Rattle.hub_judges.proofs.Summed.{from_some, over_lines, rest_from}
@@ -20,12 +21,6 @@ left totals lines = filter (λ gtin. is_some (totals gtin)) (gtins lines)
 keeps_all : {X : Type 0} (p : X → Bool) (xs : List X) → AllByRecursion (λ x. p x ≡ true) xs → filter p xs ≡ xs
 keeps_all p [] all = refl
 keeps_all p (x ∷ xs) all = ap₂ (λ v rest. cond v (x ∷ rest) rest) all.0 (keeps_all p xs all.1)
-
-pub all_gtins : (P : List ℕ → Type 0) (lines : List ReceiptLine) → AllByRecursion (λ line. P line.gtin) lines
-    → AllByRecursion P (gtins lines)
-all_gtins P [] all = tt
-all_gtins P (line ∷ lines) all =
-    (all.0, all_filter P (λ gtin. not (same gtin line.gtin)) (gtins lines) (all_gtins P lines all.1))
 
 abbrev Comes : List ReceiptLine → List ℕ → Type 0
 Comes lines article = is_some (total_from None article lines) ≡ true

@@ -1,13 +1,13 @@
 -- Totals line by line, and over all lines.
 use Rattle.std.proofs.Common.{◌≡◌, ℕ, ◌+◌, ◌^◌, ◌<◌, true, false, cond, ◌⊎◌, inl, inr, List, [], ◌∷◌, length}
-use Rattle.std.proofs.Common.{get_or, drop, filter, sum_by, Option, Some, None, refl, sym, ◌∙◌, ap, arith}
+use Rattle.std.proofs.Common.{get_or, drop, Option, Some, None, refl, sym, ◌∙◌, ap, arith}
 use Rattle.std.specs.Option.{unwrap_or}
 use Rattle.std.proofs.lemmas.List.{drop_more}
-use Rattle.std.proofs.lemmas.List.Sums.{sum_by-cons}
 use Rattle.edi_goods.specs.declared.receipt.ReceiptLine.{ReceiptLine}
 use Rattle.hub_tables.specs.Rows.{same}
 use Rattle.hub_tables.proofs.Lists.{decide, same_is, same_if}
 use Rattle.hub_rules.specs.ReceiptRules.{total}
+use Rattle.hub_rules.proofs.Totalled.{total_with, total_without}
 use Rattle.hub_judges.specs.Totals.{RowHolds, nothing, with_line, total_from}
 use Rattle.hub_judges.specs.declared.totals.Total.{Total}
 
@@ -27,28 +27,13 @@ alike a b accepted returned destroyed =
     ∙ ap (made b.accepted b.returned) destroyed
 
 module _ (article : List ℕ) (line : ReceiptLine) (lines : List ReceiptLine) where
-  pub total_with : (kind : ReceiptLine → ℕ) → same line.gtin article ≡ true → total kind article
-      (line ∷ lines) ≡ kind line + total kind article lines
-  total_with kind e =
-      ap (λ v.
-      sum_by kind (cond v (line ∷ filter (λ line. same line.gtin article) lines)
-      (filter (λ line. same line.gtin article) lines))) e
-      ∙ sum_by-cons kind line (filter (λ line. same line.gtin article) lines)
-
-  pub total_without : (kind : ReceiptLine → ℕ) → same line.gtin article ≡ false → total kind article
-      (line ∷ lines) ≡ total kind article lines
-  total_without kind e =
-      ap (λ v.
-      sum_by kind (cond v (line ∷ filter (λ line. same line.gtin article) lines)
-      (filter (λ line. same line.gtin article) lines))) e
-
   lines_with : (before : Total)
       → same line.gtin article ≡ true
       → with_lines (with_line before line) article lines ≡ with_lines before article (line ∷ lines)
   lines_with before e =
-      let a = total_with (λ line. line.accepted) e in
-      let r = total_with (λ line. line.returned) e in
-      let d = total_with (λ line. line.destroyed) e in
+      let a = total_with article line lines (λ line. line.accepted) e in
+      let r = total_with article line lines (λ line. line.returned) e in
+      let d = total_with article line lines (λ line. line.destroyed) e in
       alike (with_lines (with_line before line) article lines) (with_lines before article (line ∷ lines))
       (omega (arith, a))
       (omega (arith, r)) (omega (arith, d))
@@ -56,9 +41,9 @@ module _ (article : List ℕ) (line : ReceiptLine) (lines : List ReceiptLine) wh
   lines_without : (before : Total) → same line.gtin article ≡ false
       → with_lines before article lines ≡ with_lines before article (line ∷ lines)
   lines_without before e =
-      let a = total_without (λ line. line.accepted) e in
-      let r = total_without (λ line. line.returned) e in
-      let d = total_without (λ line. line.destroyed) e in
+      let a = total_without article line lines (λ line. line.accepted) e in
+      let r = total_without article line lines (λ line. line.returned) e in
+      let d = total_without article line lines (λ line. line.destroyed) e in
       alike (with_lines before article lines) (with_lines before article (line ∷ lines)) (omega (arith, a))
       (omega (arith, r)) (omega (arith, d))
 

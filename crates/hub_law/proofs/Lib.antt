@@ -1,3 +1,4 @@
+pub use Rattle.hub_rules.proofs as HubRules
 pub mod Acting
 pub mod Acts
 pub mod Agreeing

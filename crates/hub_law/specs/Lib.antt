@@ -1,3 +1,5 @@
+pub use Rattle.hub_requests.specs as HubRequests
+pub use Rattle.hub_rules.specs as HubRules
 pub mod Again
 pub mod Alone
 pub mod CancelText

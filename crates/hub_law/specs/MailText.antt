@@ -2,7 +2,7 @@
 use Rattle.std.specs.Prelude.{ℕ, ◌==◌, nat_lt, List, [], ◌∷◌, ◌++◌, length, take, if◌then◌else◌, codes}
 use Rattle.std.specs.Fmt.{decimal}
 use Rattle.std.specs.List.{flat_map}
-use Rattle.edi_tokens.specs.Text.{una}
+use Rattle.edi_envelope.specs.EdiTokens.Text.{una}
 use Rattle.edi_envelope.specs.Mail.{text_around}
 use Rattle.hub_tables.specs.Cases.{kind_letter}
 use Rattle.hub_tables.specs.declared.cases.MailKind.TheVariants as kinds

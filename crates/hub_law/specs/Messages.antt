@@ -2,7 +2,7 @@
 -- whether an SSCC is used is asked of the tables themselves.
 use Rattle.std.specs.Prelude.{ℕ, List, [], map, if◌then◌else◌, codes, Option, Some}
 use Rattle.std.specs.Option.{unwrap_or}
-use Rattle.edi_tokens.specs.Text.{text}
+use Rattle.edi_envelope.specs.EdiTokens.Text.{text}
 use Rattle.edi_envelope.specs.Mail.{renumbered}
 use Rattle.edi_envelope.specs.declared.interchange.Interchange.{Interchange}
 use Rattle.edi_envelope.specs.declared.interchange.RawMessage.{RawMessage}

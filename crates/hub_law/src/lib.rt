@@ -9,6 +9,8 @@ mod sets;
 mod sound_acts;
 mod stops;
 
+pub use hub_requests::{Outcome, Reply};
+pub use hub_rules::{Cancel, Code, Join};
 pub use laws::{
     each_line_balances, hub_stays_sound, joins_are_apart, prefixes_matter, run_is_own, runs_alike,
     step_is_own,

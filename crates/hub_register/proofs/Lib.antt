@@ -1,3 +1,4 @@
+pub mod Compared
 mod Examples
 pub mod Inserted
 pub mod Kept

@@ -1,6 +1,6 @@
 ghost use Rattle.toml.specs.Parse.{parse_document};
 ghost use Rattle.toml.specs.View.{table_view};
-ghost use Rattle.std.specs.Prelude.{◌≡◌, ◌≢◌, ◌+◌, true, false, nat_lt, nat_le, IfOk, IfErr, OnOk};
+ghost use Rattle.std.specs.Prelude.{◌≡◌, ◌≢◌, ◌+◌, ◌==◌, not, filter, zip, true, false, nat_lt, nat_le, IfOk, IfErr, OnOk};
 ghost use Rattle.std.specs.Prelude.{OnErr, Ok, Err, Some, None, length, map, option_map, option_copied};
 ghost use Rattle.std.specs.BTreeMap.{keys, values};
 ghost use Rattle.std.specs.List.{list_all, list_any};
@@ -159,11 +159,19 @@ fn table_of(alloc: Global, text: &str) -> Result<Table, RegisterFault>
     }
 }
 
+// How many bytes of two texts of one length differ. All are compared, so the time does not tell where the first differs.
+fn differing(one: &[u8], other: &[u8]) -> usize
+    ensures { result ≡ length (filter (λ pair. not (pair.0 == pair.1)) (zip one.now other.now)) }
+{
+    one.iter().zip(other).filter(|(a, b)| a != b).count()
+}
+
 // Whether these bytes are a party's key.
 fn is_key(key: &Key, bytes: &[u8]) -> bool
     ensures { result ≡ bytes_eq key.now bytes.now }
 {
-    key.bytes() == bytes
+    let own = key.bytes();
+    own.len() == bytes.len() && differing(own, bytes) == 0
 }
 
 impl Register {

@@ -1,6 +1,6 @@
 //! What is asked of a hub.
 use edi_base::Items;
-use edi_envelope::Moment;
+use edi_moment::Moment;
 use gs1_ids::Gln;
 use hub_rules::{Cancel, Join};
 use std::fmt;

@@ -1,8 +1,8 @@
 -- Whether others used an SSCC matters to a verdict only under the supplier's prefixes.
 use Rattle.std.proofs.Common.{◌≡◌, ℕ, Bool, true, not, inl, inr, List, [], ◌∷◌, Option, Some, refl, ◌∙◌, ap}
 use Rattle.gs1_ids.specs.Sscc.{under_some}
-use Rattle.edi_goods.specs.declared.despatch.Despatch.{Despatch}
-use Rattle.edi_goods.specs.declared.despatch.Unit.{Unit as PalletUnit}
+use Rattle.edi_documents.specs.EdiGoods.declared.despatch.Despatch.{Despatch}
+use Rattle.edi_documents.specs.EdiGoods.declared.despatch.Unit.{Unit as PalletUnit}
 use Rattle.hub_parties.specs.declared.row.SupplierRow.{SupplierRow}
 use Rattle.hub_tables.specs.Change.{apply_all}
 use Rattle.hub_tables.specs.Rows.{same}

@@ -1,15 +1,15 @@
 -- The rules at small states.
 use Rattle.std.proofs.Common.{◌≡◌, ℕ, ◌+◌, nat_lt, Bool, true, false, List, [], ◌∷◌, ◌++◌}
 use Rattle.std.proofs.Common.{length, map, Option, Some, None, codes, refl, ◌∙◌}
-use Rattle.edi_orders.specs.declared.order.Order.{Order}
-use Rattle.edi_orders.specs.declared.response.Answer.TheVariants as answers
-use Rattle.edi_orders.specs.declared.response.LineAnswer.{LineAnswer}
-use Rattle.edi_orders.specs.declared.response.LineAnswer.TheVariants as says
-use Rattle.edi_orders.specs.declared.response.Response.{Response}
-use Rattle.edi_goods.specs.declared.despatch.DespatchLine.{DespatchLine}
-use Rattle.edi_goods.specs.declared.despatch.Unit.{Unit}
-use Rattle.edi_goods.specs.declared.receipt.ReceiptLine.{ReceiptLine}
-use Rattle.edi_goods.specs.declared.receipt.ReceiptUnit.{ReceiptUnit}
+use Rattle.edi_documents.specs.EdiOrders.declared.order.Order.{Order}
+use Rattle.edi_documents.specs.EdiOrders.declared.response.Answer.TheVariants as answers
+use Rattle.edi_documents.specs.EdiOrders.declared.response.LineAnswer.{LineAnswer}
+use Rattle.edi_documents.specs.EdiOrders.declared.response.LineAnswer.TheVariants as says
+use Rattle.edi_documents.specs.EdiOrders.declared.response.Response.{Response}
+use Rattle.edi_documents.specs.EdiGoods.declared.despatch.DespatchLine.{DespatchLine}
+use Rattle.edi_documents.specs.EdiGoods.declared.despatch.Unit.{Unit}
+use Rattle.edi_documents.specs.EdiGoods.declared.receipt.ReceiptLine.{ReceiptLine}
+use Rattle.edi_documents.specs.EdiGoods.declared.receipt.ReceiptUnit.{ReceiptUnit}
 use Rattle.hub_parties.specs.declared.row.SupplierRow.{SupplierRow}
 use Rattle.hub_tables.specs.Cases.{answer_letter, arrival_number}
 use Rattle.hub_tables.specs.Change.{apply_all}

@@ -4,9 +4,9 @@ use Rattle.std.specs.List.{AllByRecursion}
 use Rattle.std.proofs.lemmas.Bool.{not-false, or_parts, or_right}
 use Rattle.std.proofs.lemmas.Bool.Decides.{nat_tests}
 use Rattle.gs1_ids.specs.Sscc.{under_some}
-use Rattle.edi_goods.specs.declared.despatch.Despatch.{Despatch}
-use Rattle.edi_goods.specs.declared.despatch.DespatchLine.{DespatchLine}
-use Rattle.edi_goods.specs.declared.despatch.Unit.{Unit as PalletUnit}
+use Rattle.edi_documents.specs.EdiGoods.declared.despatch.Despatch.{Despatch}
+use Rattle.edi_documents.specs.EdiGoods.declared.despatch.DespatchLine.{DespatchLine}
+use Rattle.edi_documents.specs.EdiGoods.declared.despatch.Unit.{Unit as PalletUnit}
 use Rattle.hub_parties.specs.declared.row.SupplierRow.{SupplierRow}
 use Rattle.hub_tables.specs.Cases.{arrival_number}
 use Rattle.hub_tables.specs.Change.{apply}

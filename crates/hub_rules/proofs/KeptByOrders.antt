@@ -4,8 +4,8 @@ use Rattle.std.proofs.Common.{sum_by, refl, sym, ◌∙◌, ap, arith, length}
 use Rattle.std.specs.List.{AllByRecursion, list_any}
 use Rattle.std.proofs.lemmas.Bool.{and_parts, and_left, and_right, or_parts, or_cases, or_from, or_right}
 use Rattle.edi_base.specs.Seen.{has_number_twice}
-use Rattle.edi_orders.specs.declared.order.Order.{Order}
-use Rattle.edi_orders.specs.declared.order.OrderLine.{OrderLine}
+use Rattle.edi_documents.specs.EdiOrders.declared.order.Order.{Order}
+use Rattle.edi_documents.specs.EdiOrders.declared.order.OrderLine.{OrderLine}
 use Rattle.hub_parties.specs.declared.row.SupplierRow.{SupplierRow}
 use Rattle.hub_tables.specs.Cases.{answer_letter}
 use Rattle.hub_tables.specs.Change.{apply}

@@ -3,12 +3,12 @@ use Rattle.std.proofs.Common.{◌≡◌, ℕ, ◌+◌, ◌-◌, nat_lt, false, n
 use Rattle.std.specs.List.{AllByRecursion}
 use Rattle.std.proofs.lemmas.Bool.{or_parts}
 use Rattle.std.proofs.lemmas.Bool.Decides.{nat_tests}
-use Rattle.edi_orders.specs.declared.response.Answer.{Answer}
-use Rattle.edi_orders.specs.declared.response.Answer.TheVariants.{AllAccepted, AllRefused, Lines}
-use Rattle.edi_orders.specs.declared.response.AnswerLine.{AnswerLine}
-use Rattle.edi_orders.specs.declared.response.LineAnswer.{LineAnswer}
-use Rattle.edi_orders.specs.declared.response.LineAnswer.TheVariants.{Accepted, Refused, Changed}
-use Rattle.edi_orders.specs.declared.response.Response.{Response}
+use Rattle.edi_documents.specs.EdiOrders.declared.response.Answer.{Answer}
+use Rattle.edi_documents.specs.EdiOrders.declared.response.Answer.TheVariants.{AllAccepted, AllRefused, Lines}
+use Rattle.edi_documents.specs.EdiOrders.declared.response.AnswerLine.{AnswerLine}
+use Rattle.edi_documents.specs.EdiOrders.declared.response.LineAnswer.{LineAnswer}
+use Rattle.edi_documents.specs.EdiOrders.declared.response.LineAnswer.TheVariants.{Accepted, Refused, Changed}
+use Rattle.edi_documents.specs.EdiOrders.declared.response.Response.{Response}
 use Rattle.hub_parties.specs.declared.row.SupplierRow.{SupplierRow}
 use Rattle.hub_tables.specs.Change.{apply}
 use Rattle.hub_tables.specs.Rows.{same}

@@ -14,6 +14,7 @@ pub mod KeptByMessages
 pub mod KeptByOrders
 pub mod KeptByReceipts
 pub mod KeptByResponses
+pub mod KeptBySubmissions
 pub mod KeptLists
 pub mod KeptMail
 pub mod OnPallets
@@ -23,5 +24,6 @@ pub mod Prefixes
 pub mod Remembering
 pub mod Repeating
 pub mod Rising
+pub mod Totalled
 pub mod Verdicts
 pub mod Views

@@ -1,9 +1,9 @@
 -- The rules of DESADV (B05, B06, B09 to B13).
 use Rattle.std.specs.Prelude.{ℕ, ◌+◌, ◌-◌, nat_lt, Bool, ◌||◌, not, List, [], ◌∷◌}
 use Rattle.gs1_ids.specs.Sscc.{under_some}
-use Rattle.edi_goods.specs.declared.despatch.Despatch.{Despatch}
-use Rattle.edi_goods.specs.declared.despatch.DespatchLine.{DespatchLine}
-use Rattle.edi_goods.specs.declared.despatch.Unit.{Unit}
+use Rattle.edi_documents.specs.EdiGoods.declared.despatch.Despatch.{Despatch}
+use Rattle.edi_documents.specs.EdiGoods.declared.despatch.DespatchLine.{DespatchLine}
+use Rattle.edi_documents.specs.EdiGoods.declared.despatch.Unit.{Unit}
 use Rattle.hub_parties.specs.declared.row.SupplierRow.{SupplierRow}
 use Rattle.hub_tables.specs.Cases.{arrival_number}
 use Rattle.hub_tables.specs.Rows.{same}

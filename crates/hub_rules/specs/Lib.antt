@@ -12,3 +12,4 @@ pub mod RepeatRules
 pub mod ResponseRules
 pub mod Rules
 pub mod Sound
+pub mod Submissions

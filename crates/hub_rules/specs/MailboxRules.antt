@@ -1,6 +1,6 @@
 -- Entries of a mailbox, and the rule on their number (B16).
 use Rattle.std.specs.Prelude.{ℕ, ◌+◌, nat_lt, Bool, false, List}
-use Rattle.edi_envelope.specs.Mail.{last_number}
+use Rattle.hub_tables.specs.EdiEnvelope.Mail.{last_number}
 use Rattle.hub_tables.specs.Cases.{kind_letter, truth_number}
 use Rattle.hub_tables.specs.State.{next_mail}
 use Rattle.hub_tables.specs.Tables.{Tables}

@@ -1,7 +1,7 @@
 -- The rules of ORDERS (B04, and B16 of MailboxRules).
 use Rattle.std.specs.Prelude.{ℕ, List, ◌∷◌, length, map}
-use Rattle.edi_orders.specs.declared.order.Order.{Order}
-use Rattle.edi_orders.specs.declared.order.OrderLine.{OrderLine}
+use Rattle.edi_documents.specs.EdiOrders.declared.order.Order.{Order}
+use Rattle.edi_documents.specs.EdiOrders.declared.order.OrderLine.{OrderLine}
 use Rattle.hub_tables.specs.Cases.{answer_letter}
 use Rattle.hub_tables.specs.State.{knows_order}
 use Rattle.hub_tables.specs.declared.cases.Answered.TheVariants.{Waiting}

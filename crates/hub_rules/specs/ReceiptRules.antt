@@ -1,8 +1,8 @@
 -- The rules of RECADV (B14, B15, and B16 of MailboxRules).
 use Rattle.std.specs.Prelude.{ℕ, Bool, true, false, not, ◌&&◌, List, [], ◌∷◌, ◌++◌, length, map, filter, sum_by}
-use Rattle.edi_goods.specs.declared.receipt.Receipt.{Receipt}
-use Rattle.edi_goods.specs.declared.receipt.ReceiptLine.{ReceiptLine}
-use Rattle.edi_goods.specs.declared.receipt.ReceiptUnit.{ReceiptUnit}
+use Rattle.edi_documents.specs.EdiGoods.declared.receipt.Receipt.{Receipt}
+use Rattle.edi_documents.specs.EdiGoods.declared.receipt.ReceiptLine.{ReceiptLine}
+use Rattle.edi_documents.specs.EdiGoods.declared.receipt.ReceiptUnit.{ReceiptUnit}
 use Rattle.hub_tables.specs.Cases.{arrival_number}
 use Rattle.hub_tables.specs.Rows.{same}
 use Rattle.hub_tables.specs.State.{pallet_of, is_announced}

@@ -1,11 +1,11 @@
 -- The rules of ORDRSP (B05 to B09).
 use Rattle.std.specs.Prelude.{ℕ, ◌+◌, ◌-◌, nat_lt, Bool, true, false, ◌||◌, not, List, [], ◌∷◌, map, filter}
-use Rattle.edi_orders.specs.declared.response.Answer.{Answer}
-use Rattle.edi_orders.specs.declared.response.Answer.TheVariants.{AllAccepted, AllRefused, Lines}
-use Rattle.edi_orders.specs.declared.response.AnswerLine.{AnswerLine}
-use Rattle.edi_orders.specs.declared.response.LineAnswer.{LineAnswer}
-use Rattle.edi_orders.specs.declared.response.LineAnswer.TheVariants.{Accepted, Refused, Changed}
-use Rattle.edi_orders.specs.declared.response.Response.{Response}
+use Rattle.edi_documents.specs.EdiOrders.declared.response.Answer.{Answer}
+use Rattle.edi_documents.specs.EdiOrders.declared.response.Answer.TheVariants.{AllAccepted, AllRefused, Lines}
+use Rattle.edi_documents.specs.EdiOrders.declared.response.AnswerLine.{AnswerLine}
+use Rattle.edi_documents.specs.EdiOrders.declared.response.LineAnswer.{LineAnswer}
+use Rattle.edi_documents.specs.EdiOrders.declared.response.LineAnswer.TheVariants.{Accepted, Refused, Changed}
+use Rattle.edi_documents.specs.EdiOrders.declared.response.Response.{Response}
 use Rattle.hub_tables.specs.Cases.{answer_letter}
 use Rattle.hub_tables.specs.Rows.{same}
 use Rattle.hub_tables.specs.State.{knows_order, lines_of, line_of, despatched, waits}

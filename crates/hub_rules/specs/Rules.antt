@@ -1,10 +1,10 @@
 -- The rules of each message and of cancellations, from the first check on. A message is judged on the state of one
 -- supplier; where the supplier is not registered there is none.
 use Rattle.std.specs.Prelude.{ℕ, Bool, List, [], Option, Some}
-use Rattle.edi_orders.specs.declared.order.Order.{Order}
-use Rattle.edi_orders.specs.declared.response.Response.{Response}
-use Rattle.edi_goods.specs.declared.despatch.Despatch.{Despatch}
-use Rattle.edi_goods.specs.declared.receipt.Receipt.{Receipt}
+use Rattle.edi_documents.specs.EdiOrders.declared.order.Order.{Order}
+use Rattle.edi_documents.specs.EdiOrders.declared.response.Response.{Response}
+use Rattle.edi_documents.specs.EdiGoods.declared.despatch.Despatch.{Despatch}
+use Rattle.edi_documents.specs.EdiGoods.declared.receipt.Receipt.{Receipt}
 use Rattle.hub_parties.specs.declared.row.SupplierRow.{SupplierRow}
 use Rattle.hub_tables.specs.declared.cases.Side.{Side}
 use Rattle.hub_tables.specs.declared.cases.Side.TheVariants as sides

@@ -1,6 +1,6 @@
 //! What the rules ask of a message, beside what is read of it.
 use edi_base::Items;
-use edi_envelope::Moment;
+use edi_moment::Moment;
 
 /// A message that comes in, as the rules see it beside the record that is read of it: under which references, with
 /// which content, and when.

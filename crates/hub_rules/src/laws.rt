@@ -1,12 +1,7 @@
 //! Laws of the rules, each the contract of a function without a body.
-ghost use Rattle.std.specs.Prelude.{◌≡◌, ℕ, Bool, true, false, List, [], map, Some};
-ghost use Rattle.edi_base.specs.Seen.{has_number_twice};
+ghost use Rattle.std.specs.Prelude.{◌≡◌, ℕ, true, List, [], Some};
 ghost use Rattle.gs1_ids.specs.Sscc.{under_some};
 ghost use Rattle.gs1_ids.specs.Overlap.{PrefixFree};
-ghost use Rattle.edi_orders.specs.declared.order.Order.{Order};
-ghost use Rattle.edi_orders.specs.declared.response.Response.{Response};
-ghost use Rattle.edi_goods.specs.declared.despatch.Despatch.{Despatch};
-ghost use Rattle.edi_goods.specs.declared.receipt.Receipt.{Receipt};
 ghost use Rattle.hub_founding.specs.Fits.{fits, founded_beside};
 ghost use Rattle.hub_parties.specs.Rows.{RegisterRows, IsRegister, company_prefixes, supplier_row};
 ghost use Rattle.hub_parties.specs.declared.row.SupplierRow.{SupplierRow};
@@ -14,16 +9,11 @@ ghost use Rattle.hub_tables.specs.Change.{apply_all};
 ghost use Rattle.hub_tables.specs.Register.{register_of, founded};
 ghost use Rattle.hub_tables.specs.Sets.{Fit};
 ghost use Rattle.hub_tables.specs.Tables.{Tables, has_pallet, view, empty};
-ghost use Rattle.hub_tables.specs.declared.cases.Side.TheVariants as sides;
 ghost use Rattle.hub_tables.specs.declared.change.Change.{Change};
 ghost use Rattle.hub_rules.specs.JoinRules.{is_join, judge_join};
 ghost use Rattle.hub_rules.specs.Laws.{KeptOwn, SoundHub, Registered, PartiesRise, KeepsApart, JoinedBy, Remembers};
-ghost use Rattle.hub_rules.specs.PartyRules.{is_other_buyer};
-ghost use Rattle.hub_rules.specs.Rules.{referred_by, cancelled_by, judge_order, judge_response, judge_despatch};
-ghost use Rattle.hub_rules.specs.Rules.{judge_receipt, judge_cancel};
 ghost use Rattle.hub_rules.specs.Sound.{Rooted, Sound};
-ghost use Rattle.hub_rules.specs.declared.cancel.Cancel.{Cancel};
-ghost use Rattle.hub_rules.specs.declared.incoming.IncomingMessage.{IncomingMessage};
+ghost use Rattle.hub_rules.specs.Submissions.{Submission, IsRead, IsAdmitted, judge, reference_of, content_of};
 ghost use Rattle.hub_rules.specs.declared.verdict.Verdict.TheVariants.{Accept};
 
 /// An SSCC under a supplier's prefixes is that of a pallet exactly where it is that of a pallet of this supplier.
@@ -42,86 +32,28 @@ pub fn empty_tables_are_rooted()
 /// line of a content and the pallet of a receipt are there; numbers go on; and on every line ordered is open, refused,
 /// cancelled and despatched together.
 pub fn rules_keep_rows()
-    ensures order { (s : SupplierRow) (state : Tables) (retailer : List ℕ)
-        (incoming : IncomingMessage) (body : List ℕ)
-        (order : Order) (changes : List Change) →
-        KeptOwn s state → has_number_twice (map (λ line. line.line) order.lines) ≡ false →
-        judge_order retailer (Some s) incoming body order state ≡ Accept changes →
-        KeptOwn s (apply_all changes state) }
-    ensures response { (s : SupplierRow) (state : Tables) (retailer : List ℕ) (incoming : IncomingMessage)
-        (response : Response) (changes : List Change) →
-        KeptOwn s state → judge_response retailer (Some s) incoming response state ≡ Accept changes →
-        KeptOwn s (apply_all changes state) }
-    ensures despatch { (s : SupplierRow) (state : Tables) (retailer : List ℕ) (used : List ℕ → Bool)
-        (incoming : IncomingMessage) (despatch : Despatch) (changes : List Change) →
-        KeptOwn s state → judge_despatch retailer (Some s) used incoming despatch state ≡ Accept changes →
-        KeptOwn s (apply_all changes state) }
-    ensures receipt { (s : SupplierRow) (state : Tables) (retailer : List ℕ) (incoming : IncomingMessage)
-        (body : List ℕ) (receipt : Receipt) (changes : List Change) →
-        KeptOwn s state → judge_receipt retailer (Some s) incoming body receipt state ≡ Accept changes →
-        KeptOwn s (apply_all changes state) }
-    ensures cancel { (s : SupplierRow) (state : Tables) (content : List ℕ) (cancel : Cancel)
-        (changes : List Change) →
-        KeptOwn s state → judge_cancel (Some s) content cancel state ≡ Accept changes →
+    ensures { (s : SupplierRow) (state : Tables) (submission : Submission) (changes : List Change) →
+        KeptOwn s state → IsRead submission → judge (Some s) submission state ≡ Accept changes →
         KeptOwn s (apply_all changes state) }
 {}
 
 /// What the rules accept of what a supplier sees of sound tables are changes of this supplier's rows: the supplier sees
 /// them done to what it saw, what another sees stays, and the tables are sound after them.
 pub fn rules_keep_suppliers_apart()
-    ensures order { (suppliers : List SupplierRow) (s : SupplierRow) (t : Tables) (retailer : List ℕ)
-        (incoming : IncomingMessage) (body : List ℕ) (order : Order) (changes : List Change) →
-        Registered suppliers s t → has_number_twice (map (λ line. line.line) order.lines) ≡ false →
-        judge_order retailer (Some s) incoming body order (view s.gln t) ≡ Accept changes →
-        KeepsApart suppliers s t changes }
-    ensures response { (suppliers : List SupplierRow) (s : SupplierRow) (t : Tables) (retailer : List ℕ)
-        (incoming : IncomingMessage) (response : Response) (changes : List Change) →
-        Registered suppliers s t →
-        judge_response retailer (Some s) incoming response (view s.gln t) ≡ Accept changes →
-        KeepsApart suppliers s t changes }
-    ensures despatch { (suppliers : List SupplierRow) (s : SupplierRow) (t : Tables) (retailer : List ℕ)
-        (used : List ℕ → Bool) (incoming : IncomingMessage) (despatch : Despatch) (changes : List Change) →
-        Registered suppliers s t →
-        judge_despatch retailer (Some s) used incoming despatch (view s.gln t) ≡ Accept changes →
-        KeepsApart suppliers s t changes }
-    ensures receipt { (suppliers : List SupplierRow) (s : SupplierRow) (t : Tables) (retailer : List ℕ)
-        (incoming : IncomingMessage) (body : List ℕ) (receipt : Receipt) (changes : List Change) →
-        Registered suppliers s t →
-        judge_receipt retailer (Some s) incoming body receipt (view s.gln t) ≡ Accept changes →
-        KeepsApart suppliers s t changes }
-    ensures cancel { (suppliers : List SupplierRow) (s : SupplierRow) (t : Tables) (content : List ℕ)
-        (cancel : Cancel) (changes : List Change) →
-        Registered suppliers s t →
-        judge_cancel (Some s) content cancel (view s.gln t) ≡ Accept changes →
+    ensures { (suppliers : List SupplierRow) (s : SupplierRow) (t : Tables) (submission : Submission)
+        (changes : List Change) →
+        Registered suppliers s t → IsRead submission →
+        judge (Some s) submission (view s.gln t) ≡ Accept changes →
         KeepsApart suppliers s t changes }
 {}
 
 /// What the rules accept of what a supplier sees of sound tables fits these, where the rows of the register rise: they
 /// rise by their keys after it, and before rows go.
 pub fn accepted_changes_fit()
-    ensures order { (suppliers : List SupplierRow) (s : SupplierRow) (t : Tables) (retailer : List ℕ)
-        (incoming : IncomingMessage) (body : List ℕ) (order : Order) (changes : List Change) →
-        Registered suppliers s t → PartiesRise t →
-        has_number_twice (map (λ line. line.line) order.lines) ≡ false →
-        judge_order retailer (Some s) incoming body order (view s.gln t) ≡ Accept changes → Fit changes t }
-    ensures response { (suppliers : List SupplierRow) (s : SupplierRow) (t : Tables) (retailer : List ℕ)
-        (incoming : IncomingMessage) (response : Response) (changes : List Change) →
-        Registered suppliers s t → PartiesRise t →
-        judge_response retailer (Some s) incoming response (view s.gln t) ≡ Accept changes → Fit changes t }
-    ensures despatch { (suppliers : List SupplierRow) (s : SupplierRow) (t : Tables) (retailer : List ℕ)
-        (used : List ℕ → Bool) (incoming : IncomingMessage) (despatch : Despatch) (changes : List Change) →
-        Registered suppliers s t → PartiesRise t →
-        judge_despatch retailer (Some s) used incoming despatch (view s.gln t) ≡ Accept changes →
-        Fit changes t }
-    ensures receipt { (suppliers : List SupplierRow) (s : SupplierRow) (t : Tables) (retailer : List ℕ)
-        (incoming : IncomingMessage) (body : List ℕ) (receipt : Receipt) (changes : List Change) →
-        Registered suppliers s t → PartiesRise t →
-        judge_receipt retailer (Some s) incoming body receipt (view s.gln t) ≡ Accept changes →
-        Fit changes t }
-    ensures cancel { (suppliers : List SupplierRow) (s : SupplierRow) (t : Tables) (content : List ℕ)
-        (cancel : Cancel) (changes : List Change) →
-        Registered suppliers s t → PartiesRise t →
-        judge_cancel (Some s) content cancel (view s.gln t) ≡ Accept changes → Fit changes t }
+    ensures { (suppliers : List SupplierRow) (s : SupplierRow) (t : Tables) (submission : Submission)
+        (changes : List Change) →
+        Registered suppliers s t → PartiesRise t → IsRead submission →
+        judge (Some s) submission (view s.gln t) ≡ Accept changes → Fit changes t }
 {}
 
 /// A supplier that the register takes which sound tables hold is one more of their suppliers (B18, B19, B20): it sees what
@@ -149,28 +81,7 @@ pub fn migrated_tables_are_sound()
 /// What the rules accept with changes is remembered, by the first of these. They accept without any change exactly what
 /// is remembered with the same content, of no other buyer (B01) and of the supplier itself (B02).
 pub fn accepted_is_remembered()
-    ensures order { (s : SupplierRow) (state : Tables) (retailer : List ℕ)
-        (incoming : IncomingMessage) (body : List ℕ)
-        (order : Order) →
-        Remembers (referred_by s sides.Retailer incoming) incoming.content
-        ((is_other_buyer retailer (Some order.buyer) ≡ false) × (order.supplier ≡ s.gln)) state
-        (judge_order retailer (Some s) incoming body order state) }
-    ensures response { (s : SupplierRow) (state : Tables) (retailer : List ℕ) (incoming : IncomingMessage)
-        (response : Response) →
-        Remembers (referred_by s sides.Supplier incoming) incoming.content
-        ((is_other_buyer retailer (Some response.buyer) ≡ false) × (response.supplier ≡ s.gln)) state
-        (judge_response retailer (Some s) incoming response state) }
-    ensures despatch { (s : SupplierRow) (state : Tables) (retailer : List ℕ) (used : List ℕ → Bool)
-        (incoming : IncomingMessage) (despatch : Despatch) →
-        Remembers (referred_by s sides.Supplier incoming) incoming.content
-        ((is_other_buyer retailer despatch.buyer ≡ false) × (despatch.supplier ≡ s.gln)) state
-        (judge_despatch retailer (Some s) used incoming despatch state) }
-    ensures receipt { (s : SupplierRow) (state : Tables) (retailer : List ℕ) (incoming : IncomingMessage)
-        (body : List ℕ) (receipt : Receipt) →
-        Remembers (referred_by s sides.Retailer incoming) incoming.content
-        ((is_other_buyer retailer receipt.buyer ≡ false) × (receipt.supplier ≡ s.gln)) state
-        (judge_receipt retailer (Some s) incoming body receipt state) }
-    ensures cancel { (s : SupplierRow) (state : Tables) (content : List ℕ) (cancel : Cancel) →
-        Remembers (cancelled_by s cancel) content (cancel.supplier ≡ s.gln) state
-        (judge_cancel (Some s) content cancel state) }
+    ensures { (s : SupplierRow) (state : Tables) (submission : Submission) →
+        Remembers (reference_of s submission) (content_of submission) (IsAdmitted s submission) state
+        (judge (Some s) submission state) }
 {}

@@ -15,7 +15,7 @@ use Rattle.hub_http.specs.declared.serve.IoFault.TheVariants.{Read, Write}
 use Rattle.hub_http.specs.declared.serve.Served.{Served}
 use Rattle.hub_requests.specs.declared.reply.Reply.{Reply}
 use Rattle.hub_requests.specs.declared.request.Input.{Input}
-use Rattle.hub_core.specs.Steps.{input_of}
+use Rattle.hub_http.specs.HubCore.Steps.{input_of}
 use Rattle.hub_parties.specs.Rows.{RegisterRows}
 use Rattle.hub_serve.specs.Connections.{Adds, Closed, IsNew, Known, TakesFirst}
 use Rattle.hub_serve.specs.Line.{ending_of}

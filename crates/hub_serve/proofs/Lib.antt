@@ -3,3 +3,4 @@ mod Passing
 mod Running
 mod SoFar
 mod Using
+pub mod Stopping

@@ -4,20 +4,16 @@ use Rattle.std.proofs.lemmas.Grind.{flat_map-append}
 use Rattle.std.proofs.lemmas.List.{append-nil}
 use Rattle.hub_parties.specs.Rows.{RegisterRows}
 use Rattle.hub_tables.specs.Tables.{Tables}
-use Rattle.hub_rules.specs.Laws.{SoundHub}
+use Rattle.hub_http.specs.HubRules.Laws.{SoundHub}
 use Rattle.hub_requests.specs.declared.reply.Reply.{Reply}
 use Rattle.hub_requests.specs.declared.request.Input.{Input}
-use Rattle.hub_core.specs.Steps.{SoundWith, Stepped, Ran}
-use Rattle.hub_core.specs.Hub.{StaysSound}
+use Rattle.hub_http.specs.HubCore.Steps.{Stepped, Ran}
+use Rattle.hub_http.specs.HubCore.Hub.{StaysSound}
+use Rattle.hub_serve.specs.Broken.{RunsTo}
 use Rattle.hub_serve.specs.One.{Did, DoesTo}
 use Rattle.hub_serve.specs.Serve.{Asked, Connection, inputs, input_in, inputs_of, replies, replies_of}
 
 module _ {S : Type 0} (content : S → Tables) (honest : S → Type 0) (left : S → Tables → Type 0) where
-  -- the inputs of a run from the one hub to the other, and the replies to them
-  abbrev pub RunsTo : RegisterRows × S → RegisterRows × S → List Input → List Reply → Type 0
-  RunsTo old new inputs replies = honest new.1 → SoundWith old.0 (content old.1)
-      → Ran (content old.1) (content new.1) (left old.1) (left new.1) inputs replies
-
   module _
       (more : (old between new : S) (inputs : List Input) (replies : List Reply) (input : Input) (reply : Reply)
       → SoundHub (content old)
@@ -27,13 +23,13 @@ module _ {S : Type 0} (content : S → Tables) (honest : S → Type 0) (left : S
     runs_then : (old between new : RegisterRows × S) (earlier : List Input) (told : List Reply) (asked : Option Asked)
         → (honest new.1 → honest between.1)
         → StaysSound content honest old between
-        → RunsTo old between earlier told
+        → RunsTo content honest left old between earlier told
         → Did (DoesTo content honest left between new) (new ≡ between) asked
-        → RunsTo old new (earlier ++ inputs_of asked) (told ++ replies_of asked)
+        → RunsTo content honest left old new (earlier ++ inputs_of asked) (told ++ replies_of asked)
     runs_then old between new earlier told None was_honest stays ran did =
-        subst (λ (xs : List Input). RunsTo old new xs (told ++ [])) (sym (append-nil earlier))
-        (subst (λ (rs : List Reply). RunsTo old new earlier rs) (sym (append-nil told))
-        (subst (λ (hub : RegisterRows × S). RunsTo old hub earlier told) (sym did) ran))
+        subst (λ (xs : List Input). RunsTo content honest left old new xs (told ++ [])) (sym (append-nil earlier))
+        (subst (λ (rs : List Reply). RunsTo content honest left old new earlier rs) (sym (append-nil told))
+        (subst (λ (hub : RegisterRows × S). RunsTo content honest left old hub earlier told) (sym did) ran))
     runs_then old between new earlier told (Some asked) was_honest stays ran did = λ h sound.
         let before = ran (was_honest h) sound in
         let step = did h (stays (was_honest h) sound) in
@@ -43,9 +39,9 @@ module _ {S : Type 0} (content : S → Tables) (honest : S → Type 0) (left : S
     pub runs_more : (old between new : RegisterRows × S) (served : List Connection) (one : Connection)
         → (honest new.1 → honest between.1)
         → StaysSound content honest old between
-        → RunsTo old between (inputs served) (replies served)
+        → RunsTo content honest left old between (inputs served) (replies served)
         → Did (DoesTo content honest left between new) (new ≡ between) one.asked
-        → RunsTo old new (inputs (served ++ one ∷ [])) (replies (served ++ one ∷ []))
+        → RunsTo content honest left old new (inputs (served ++ one ∷ [])) (replies (served ++ one ∷ []))
     runs_more old between new served one was_honest stays ran did =
         let asks : inputs served ++ inputs_of one.asked ≡ inputs (served ++ one ∷ []) =
         ap (λ (xs : List Input). inputs served ++ xs) (sym (append-nil (inputs_of one.asked)))
@@ -53,6 +49,6 @@ module _ {S : Type 0} (content : S → Tables) (honest : S → Type 0) (left : S
         let tells : replies served ++ replies_of one.asked ≡ replies (served ++ one ∷ []) =
         ap (λ (rs : List Reply). replies served ++ rs) (sym (append-nil (replies_of one.asked)))
         ∙ sym (flat_map-append (λ (c : Connection). replies_of c.asked) served (one ∷ [])) in
-        subst (λ (rs : List Reply). RunsTo old new (inputs (served ++ one ∷ [])) rs) tells
-        (subst (λ (xs : List Input). RunsTo old new xs (replies served ++ replies_of one.asked)) asks
+        subst (λ (rs : List Reply). RunsTo content honest left old new (inputs (served ++ one ∷ [])) rs) tells
+        (subst (λ (xs : List Input). RunsTo content honest left old new xs (replies served ++ replies_of one.asked)) asks
         (runs_then old between new (inputs served) (replies served) one.asked was_honest stays ran did))

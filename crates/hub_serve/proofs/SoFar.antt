@@ -19,12 +19,13 @@ use Rattle.hub_serve.specs.Serve.{Connection, IsServed, Passes, Serves, Stops, e
 use Rattle.hub_serve.specs.Serve.{moments_in, replies, sent_in}
 use Rattle.hub_serve.proofs.Passing.{adds_still, are_first, passes_more, passes_none, takes_both, takes_still}
 
-pub record SoFar (Runs : List Input → List Reply → Type 0) (register : RegisterRows) (known rest : Known)
-    (old new : Option (List ℕ)) (failed after : Bool) (number status : ℕ) : Type 0 where
+pub record SoFar (Runs : List Input → List Reply → Type 0) (Stopped : List Connection → Type 0) (register : RegisterRows)
+    (known rest : Known) (old new : Option (List ℕ)) (failed after : Bool) (number status : ℕ) : Type 0 where
   pub served : List Connection
   pub passed : Passes known rest served
   pub each : AllByRecursion (IsServed register) served
   pub ran : Runs (inputs served) (replies served)
+  pub at_once : Stopped served
   pub counted : length served ≡ number
   pub written : Written old new failed after (lines_from 1 served)
   pub status_is : status ≡ greatest served
@@ -53,15 +54,17 @@ greatest_more status [] one = refl
 greatest_more status (first ∷ served) one = greatest_more (max status (ending_status first.ending)) served one
 
 -- no connection was served
-pub so_far_none : {Runs : List Input → List Reply → Type 0} {register : RegisterRows} {known : Known}
+pub so_far_none : {Runs : List Input → List Reply → Type 0} {Stopped : List Connection → Type 0} {register : RegisterRows} {known : Known}
     {old : Option (List ℕ)} {failed : Bool}
     → Runs [] []
-    → SoFar Runs register known known old old failed failed 0 0
-so_far_none {known = known} {old = old} ran = record {
+    → Stopped []
+    → SoFar Runs Stopped register known known old old failed failed 0 0
+so_far_none {known = known} {old = old} ran at_once = record {
   served = [];
   passed = passes_none known;
   each = tt;
   ran = ran;
+  at_once = at_once;
   counted = refl;
   written = record { bytes = Appends-nil old; flag = refl };
   status_is = refl;
@@ -99,13 +102,13 @@ stops_behind Over Unknown coming between rest sent first (inr one) =
     inr (one.0, (one.1.0, takes_both coming between rest sent (one.1.0 ∷ []) first one.1.1))
 
 module _ {register : RegisterRows} {known : Known} {old : Option (List ℕ)} {failed : Bool}
-    {Runs : List Input → List Reply → Type 0} {rest : Known} {number status : ℕ} where
+    {Runs : List Input → List Reply → Type 0} {Stopped : List Connection → Type 0} {rest : Known} {number status : ℕ} where
   -- all were served
-  pub whole : {Going Over Unknown : Type 0} {count : ℕ} {new : Option (List ℕ)} {after : Bool}
-      → SoFar Runs register known rest old new failed after number status
+  pub whole : {Going Over Unknown : Type 0} {Broke : List Connection → Type 0} {count : ℕ} {new : Option (List ℕ)} {after : Bool}
+      → SoFar Runs Stopped register known rest old new failed after number status
       → Going
       → number ≡ count
-      → Serves Runs register known rest Going Over Unknown count old new failed after status
+      → Serves Runs Stopped register known rest Going Over Unknown Broke count old new failed after status
   whole s going all = record {
     served = s.served;
     first = are_first known.coming rest.coming (sent_in s.served) s.passed.clients;
@@ -113,6 +116,7 @@ module _ {register : RegisterRows} {known : Known} {old : Option (List ℕ)} {fa
     ended_so = s.passed.closed;
     each = s.each;
     ran = s.ran;
+    at_once = s.at_once;
     ended =
         inl (record {
           passed = s.passed;
@@ -124,22 +128,24 @@ module _ {register : RegisterRows} {known : Known} {old : Option (List ℕ)} {fa
   }
 
   -- no more can be
-  pub cut_short : {Going Over Unknown : Type 0} {count : ℕ} {new : Option (List ℕ)} {after : Bool}
-      {After : List Input → List Reply → Type 0} {later : Known}
-      (s : SoFar Runs register known rest old new failed after number status)
+  pub cut_short : {Going Over Unknown : Type 0} {Broke : List Connection → Type 0} {count : ℕ} {new : Option (List ℕ)} {after : Bool}
+      {After : List Input → List Reply → Type 0} {Later : List Connection → Type 0} {later : Known}
+      (s : SoFar Runs Stopped register known rest old new failed after number status)
       → later.closed ≡ rest.closed
       → later.moments ≡ rest.moments
       → Stops Over Unknown rest.coming later.coming []
       → number < count
       → After (inputs s.served) (replies s.served)
-      → Serves After register known later Going Over Unknown count old new failed after 3
-  cut_short {Over = Over} {Unknown = Unknown} {count = count} {later = later} s still moments stopped fewer ran = record {
+      → Later s.served
+      → Serves After Later register known later Going Over Unknown Broke count old new failed after 3
+  cut_short {Over = Over} {Unknown = Unknown} {count = count} {later = later} s still moments stopped fewer ran at_once = record {
     served = s.served;
     first = are_first known.coming rest.coming (sent_in s.served) s.passed.clients;
     timed = are_first known.moments rest.moments (moments_in s.served) s.passed.moments;
     ended_so = adds_still known.closed rest.closed later.closed (ends_in s.served) s.passed.closed still;
     each = s.each;
     ran = ran;
+    at_once = at_once;
     ended =
         inr (inl (record {
           stopped = stops_behind Over Unknown known.coming rest.coming later.coming (sent_in s.served) s.passed.clients stopped;
@@ -150,41 +156,82 @@ module _ {register : RegisterRows} {known : Known} {old : Option (List ℕ)} {fa
         }));
   }
 
+  -- what was printed up to the line of one connection more
+  written_more : {E : Type 0} {between new : Option (List ℕ)} {middle after : Bool} {next : ℕ}
+      (s : SoFar Runs Stopped register known rest old between failed middle number status) (one : Connection)
+      → next ≡ number + 1
+      → (line : Result (Unit {0}) E)
+      → Writes line between new (line_of next one.ending)
+      → Flags line middle after
+      → is_err line ≡ false
+      → Written old new failed after (lines_from 1 (s.served ++ one ∷ []))
+  written_more {between = between} {new = new} {middle = middle} {after = after} {next = next} s one next_is line bytes flag right =
+      let counted = s.counted in
+      let at : 1 + length s.served ≡ next = omega (arith, counted, next_is) in
+      let written = printed between new middle after (line_of next one.ending) line bytes flag right in record {
+        bytes =
+            subst (λ (t : List ℕ). Appends old new t)
+            (ap (λ (n : ℕ). lines_from 1 s.served ++ line_of n one.ending) (sym at) ∙ lines_more 1 s.served one)
+            (Appends-trans old between new (lines_from 1 s.served) (line_of next one.ending) s.written.bytes written.bytes);
+        flag = written.flag ∙ s.written.flag;
+      }
+
   -- and then one connection more, of whose line this was printed
-  module _ {E : Type 0} {After : List Input → List Reply → Type 0} {later : Known} {between new : Option (List ℕ)}
-      {middle after : Bool} {next : ℕ} (s : SoFar Runs register known rest old between failed middle number status)
+  module _ {E : Type 0} {After : List Input → List Reply → Type 0} {Later : List Connection → Type 0} {later : Known} {between new : Option (List ℕ)}
+      {middle after : Bool} {next : ℕ} (s : SoFar Runs Stopped register known rest old between failed middle number status)
       (one : Connection) (passes : Passes rest later (one ∷ [])) (is : IsServed register one)
-      (ran : After (inputs (s.served ++ one ∷ [])) (replies (s.served ++ one ∷ []))) (next_is : next ≡ number + 1)
+      (ran : After (inputs (s.served ++ one ∷ [])) (replies (s.served ++ one ∷ [])))
+      (at_once : Later (s.served ++ one ∷ [])) (next_is : next ≡ number + 1)
       (line : Result (Unit {0}) E) (bytes : Writes line between new (line_of next one.ending)) (flag : Flags line middle after) where
     pub so_far_more : is_err line ≡ false
         → {greater : ℕ} (given : ℕ) → greater ≡ max status given
         → given ≡ ending_status one.ending
-        → SoFar After register known later old new failed after next greater
-    so_far_more whole given greater_is given_is =
+        → SoFar After Later register known later old new failed after next greater
+    so_far_more whole given greater_is given_is = record {
+      served = s.served ++ one ∷ [];
+      passed = passes_more known rest later s.served one s.passed passes;
+      each = all_more (IsServed register) s.served one s.each is;
+      ran = ran;
+      at_once = at_once;
+      counted = length_push s.served one ∙ ap (λ (n : ℕ). n + 1) s.counted ∙ sym next_is;
+      written = written_more s one next_is line bytes flag whole;
+      status_is =
+          greater_is
+          ∙ ap (λ (n : ℕ). max status n) given_is
+          ∙ ap (λ (n : ℕ). max n (ending_status one.ending)) s.status_is
+          ∙ greatest_more 0 s.served one;
+    }
+
+    -- the store has failed for good with it, and it was to stop then
+    pub gave_up : {Going Over Unknown : Type 0} {Broke : List Connection → Type 0} {count : ℕ} → is_err line ≡ false → Going
+        → number < count
+        → Broke (s.served ++ one ∷ [])
+        → Serves After Later register known later Going Over Unknown Broke count old new failed after 3
+    gave_up {count = count} whole going fewer broke =
         let counted = s.counted in
-        let at : 1 + length s.served ≡ next = omega (arith, counted, next_is) in
-        let written = printed between new middle after (line_of next one.ending) line bytes flag whole in record {
+        let more = length_push s.served one in
+        let within : length (s.served ++ one ∷ []) ≤ count = omega (arith, counted, more, fewer) in
+        let passed = passes_more known rest later s.served one s.passed passes in record {
           served = s.served ++ one ∷ [];
-          passed = passes_more known rest later s.served one s.passed passes;
+          first = are_first known.coming later.coming (sent_in (s.served ++ one ∷ [])) passed.clients;
+          timed = are_first known.moments later.moments (moments_in (s.served ++ one ∷ [])) passed.moments;
+          ended_so = passed.closed;
           each = all_more (IsServed register) s.served one s.each is;
           ran = ran;
-          counted = length_push s.served one ∙ ap (λ (n : ℕ). n + 1) counted ∙ sym next_is;
-          written = record {
-            bytes =
-                subst (λ (t : List ℕ). Appends old new t)
-                (ap (λ (n : ℕ). lines_from 1 s.served ++ line_of n one.ending) (sym at) ∙ lines_more 1 s.served one)
-                (Appends-trans old between new (lines_from 1 s.served) (line_of next one.ending) s.written.bytes written.bytes);
-            flag = written.flag ∙ s.written.flag;
-          };
-          status_is =
-              greater_is
-              ∙ ap (λ (n : ℕ). max status n) given_is
-              ∙ ap (λ (n : ℕ). max n (ending_status one.ending)) s.status_is
-              ∙ greatest_more 0 s.served one;
+          at_once = at_once;
+          ended =
+              inr (inr (inr (record {
+                passed = passed;
+                going = going;
+                counted = within;
+                written = written_more s one next_is line bytes flag whole;
+                broke = broke;
+                status_is = refl;
+              })));
         }
 
-    pub lost : {Going Over Unknown : Type 0} {count : ℕ} → is_err line ≡ true → Going → number < count
-        → Serves After register known later Going Over Unknown count old new failed after 3
+    pub lost : {Going Over Unknown : Type 0} {Broke : List Connection → Type 0} {count : ℕ} → is_err line ≡ true → Going → number < count
+        → Serves After Later register known later Going Over Unknown Broke count old new failed after 3
     lost {count = count} failed going fewer =
         let counted = s.counted in
         let more = length_push s.served one in
@@ -198,8 +245,9 @@ module _ {register : RegisterRows} {known : Known} {old : Option (List ℕ)} {fa
           ended_so = passed.closed;
           each = all_more (IsServed register) s.served one s.each is;
           ran = ran;
+          at_once = at_once;
           ended =
-              inr (inr (record {
+              inr (inr (inl (record {
                 passed = passed;
                 going = going;
                 earlier = s.served;
@@ -213,5 +261,5 @@ module _ {register : RegisterRows} {known : Known} {old : Option (List ℕ)} {fa
                   flag = cut.1;
                 };
                 status_is = refl;
-              }));
+              })));
         }

@@ -1,3 +1,4 @@
+pub mod Broken
 pub mod Connections
 pub mod Line
 pub mod Listening

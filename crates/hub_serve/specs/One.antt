@@ -1,6 +1,6 @@
 -- What one connection does.
 use Rattle.std.specs.Prelude.{◌≡◌, [], ◌∷◌, Option, Some, None, Result, Ok, Err}
-use Rattle.hub_core.specs.Steps.{SoundWith, Stepped}
+use Rattle.hub_http.specs.HubCore.Steps.{SoundWith, Stepped}
 use Rattle.hub_requests.specs.declared.reply.Reply.{Reply}
 use Rattle.hub_requests.specs.declared.request.Input.{Input}
 use Rattle.hub_parties.specs.Rows.{RegisterRows}

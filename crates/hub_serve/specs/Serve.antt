@@ -2,7 +2,7 @@
 use Rattle.std.specs.Prelude.{◌≡◌, ◌⊎◌, ⊤, ℕ, ◌+◌, ◌<◌, ◌≤◌, max, Bool, List, [], ◌∷◌, ◌++◌, length, map, flat_map}
 use Rattle.std.specs.Prelude.{fold, Option, Some, None, Result, Ok, Err, IfOk, IfSome, IsTrue, IsFalse}
 use Rattle.std.specs.List.{AllByRecursion}
-use Rattle.hub_core.specs.Steps.{input_of}
+use Rattle.hub_http.specs.HubCore.Steps.{input_of}
 use Rattle.hub_http.specs.Extent.{TellsEnd}
 use Rattle.hub_http.specs.Question.{Question}
 use Rattle.hub_http.specs.Serve.{Ended}
@@ -171,17 +171,29 @@ pub record Lost (known rest : Known) (Going : Type 0) (count : ℕ) (old new : O
   pub broken : BrokenOff old new after (lines_from 1 earlier) (line_of (length served) last.ending)
   pub status_is : status ≡ 3
 
+-- It was to end with the connection at which the store failed for good, and this is the last; those behind it still come.
+pub record GaveUp (known rest : Known) (Going Broke : Type 0) (count : ℕ) (old new : Option (List ℕ)) (failed after : Bool)
+    (served : List Connection) (status : ℕ) : Type 0 where
+  pub passed : Passes known rest served
+  pub going : Going
+  pub counted : length served ≤ count
+  pub written : Written old new failed after (lines_from 1 served)
+  pub broke : Broke
+  pub status_is : status ≡ 3
+
 -- Connections were served in their order, which are the first of those that come, at the moments that come, and these
--- were ended. What was asked of the hub in them, and the replies, are a run of it.
-pub record Serves (Runs : List Input → List Reply → Type 0) (register : RegisterRows) (known rest : Known)
-    (Going Over Unknown : Type 0) (count : ℕ) (old new : Option (List ℕ)) (failed after : Bool) (status : ℕ)
-    : Type 0 where
+-- were ended. What was asked of the hub in them, and the replies, are a run of it. Where serving is to stop, it did at once.
+pub record Serves (Runs : List Input → List Reply → Type 0) (Stopped : List Connection → Type 0) (register : RegisterRows)
+    (known rest : Known) (Going Over Unknown : Type 0) (Broke : List Connection → Type 0) (count : ℕ) (old new : Option (List ℕ))
+    (failed after : Bool) (status : ℕ) : Type 0 where
   pub served : List Connection
   pub first : AreFirst known.coming (sent_in served)
   pub timed : AreFirst known.moments (moments_in served)
   pub ended_so : Adds known.closed rest.closed (ends_in served)
   pub each : AllByRecursion (IsServed register) served
   pub ran : Runs (inputs served) (replies served)
+  pub at_once : Stopped served
   pub ended : Whole known rest Going count old new failed after served status
       ⊎ (CutShort known rest Over Unknown count old new failed after served status
-      ⊎ Lost known rest Going count old new after served status)
+      ⊎ (Lost known rest Going count old new after served status
+      ⊎ GaveUp known rest Going (Broke served) count old new failed after served status))

@@ -14,6 +14,6 @@ pub use hub_http::{Paths, Served};
 pub use line::{Ending, print_listening};
 pub use listening::Listening;
 pub use moments::{ClockMoments, NamedOr, moment_now};
-pub use serve::serve_on;
+pub use serve::{OnBroken, serve_on};
 pub use sockets::{Listener, NetListener, NetSocket, Socket};
 pub use timed::Timed;

@@ -1,7 +1,8 @@
 //! Connections served one after another.
-ghost use Rattle.std.specs.Prelude.{◌≡◌, IsTrue, [], OnErr, OnOk};
-ghost use Rattle.hub_core.specs.Steps.{Ran, SoundWith};
-ghost use Rattle.hub_core.specs.Hub.{StaysSound};
+ghost use Rattle.std.specs.Prelude.{◌≡◌, ◌≢◌, ◌⊎◌, IsTrue, true, false, [], None, OnErr, OnOk};
+ghost use Rattle.hub_http.specs.HubCore.Steps.{Ran, SoundWith};
+ghost use Rattle.hub_http.specs.HubCore.Hub.{StaysSound};
+ghost use Rattle.hub_serve.specs.Broken.{BrokeAtLast, StopsAtOnce, StopsBroken};
 ghost use Rattle.hub_serve.specs.Connections.{known};
 ghost use Rattle.hub_serve.specs.One.{ServesNext, DoesTo};
 ghost use Rattle.hub_serve.specs.Serve.{Serves, Stops};
@@ -10,10 +11,29 @@ use crate::connections::{Connections, Moments, NoConnection};
 use crate::line::{Ending, ending_of, print_line};
 use edi_base::Sink;
 use edi_base::exit::{DONE, FAILED};
-use hub_core::Hub;
-use hub_http::{Paths, serve_one};
+use hub_http::{Hub, Paths, serve_one};
 use hub_store::Store;
 use std::alloc::Global;
+
+/// What is done once the store has failed for good: it answers that fault until it is opened anew.
+#[derive(Clone, Copy, Debug, PartialEq, Eq)]
+pub enum OnBroken {
+    /// Further connections are served. A request that the store is asked for is answered 503.
+    ServeOn,
+    /// No more connections are served.
+    Stop,
+}
+
+// Whether the store has failed for good, and no more is served then.
+fn is_over<S: Store>(hub: &Hub<S>, on_broken: OnBroken) -> bool
+    ensures over { result ≡ true → StopsBroken on_broken (S.broken hub.now.1 ≢ None) }
+    ensures on { result ≡ false → on_broken ≡ OnBroken.Stop → S.broken hub.now.1 ≡ None }
+{
+    match on_broken {
+        OnBroken::ServeOn => false,
+        OnBroken::Stop => hub.fault().is_some(),
+    }
+}
 
 // No connection is served any more.
 #[derive(Clone, Copy)]
@@ -67,6 +87,8 @@ fn serve_next<L: Connections, S: Store, M: Moments>(
 ///
 /// Answers the exit status: 0 where all were answered 200; 3 where one failed or was answered 503, where no more could
 /// be taken or a moment was not known, and then no more are served, and where a line could not be written; else 1.
+/// Where it is to stop once the store has failed for good, the connection at which that happened is the last, and the
+/// status 3.
 pub fn serve_on<L: Connections, S: Store, M: Moments, W: Sink>(
     alloc: Global,
     paths: &Paths,
@@ -74,17 +96,21 @@ pub fn serve_on<L: Connections, S: Store, M: Moments, W: Sink>(
     hub: &mut Hub<S>,
     moments: &mut M,
     count: u64,
+    on_broken: OnBroken,
     out: &mut W,
 ) -> u8
     ensures served { Serves
         (λ inputs replies. S.honest hub.new.1 → SoundWith hub.old.0 (S.content hub.old.1) →
         Ran (S.content hub.old.1) (S.content hub.new.1) (S.left hub.old.1) (S.left hub.new.1) inputs replies)
+        (StopsAtOnce S.content S.honest S.left on_broken S.broken hub.old hub.new)
         hub.old.0 (known (L.coming connections.old) (L.closed connections.old) (M.coming moments.old))
         (known (L.coming connections.new) (L.closed connections.new) (M.coming moments.new))
         ((L.failed connections.new ≡ L.failed connections.old)
         × (M.failed moments.new ≡ M.failed moments.old))
-        (IsTrue (L.failed connections.new)) (IsTrue (M.failed moments.new)) count
+        (IsTrue (L.failed connections.new)) (IsTrue (M.failed moments.new))
+        (λ served. StopsBroken on_broken (BrokeAtLast S.content S.honest S.left S.broken hub.old hub.new served)) count
         (W.contents out.old) (W.contents out.new) (W.failed out.old) (W.failed out.new) result }
+    ensures goes_on { on_broken ≡ OnBroken.Stop → result ≢ 3 → (count ≡ 0) ⊎ (S.broken hub.new.1 ≡ None) }
     ensures held { StaysSound S.content S.honest hub.old hub.new }
     ensures register { hub.new.0 ≡ hub.old.0 }
     ensures was_honest { S.honest hub.new.1 → S.honest hub.old.1 }
@@ -102,6 +128,9 @@ pub fn serve_on<L: Connections, S: Store, M: Moments, W: Sink>(
             return FAILED;
         }
         greatest = greatest.max(ending.status());
+        if is_over(hub, on_broken) {
+            return FAILED;
+        }
     }
     greatest
 }

@@ -4,9 +4,9 @@ use Rattle.std.specs.Prelude.{ℕ, ◌+◌, ◌==◌, nat_lt, nat_le, Bool, ◌&
 use Rattle.std.specs.Prelude.{if◌then◌else◌}
 use Rattle.std.specs.List.{list_all, list_any}
 use Rattle.edi_base.specs.Limits.{has_length, is_printable, greatest}
-use Rattle.edi_segments.specs.Service.{is_decimal}
-use Rattle.edi_envelope.specs.Limits.{is_reference}
-use Rattle.edi_envelope.specs.Mail.{last_number}
+use Rattle.hub_tables.specs.EdiSegments.Service.{is_decimal}
+use Rattle.hub_tables.specs.EdiEnvelope.Limits.{is_reference}
+use Rattle.hub_tables.specs.EdiEnvelope.Mail.{last_number}
 use Rattle.edi_moment.specs.Moment.{last_moment}
 use Rattle.gs1_ids.specs.Digits.{is_key}
 use Rattle.gs1_ids.specs.Gln.{is_gln}

@@ -5,7 +5,7 @@ use crate::lists::lists;
 use edi_base::MemoryFault;
 use edi_envelope::Moment;
 use gs1_ids::{Gln, Prefix};
-use hub_core::{Hub, Join, Reply, Request, Role};
+use hub_commands::{Hub, Join, Reply, Request, Role};
 use hub_store::{Store, StoreFault};
 use hub_tables::{Change, PrefixRow};
 use std::alloc::{AllocError, Global};

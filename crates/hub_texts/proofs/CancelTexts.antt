@@ -14,7 +14,7 @@ use Rattle.edi_messages.specs.Values.{is_document_number}
 use Rattle.gs1_ids.specs.Gln.{is_gln}
 use Rattle.hub_law.specs.CancelText.{cancel_text}
 use Rattle.hub_law.specs.Widths.{line}
-use Rattle.hub_rules.specs.declared.cancel.Cancel.{Cancel}
+use Rattle.hub_law.specs.HubRules.declared.cancel.Cancel.{Cancel}
 use Rattle.hub_texts.specs.Cancel.{is_end, positive, cancel_with, cancel_in, cancel_of}
 use Rattle.hub_texts.specs.CancelLaw.{five_lines, Says}
 use Rattle.hub_texts.proofs.Cutting.{in_one_line, cut_line}

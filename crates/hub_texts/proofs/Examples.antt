@@ -1,7 +1,7 @@
 -- What bodies of cancellations say, computed.
 use Rattle.std.proofs.Common.{◌≡◌, ℕ, List, [], ◌∷◌, ◌++◌, Option, Some, None, codes, replicate, refl}
 use Rattle.std.specs.List.{flat_map}
-use Rattle.hub_rules.specs.declared.cancel.Cancel.{Cancel}
+use Rattle.hub_law.specs.HubRules.declared.cancel.Cancel.{Cancel}
 use Rattle.hub_law.specs.Widths.{line}
 use Rattle.hub_texts.specs.Cancel.{cancel_of}
 

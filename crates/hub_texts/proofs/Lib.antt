@@ -1,3 +1,4 @@
+pub use Rattle.hub_law.proofs.HubRules
 pub mod Appended
 pub mod Bounds
 pub mod CancelTexts

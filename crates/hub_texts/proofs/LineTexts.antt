@@ -6,7 +6,7 @@ use Rattle.std.proofs.lemmas.Grind.{common_steps}
 use Rattle.hub_tables.specs.State.{despatched}
 use Rattle.hub_tables.specs.Tables.{Tables}
 use Rattle.hub_tables.specs.declared.rows.LineRow.{LineRow}
-use Rattle.hub_rules.specs.Sound.{Balanced}
+use Rattle.hub_law.specs.HubRules.Sound.{Balanced}
 use Rattle.hub_law.specs.StatusText.{line_text}
 use Rattle.hub_law.specs.Widths.{left, right, line}
 use Rattle.hub_texts.specs.Lines.{rest_of, text_with}

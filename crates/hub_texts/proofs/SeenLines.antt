@@ -11,8 +11,8 @@ use Rattle.hub_tables.specs.Tables.{Tables, view}
 use Rattle.hub_tables.specs.declared.rows.LineRow.{LineRow}
 use Rattle.hub_tables.proofs.Lists.{all_passes, same_is}
 use Rattle.hub_order_lines.specs.Book.{place_cmp}
-use Rattle.hub_rules.specs.Sound.{Sound}
-use Rattle.hub_rules.proofs.Rising.{view_rises}
+use Rattle.hub_law.specs.HubRules.Sound.{Sound}
+use Rattle.hub_law.proofs.HubRules.Rising.{view_rises}
 
 abbrev OfOne : List ℕ → List LineRow → Type 0
 OfOne gln rows = AllByRecursion (λ (row : LineRow). same row.supplier gln ≡ true) rows

@@ -5,7 +5,7 @@ use Rattle.edi_base.specs.Limits.{are_digits, number_of}
 use Rattle.edi_envelope.specs.Limits.{is_reference}
 use Rattle.edi_messages.specs.Values.{is_document_number}
 use Rattle.gs1_ids.specs.Gln.{is_gln}
-use Rattle.hub_rules.specs.declared.cancel.Cancel.{Cancel}
+use Rattle.hub_law.specs.HubRules.declared.cancel.Cancel.{Cancel}
 
 -- the end of a line, LF
 abbrev pub is_end : ℕ → Bool

@@ -1,6 +1,6 @@
 -- What is decided of a message or a cancellation, in the words of the laws.
 use Rattle.edi_messages.specs.Fault as message_faults
-use Rattle.hub_rules.specs.Code as rules
+use Rattle.hub_law.specs.HubRules.Code as rules
 use Rattle.hub_law.specs.Told as law
 use Rattle.hub_texts.specs.declared.decision.Decision.{Decision}
 use Rattle.hub_texts.specs.declared.decision.Decision.TheVariants.{Accepted, Repeated, Refused, Unread}

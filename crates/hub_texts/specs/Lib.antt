@@ -1,3 +1,5 @@
+pub use Rattle.hub_law.specs.HubRequests
+pub use Rattle.hub_law.specs.HubRules
 pub mod Cancel
 pub mod CancelLaw
 pub mod Articles

@@ -13,7 +13,7 @@ ghost use Rattle.hub_texts.specs.Cancel.{cancel_of, is_end};
 use crate::fields::put_line;
 use edi_base::{Items, MemoryFault, all_printable, are_digits, copied, has_length, value_of};
 use gs1_ids::Gln;
-use hub_rules::Cancel;
+use hub_law::Cancel;
 use itoa::Buffer;
 use std::alloc::Global;
 

@@ -4,7 +4,7 @@ ghost use Rattle.hub_law.specs.Told as law;
 ghost use Rattle.hub_texts.specs.Decision.{told_of};
 
 use edi_messages::MessageFault;
-use hub_rules::Code;
+use hub_law::Code;
 
 /// What is told of a message or a cancellation.
 #[derive(Clone, Copy, Debug, PartialEq, Eq)]

@@ -6,9 +6,9 @@ ghost use Rattle.hub_parties.specs.declared.row.SupplierRow.{SupplierRow};
 ghost use Rattle.hub_parties.specs.KeyOrder.{Rises};
 ghost use Rattle.hub_tables.specs.Tables.{Tables, view};
 ghost use Rattle.hub_order_lines.specs.Book.{place_cmp};
-ghost use Rattle.hub_rules.specs.Sound.{Balanced, Sound};
+ghost use Rattle.hub_law.specs.HubRules.Sound.{Balanced, Sound};
 ghost use Rattle.hub_law.specs.CancelText.{cancel_text};
-ghost use Rattle.hub_rules.specs.declared.cancel.Cancel.{Cancel};
+ghost use Rattle.hub_law.specs.HubRules.declared.cancel.Cancel.{Cancel};
 ghost use Rattle.hub_texts.specs.Cancel.{cancel_of};
 ghost use Rattle.hub_texts.specs.CancelLaw.{Says};
 

@@ -2,7 +2,7 @@
 ghost use Rattle.std.specs.Prelude.{◌≡◌, ◌++◌, IfOk, OnOk};
 ghost use Rattle.std.specs.List.{AllByRecursion, flat_map};
 ghost use Rattle.hub_tables.specs.Tables.{Tables};
-ghost use Rattle.hub_rules.specs.Sound.{Balanced};
+ghost use Rattle.hub_law.specs.HubRules.Sound.{Balanced};
 ghost use Rattle.hub_law.specs.StatusText.{line_text};
 ghost use Rattle.hub_texts.specs.Lines as spec;
 

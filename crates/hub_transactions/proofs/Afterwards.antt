@@ -2,7 +2,7 @@
 use Rattle.std.proofs.Common.{◌≡◌, inl, inr, Result, Ok, Err, sym, subst, ap, ◌∙◌}
 use Rattle.hub_tables.specs.Tables.{Tables}
 use Rattle.hub_store.specs.declared.fault.StoreFault.{StoreFault}
-use Rattle.hub_transactions.specs.Acts.{Stays, Carried}
+use Rattle.hub_acts.specs.Acts.{Stays, Carried}
 
 module _ {S X Y : Type 0} (content : S → Tables) (honest : S → Type 0) (left : S → Tables → Type 0) (old middle new : S)
     (act judged : Tables → Y × Tables) (seen : X → Y) (fits : Tables → Type 0)

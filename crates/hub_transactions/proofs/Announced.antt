@@ -14,7 +14,7 @@ use Rattle.hub_tables.specs.declared.rows.PalletRow.{PalletRow}
 use Rattle.hub_tables.specs.declared.rows.ReceiptRow.{ReceiptRow}
 use Rattle.hub_tables.proofs.Lists.{decide, same_is, same_if}
 use Rattle.hub_rules.specs.Sound.{Kept, Single, same_sscc, was_received}
-use Rattle.hub_texts.specs.Totals.{IsUnclean, pieces_of}
+use Rattle.hub_acts.specs.HubTexts.Totals.{IsUnclean, pieces_of}
 use Rattle.hub_transactions.specs.Status.{NoneReceived, PalletUnclean, SeesPallet}
 
 none_of : {X : Type 0} (p q : X → Bool) (xs : List X) → ((x : X) → p x ≡ false → q x ≡ false) → list_any p xs ≡ false → list_any q xs

@@ -12,9 +12,9 @@ use Rattle.edi_messages.specs.Values.{is_document_number}
 use Rattle.gs1_ids.specs.Gln.{is_gln}
 use Rattle.hub_store.specs.Clean.{is_line, is_quantity}
 use Rattle.hub_rules.specs.declared.cancel.Cancel.{Cancel}
-use Rattle.hub_texts.specs.Cancel.{is_end, positive, cancel_with, cancel_in, cancel_of}
-use Rattle.hub_transactions.specs.Clean.{WithinCancel}
-use Rattle.hub_transactions.proofs.ReadWithin.{when_some}
+use Rattle.hub_acts.specs.HubTexts.Cancel.{is_end, positive, cancel_with, cancel_in, cancel_of}
+use Rattle.hub_acts.specs.HubClean.Clean.{WithinCancel}
+use Rattle.hub_acts.proofs.HubClean.ReadWithin.{when_some}
 
 positive_within : (most : ℕ) (digits : List ℕ) (n : ℕ) → positive most digits ≡ Some n → (1 ≤ n) × (n < 10 ^ most)
 positive_within most digits n h =

@@ -6,10 +6,10 @@ use Rattle.hub_store.specs.declared.fault.LastingFault.{LastingFault}
 use Rattle.hub_store.specs.declared.fault.StoreFault.{StoreFault}
 use Rattle.hub_store.specs.declared.fault.StoreFault.TheVariants.{Memory, Disk, Unclean, Version}
 use Rattle.hub_tables.specs.Tables.{Tables}
-use Rattle.hub_law.specs.Told.{Act}
-use Rattle.hub_texts.specs.Decision.{told_of}
-use Rattle.hub_texts.specs.declared.decision.Decision.{Decision}
-use Rattle.hub_transactions.specs.Acts.{BreaksBy, FailsWith, OfAny}
+use Rattle.hub_acts.specs.HubLaw.Told.{Act}
+use Rattle.hub_acts.specs.HubTexts.Decision.{told_of}
+use Rattle.hub_acts.specs.HubTexts.declared.decision.Decision.{Decision}
+use Rattle.hub_acts.specs.Acts.{BreaksBy, FailsWith, OfAny}
 use Rattle.hub_transactions.specs.Judged.{UnreadOf, act_of}
 use Rattle.hub_transactions.specs.declared.judged.Judged.{Judged}
 

@@ -11,7 +11,7 @@ use Rattle.hub_rules.specs.declared.code.Code.{Code}
 use Rattle.hub_rules.specs.declared.verdict.Verdict.{Verdict}
 use Rattle.hub_rules.specs.declared.verdict.Verdict.TheVariants.{Accept, Refuse}
 use Rattle.hub_rules.proofs.Prefixes.{gln_found}
-use Rattle.hub_transactions.specs.Judged.{VerdictFits}
+use Rattle.hub_acts.specs.Verdicts.{VerdictFits}
 
 pub refused_fits : (test : Bool) (first second : Code) (t : Tables) → VerdictFits (refuse_if test first (Refuse second)) t
 refused_fits true first second t = tt

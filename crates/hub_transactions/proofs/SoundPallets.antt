@@ -21,7 +21,7 @@ use Rattle.gs1_ids.specs.Digits.{is_key}
 use Rattle.hub_store.specs.Clean.{clean_content, is_within, is_number, is_line, is_quantity}
 use Rattle.hub_rules.specs.Sound.{knows_line}
 use Rattle.hub_tables.proofs.KeyOrder.{rises_filter}
-use Rattle.hub_texts.specs.Articles.{article_among}
+use Rattle.hub_acts.specs.HubTexts.Articles.{article_among}
 
 -- the line that a content names is there
 there_is : (number : List ℕ) (n : ℕ) (lines : List LineRow)

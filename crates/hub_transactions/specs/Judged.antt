@@ -6,15 +6,13 @@ use Rattle.edi_envelope.specs.declared.interchange.RawMessage.{RawMessage}
 use Rattle.hub_parties.specs.Rows.{Parties, RegisterRows, parties_of, supplier_row}
 use Rattle.hub_parties.specs.declared.row.SupplierRow.{SupplierRow}
 use Rattle.hub_store.specs.declared.fault.StoreFault.{StoreFault}
-use Rattle.hub_tables.specs.Sets.{Fit}
 use Rattle.hub_tables.specs.Tables.{Tables, view}
 use Rattle.hub_rules.specs.Laws.{SoundUnder, Registered, PartiesRise}
 use Rattle.hub_rules.specs.Sound.{Kept}
 use Rattle.hub_rules.specs.declared.incoming.IncomingMessage.{IncomingMessage}
-use Rattle.hub_rules.specs.declared.verdict.Verdict.{Verdict}
-use Rattle.hub_rules.specs.declared.verdict.Verdict.TheVariants.{Accept, Refuse}
-use Rattle.hub_law.specs.Messages.{named}
-use Rattle.hub_law.specs.Told.{Refused, Act, act}
+use Rattle.hub_acts.specs.HubLaw.Messages.{named}
+use Rattle.hub_acts.specs.HubLaw.Told.{Refused, Act, act}
+use Rattle.hub_acts.specs.Verdicts.{VerdictFits}
 use Rattle.hub_transactions.specs.declared.judged.Judged.{Judged}
 use Rattle.hub_transactions.specs.declared.judged.Judged.TheVariants.{Read, Unread}
 
@@ -24,10 +22,6 @@ act_of (Read verdict) t = act verdict t
 act_of (Unread fault) t = (Refused (message_faults.code_text fault), t)
 
 -- where there are changes, they fit the tables
-abbrev pub VerdictFits : Verdict → Tables → Type 0
-VerdictFits (Accept changes) t = Fit changes t
-VerdictFits (Refuse code) t = ⊤
-
 abbrev pub JudgedFits : Judged → Tables → Type 0
 JudgedFits (Read verdict) t = VerdictFits verdict t
 JudgedFits (Unread fault) t = ⊤

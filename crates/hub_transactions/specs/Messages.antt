@@ -2,10 +2,10 @@
 use Rattle.std.specs.Prelude.{◌≡◌, ℕ, ◌+◌, ◌≤◌, ◌∷◌, ◌++◌, length, Vec, vec_len, vec_capacity, Result, IfOk, OnErr}
 use Rattle.edi_envelope.specs.declared.interchange.RawMessage.{RawMessage}
 use Rattle.hub_store.specs.declared.fault.StoreFault.{StoreFault}
-use Rattle.hub_law.specs.Replies.{stopped_line, told_words}
-use Rattle.hub_law.specs.Widths.{line}
-use Rattle.hub_texts.specs.Decision.{told_of}
-use Rattle.hub_texts.specs.declared.decision.Decision.{Decision}
+use Rattle.hub_acts.specs.HubLaw.Replies.{stopped_line, told_words}
+use Rattle.hub_acts.specs.HubLaw.Widths.{line}
+use Rattle.hub_acts.specs.HubTexts.Decision.{told_of}
+use Rattle.hub_acts.specs.HubTexts.declared.decision.Decision.{Decision}
 
 -- it has room to tell that it is stopped
 abbrev pub MayStop : {Z : Type 0} → Vec ℕ Z → Type 0

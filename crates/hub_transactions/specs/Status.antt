@@ -6,7 +6,7 @@ use Rattle.hub_tables.specs.Tables.{Tables}
 use Rattle.hub_tables.specs.declared.rows.LineRow.{LineRow}
 use Rattle.hub_tables.specs.declared.rows.PalletRow.{PalletRow}
 use Rattle.hub_order_lines.specs.KnownLines.{steps_up}
-use Rattle.hub_texts.specs.Totals.{IsUnclean, pieces_of}
+use Rattle.hub_acts.specs.HubTexts.Totals.{IsUnclean, pieces_of}
 
 -- of a pallet that is announced nothing was received
 abbrev pub NoneReceived : Tables → PalletRow → Type 0

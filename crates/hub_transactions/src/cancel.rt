@@ -4,24 +4,24 @@ ghost use Rattle.hub_order_lines.specs.KnownLines.{AreUnclean};
 ghost use Rattle.hub_tables.specs.State.{lines_of};
 ghost use Rattle.hub_tables.specs.Tables.{view};
 ghost use Rattle.hub_rules.specs.Laws.{SoundUnder, PartiesRise};
-ghost use Rattle.hub_law.specs.Mark.{Whole};
-ghost use Rattle.hub_law.specs.Replies.{act_reply};
-ghost use Rattle.hub_law.specs.Requests.{cancel_named, answered, replied_by};
-ghost use Rattle.hub_law.specs.Told.{act, told};
-ghost use Rattle.hub_transactions.specs.Acts.{Carried, FailsWith, NoCause, Unharmed, any_answer, as_told, no_answer};
-ghost use Rattle.hub_transactions.specs.Clean.{WithinCancel};
-ghost use Rattle.hub_transactions.specs.Judged.{VerdictFits};
-ghost use Rattle.hub_transactions.specs.StaysClean.{StaysClean, VerdictClean};
+ghost use Rattle.hub_acts.specs.HubLaw.Mark.{Whole};
+ghost use Rattle.hub_acts.specs.HubLaw.Replies.{act_reply};
+ghost use Rattle.hub_acts.specs.HubLaw.Requests.{cancel_named, answered, replied_by};
+ghost use Rattle.hub_acts.specs.HubLaw.Told.{act, told};
+ghost use Rattle.hub_acts.specs.Acts.{Carried, FailsWith, NoCause, Unharmed, any_answer, as_told, no_answer};
+ghost use Rattle.hub_acts.specs.HubClean.Clean.{WithinCancel};
+ghost use Rattle.hub_acts.specs.Verdicts.{VerdictFits};
+ghost use Rattle.hub_acts.specs.HubClean.Clean.{VerdictClean};
+ghost use Rattle.hub_acts.specs.StaysClean.{StaysClean};
 
-use crate::carrying::{carry_out, reply_to_act, told_of_verdict};
 use crate::knowing::known_for_cancel;
 use crate::laws::lines_of_sound_tables_are_known;
+use hub_acts::texts::cancel_text;
+use hub_acts::{Reply, carry_out, reply_to_act, told_of_verdict};
 use hub_judges::{Cancel, Verdict, judge_cancel};
 use hub_register::Register;
-use hub_requests::Reply;
 use hub_rules::accepted_changes_fit;
 use hub_store::{Store, StoreFault};
-use hub_texts::cancel_text;
 use std::alloc::Global;
 
 // Carries out what comes of a cancellation, to which this is the reply.

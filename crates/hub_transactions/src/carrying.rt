@@ -1,58 +1,17 @@
-//! What comes of a message, a cancellation or a join is carried out.
-ghost use Rattle.std.specs.Prelude.{◌≡◌, ◌⊎◌, true, IfOk, OnOk, OnErr};
-ghost use Rattle.hub_tables.specs.Change.{apply_all};
-ghost use Rattle.hub_tables.specs.Sets.{Fit};
+//! What comes of a message is carried out.
+ghost use Rattle.std.specs.Prelude.{◌≡◌, IfOk};
 ghost use Rattle.hub_tables.specs.Tables.{Tables};
-ghost use Rattle.hub_store.specs.Calls.{have_places};
-ghost use Rattle.hub_store.specs.Clean.{are_clean};
-ghost use Rattle.hub_rules.specs.declared.verdict.Verdict.TheVariants.{Accept};
-ghost use Rattle.hub_law.specs.Replies.{act_reply};
-ghost use Rattle.hub_law.specs.Told.{act, told};
-ghost use Rattle.hub_transactions.specs.Acts.{Carried, FailsWith, NoCause, Unharmed, any_answer};
-ghost use Rattle.hub_transactions.specs.Judged.{act_of, VerdictFits, JudgedFits};
-ghost use Rattle.hub_transactions.specs.StaysClean.{JudgedClean, StaysClean, VerdictClean};
-ghost use Rattle.hub_texts.specs.Decision.{told_of};
+ghost use Rattle.hub_acts.specs.HubLaw.Told.{told};
+ghost use Rattle.hub_acts.specs.Acts.{Carried, FailsWith, NoCause, Unharmed, any_answer};
+ghost use Rattle.hub_transactions.specs.Judged.{act_of, JudgedFits};
+ghost use Rattle.hub_acts.specs.StaysClean.{StaysClean};
+ghost use Rattle.hub_transactions.specs.JudgesClean.{JudgedClean};
+ghost use Rattle.hub_acts.specs.HubTexts.Decision.{told_of};
 
 use crate::judged::Judged;
-use edi_base::MemoryFault;
-use hub_judges::Verdict;
-use hub_requests::{Outcome, Reply};
+use hub_acts::texts::Decision;
+use hub_acts::{carry_out, told_of_verdict};
 use hub_store::{Store, StoreFault};
-use hub_tables::Change;
-use hub_texts::{Decision, told_line};
-use std::alloc::Global;
-
-// What is told of a message that is accepted, with these changes.
-fn told_of_changes(changes: &[Change]) -> Decision
-    ensures { told (Accept changes.now) ≡ told_of result }
-{
-    if changes.is_empty() {
-        Decision::Repeated
-    } else {
-        Decision::Accepted
-    }
-}
-
-/// What is told of a verdict.
-pub(crate) fn told_of_verdict(verdict: &Verdict) -> Decision
-    ensures { told verdict.now ≡ told_of result }
-{
-    match verdict {
-        Verdict::Refuse(code) => Decision::Refused(*code),
-        Verdict::Accept(changes) => told_of_changes(changes.as_slice()),
-    }
-}
-
-/// The reply to one act that is no message: a cancellation, a join.
-pub(crate) fn reply_to_act(alloc: Global, told: Decision) -> Result<Reply, MemoryFault>
-    ensures { IfOk result (λ reply. reply ≡ act_reply (told_of told)) }
-{
-    Ok(Reply {
-        outcome: Outcome::Done,
-        refused: told.is_refused(),
-        body: told_line(alloc, told)?,
-    })
-}
 
 /// What is told of a message.
 pub(crate) fn told_of_judged(judged: &Judged) -> Decision
@@ -61,45 +20,6 @@ pub(crate) fn told_of_judged(judged: &Judged) -> Decision
     match judged {
         Judged::Read(verdict) => told_of_verdict(verdict),
         Judged::Unread(fault) => Decision::Unread(*fault),
-    }
-}
-
-// Makes the changes, where there are some.
-fn make<S: Store>(store: &mut S, changes: &[Change]) -> Result<(), StoreFault>
-    ensures done { Fit changes.now (S.content store.old) → S.honest store.new →
-        OnOk result (S.content store.new ≡ apply_all changes.now (S.content store.old)) }
-    ensures durable { S.honest store.new → OnOk result ((t : Tables) → S.left store.new t →
-        (t ≡ S.content store.new) ⊎ ((S.content store.new ≡ S.content store.old) × S.left store.old t)) }
-    ensures crash { S.honest store.new → OnErr result ((t : Tables) → S.left store.new t →
-        S.left store.old t ⊎ (t ≡ apply_all changes.now (S.content store.old))) }
-    ensures fails { FailsWith S.plain NoCause any_answer (S.broken store.old) (S.broken store.new) result }
-    ensures unharmed { Unharmed S.content S.honest store.old store.new result }
-    ensures clean { Fit changes.now (S.content store.old) → have_places changes.now (S.content store.old) ≡ true →
-        are_clean (apply_all changes.now (S.content store.old)) ≡ true →
-        StaysClean S.content S.honest S.broken store.old store.new result }
-{
-    if changes.is_empty() {
-        return Ok(());
-    }
-    store.commit(changes)
-}
-
-/// Carries out what the rules say.
-pub(crate) fn carry_out<S: Store>(store: &mut S, verdict: &Verdict) -> Result<Decision, StoreFault>
-    ensures carried { VerdictFits verdict.now (S.content store.old) →
-        Carried S.content S.honest S.left store.old store.new (act verdict.now) told_of result }
-    ensures told { IfOk result (λ seen. told verdict.now ≡ told_of seen) }
-    ensures fails { FailsWith S.plain NoCause any_answer (S.broken store.old) (S.broken store.new) result }
-    ensures unharmed { Unharmed S.content S.honest store.old store.new result }
-    ensures clean { VerdictFits verdict.now (S.content store.old) → VerdictClean verdict.now (S.content store.old) →
-        StaysClean S.content S.honest S.broken store.old store.new result }
-{
-    match verdict {
-        Verdict::Refuse(code) => Ok(Decision::Refused(*code)),
-        Verdict::Accept(changes) => {
-            make(store, changes.as_slice())?;
-            Ok(told_of_changes(changes.as_slice()))
-        }
     }
 }
 

@@ -8,7 +8,7 @@ ghost use Rattle.hub_store.specs.Lines.{lines_at};
 ghost use Rattle.hub_store.specs.declared.fault.StoreFault.TheVariants.{Unclean};
 ghost use Rattle.hub_rules.specs.Rules.{judge_despatch};
 ghost use Rattle.hub_judges.specs.Known.{TellsForDespatch};
-ghost use Rattle.hub_transactions.specs.Acts.{FailsWith, NoCause, Stays, any_answer, no_answer};
+ghost use Rattle.hub_acts.specs.Acts.{FailsWith, NoCause, Stays, any_answer, no_answer};
 ghost use Rattle.hub_order_lines.specs.Book.{Orders};
 ghost use Rattle.hub_order_lines.specs.KnownLines.{AreUnclean};
 ghost use Rattle.hub_order_lines.specs.KnownOrders.{is_kept, AddsOrder};

@@ -1,6 +1,6 @@
 //! What the rules ask of a message, beside what is read of it.
 ghost use Rattle.std.specs.Prelude.{◌≡◌, IfOk};
-ghost use Rattle.hub_law.specs.Messages.{incoming};
+ghost use Rattle.hub_acts.specs.HubLaw.Messages.{incoming};
 
 use edi_base::{Items, MemoryFault, copied};
 use edi_envelope::{Interchange, Moment, RawMessage};

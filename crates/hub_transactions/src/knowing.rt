@@ -11,7 +11,7 @@ ghost use Rattle.hub_rules.specs.Rules.{judge_response};
 ghost use Rattle.hub_rules.specs.Sound.{Kept};
 ghost use Rattle.hub_judges.specs.Known.{TellsDespatched, TellsForCancel, TellsForOrder, TellsForReceipt, TellsForResponse, TellsLines};
 ghost use Rattle.hub_judges.specs.Known.{TellsOrder};
-ghost use Rattle.hub_transactions.specs.Acts.{FailsWith, NoCause, Stays, any_answer, no_answer};
+ghost use Rattle.hub_acts.specs.Acts.{FailsWith, NoCause, Stays, any_answer, no_answer};
 ghost use Rattle.hub_transactions.specs.Named.{NamedLines};
 ghost use Rattle.hub_transactions.specs.Orders.{KeepsOrders, TellsAlike};
 

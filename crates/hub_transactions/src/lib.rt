@@ -1,29 +1,30 @@
-//! What one message, cancellation, join or mailbox mark does over a store: what of it is known is looked up, it is
-//! judged, and what comes of it is committed as one act.
+//! What one message or cancellation does over a store, and the status of a supplier: what of it is known is looked up,
+//! it is judged, and what comes of it is committed as one act.
 #![tactic(auto)]
 
 mod cancel;
 mod carrying;
 mod despatches;
 mod incoming;
-mod join;
 mod judged;
 mod keeping;
 mod knowing;
 mod laws;
-mod mailbox;
 mod messages;
 mod naming;
 mod numbering;
 mod status;
 
 pub use cancel::take_cancel;
-pub use join::take_join;
-pub use laws::{
-    accepted_changes_have_places, lines_of_sound_tables_are_known,
-    messages_opened_are_within_limits, messages_read_are_within_limits, rules_keep_rows_clean,
-    steps_keep_rows_clean,
+pub use hub_acts::texts::{
+    Decision, STOPPED, interchange_line, number_of, read_cancel, refused_line,
 };
-pub use mailbox::{mailbox_entry, mailbox_list, take_entry};
+pub use hub_acts::{
+    accepted_changes_have_places, mailbox_entry, mailbox_list, messages_opened_are_within_limits,
+    messages_read_are_within_limits, rules_keep_rows_clean, steps_keep_rows_clean, take_entry,
+    take_join,
+};
+pub use hub_order_lines::KnownOrders;
+pub use laws::{cancellations_read_are_within_limits, lines_of_sound_tables_are_known};
 pub use messages::{take_retailers_message, take_suppliers_message};
 pub use status::status_report;

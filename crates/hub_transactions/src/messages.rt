@@ -3,27 +3,28 @@ ghost use Rattle.std.specs.Prelude.{◌≡◌, OnOk};
 ghost use Rattle.hub_parties.specs.Rows.{parties_of};
 ghost use Rattle.hub_tables.specs.Tables.{Tables, view};
 ghost use Rattle.hub_rules.specs.Laws.{SoundUnder, Registered, PartiesRise};
-ghost use Rattle.hub_law.specs.Messages.{incoming, deliver_suppliers};
-ghost use Rattle.hub_law.specs.Requests.{deliver_named};
-ghost use Rattle.hub_transactions.specs.Acts.{Carried, FailsWith, NoCause, OfAny, Unharmed};
-ghost use Rattle.hub_transactions.specs.Clean.{WithinMessage};
+ghost use Rattle.hub_acts.specs.HubLaw.Messages.{incoming, deliver_suppliers};
+ghost use Rattle.hub_acts.specs.HubLaw.Requests.{deliver_named};
+ghost use Rattle.hub_acts.specs.Acts.{Carried, FailsWith, NoCause, OfAny, Unharmed};
+ghost use Rattle.hub_acts.specs.HubClean.Clean.{WithinMessage};
 ghost use Rattle.hub_transactions.specs.Judged.{act_of, JudgedFits};
 ghost use Rattle.hub_transactions.specs.Messages.{AddsLine};
 ghost use Rattle.hub_transactions.specs.Named.{MessageUnclean};
 ghost use Rattle.hub_transactions.specs.Orders.{KeepsOrders};
-ghost use Rattle.hub_transactions.specs.StaysClean.{JudgedClean, StaysClean};
-ghost use Rattle.hub_texts.specs.Decision.{told_of};
+ghost use Rattle.hub_acts.specs.StaysClean.{StaysClean};
+ghost use Rattle.hub_transactions.specs.JudgesClean.{JudgedClean};
+ghost use Rattle.hub_acts.specs.HubTexts.Decision.{told_of};
 
 use crate::carrying::{carry_out_judged, told_of_judged};
 use crate::incoming::incoming_of;
 use crate::judged::{Judged, judged_of_retailer, judged_of_supplier};
 use crate::keeping::follow_message;
 use edi_envelope::{Interchange, Moment, RawMessage};
+use hub_acts::texts::{Decision, STOPPED, message_line};
 use hub_order_lines::KnownOrders;
 use hub_parties::SupplierRow;
 use hub_register::Register;
 use hub_store::{Store, StoreFault};
-use hub_texts::{Decision, STOPPED, message_line};
 use std::alloc::Global;
 
 // Carries out what comes of a message, and puts its line after the others. Room for it and for the line `stopped` is taken

@@ -10,20 +10,19 @@ ghost use Rattle.hub_store.specs.Clean.{are_clean};
 ghost use Rattle.hub_store.specs.declared.fault.StoreFault.TheVariants.{Memory, Unclean};
 ghost use Rattle.hub_rules.specs.Sound.{Kept};
 ghost use Rattle.hub_order_lines.specs.Book.{place_cmp};
-ghost use Rattle.hub_law.specs.Replies.{done};
-ghost use Rattle.hub_law.specs.StatusText.{pallet_text, status_text};
-ghost use Rattle.hub_texts.specs.Totals.{IsUnclean};
-ghost use Rattle.hub_transactions.specs.Acts.{FailsWith, NoCause, Stays, any_answer, no_answer};
+ghost use Rattle.hub_acts.specs.HubLaw.Replies.{done};
+ghost use Rattle.hub_acts.specs.HubLaw.StatusText.{pallet_text, status_text};
+ghost use Rattle.hub_acts.specs.HubTexts.Totals.{IsUnclean};
+ghost use Rattle.hub_acts.specs.Acts.{FailsWith, NoCause, Stays, any_answer, no_answer};
 ghost use Rattle.hub_transactions.specs.Status.{PalletUnclean, SeesPallet, StatusUnclean};
 
-use crate::mailbox::done_reply;
 use edi_base::Items;
 use gs1_ids::Gln;
+use hub_acts::texts::{TextFault, with_lines, with_pallet};
+use hub_acts::{Reply, done_reply};
 use hub_order_lines::rise;
-use hub_requests::Reply;
 use hub_store::{Store, StoreFault};
 use hub_tables::{Arrival, ContentRow, LineRow, PalletRow, ReceiptRow};
-use hub_texts::{TextFault, with_lines, with_pallet};
 use std::alloc::Global;
 
 // A text with the lines of a pallet behind it.

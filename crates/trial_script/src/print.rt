@@ -1,8 +1,7 @@
 //! What a script prints.
 use crate::fault::ScriptFault;
 use edi_base::{Sink, WriteFault, write_bytes};
-use hub_core::{Outcome, Reply};
-use hub_http::{IoFault, Served};
+use hub_http::{IoFault, Outcome, Reply, Served};
 use hub_sql::FoundFault;
 use hub_store::StoreFault;
 use std::alloc::{AllocError, Global};

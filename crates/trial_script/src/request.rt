@@ -3,7 +3,7 @@ use crate::fault::ScriptFault;
 use crate::script::{Script, Words};
 use edi_base::copied;
 use gs1_ids::Prefix;
-use hub_core::{Join, Request, read_cancel};
+use hub_http::{Join, Request, read_cancel};
 use std::alloc::Global;
 
 // The number of a mailbox entry.

@@ -1,5 +1,5 @@
 use Rattle.std.proofs.Common.{rules, ◌≡◌, ℕ, List, map, ap, ◌∙◌}
-use Rattle.edi_segments.specs.declared.segment.Segment.{Segment}
+use Rattle.edi_messages.specs.EdiSegments.declared.segment.Segment.{Segment}
 use Rattle.edi_goods.specs.Despatch as spec
 use Rattle.edi_goods.specs.Units.{read_units}
 use Rattle.edi_goods.proofs.despatch.read_referred.Goals as goal

@@ -2,7 +2,7 @@ use Rattle.hub_tables.specs.Tables.{Tables}
 use Rattle.hub_rules.specs.Laws.{SoundUnder, PartiesRise}
 use Rattle.hub_law.specs.Messages.{incoming}
 use Rattle.hub_law.specs.Requests.{deliver_named}
-use Rattle.hub_texts.specs.Decision.{told_of}
+use Rattle.hub_transactions.specs.HubTexts.Decision.{told_of}
 use Rattle.hub_core.proofs.Callers.{holds_after, parties_rise}
 use Rattle.hub_core.proofs.upload.take_message.Goals as goal
 

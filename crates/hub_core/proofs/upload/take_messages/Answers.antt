@@ -9,9 +9,9 @@ use Rattle.hub_law.specs.Requests.{uploaded}
 use Rattle.hub_law.specs.Replies.{stopped_line, told_words}
 use Rattle.hub_law.specs.Widths.{line}
 use Rattle.hub_requests.specs.declared.reply.Outcome.TheVariants.{Stopped}
-use Rattle.hub_texts.specs.Decision.{told_of}
+use Rattle.hub_transactions.specs.HubTexts.Decision.{told_of}
 use Rattle.hub_transactions.specs.Acts.{OfAny}
-use Rattle.hub_order_lines.specs.Book.{Orders}
+use Rattle.hub_transactions.specs.HubOrderLines.Book.{Orders}
 use Rattle.hub_core.specs.Callers.{delivered, KeepsFor}
 use Rattle.hub_core.specs.Steps.{OneMore}
 use Rattle.hub_core.specs.Uploads.{DoneSoFar}

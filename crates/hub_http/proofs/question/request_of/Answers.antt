@@ -1,5 +1,5 @@
 use Rattle.std.proofs.Common.{◌∙◌, ap, sym}
-use Rattle.hub_texts.specs.Cancel.{cancel_of}
+use Rattle.hub_core.specs.HubTexts.Cancel.{cancel_of}
 use Rattle.hub_http.specs.Question.{request_with}
 use Rattle.hub_http.specs.Wording.{asked_as}
 use Rattle.hub_http.proofs.question.request_of.Goals as goal

@@ -1,33 +1,9 @@
 use Rattle.hub_tables.specs.Tables.{view}
 use Rattle.hub_rules.proofs.OwnChanges.{good_view, apart_from}
-use Rattle.hub_rules.proofs.KeptByCancels.{leads_cancel}
-use Rattle.hub_rules.proofs.KeptByDespatches.{leads_despatch}
-use Rattle.hub_rules.proofs.KeptByOrders.{leads_order}
-use Rattle.hub_rules.proofs.KeptByReceipts.{leads_receipt}
-use Rattle.hub_rules.proofs.KeptByResponses.{leads_response}
+use Rattle.hub_rules.proofs.KeptBySubmissions.{leads}
 use Rattle.hub_rules.proofs.laws.rules_keep_suppliers_apart.Goals as goal
 
-pub returns-clause-order : goal.returns-clause-order
-returns-clause-order c suppliers s t retailer incoming body order changes here single h =
+pub returns : goal.returns
+returns c suppliers s t submission changes here read h =
     apart_from suppliers here.free s here.known t here.sound changes
-    (leads_order s retailer incoming body order single (view s.gln t) changes (good_view suppliers s t here.sound) h)
-
-pub returns-clause-response : goal.returns-clause-response
-returns-clause-response c suppliers s t retailer incoming response changes here h =
-    apart_from suppliers here.free s here.known t here.sound changes
-    (leads_response s retailer incoming response (view s.gln t) changes (good_view suppliers s t here.sound) h)
-
-pub returns-clause-despatch : goal.returns-clause-despatch
-returns-clause-despatch c suppliers s t retailer used incoming despatch changes here h =
-    apart_from suppliers here.free s here.known t here.sound changes
-    (leads_despatch s retailer used incoming despatch (view s.gln t) changes (good_view suppliers s t here.sound) h)
-
-pub returns-clause-receipt : goal.returns-clause-receipt
-returns-clause-receipt c suppliers s t retailer incoming body receipt changes here h =
-    apart_from suppliers here.free s here.known t here.sound changes
-    (leads_receipt s retailer incoming body receipt (view s.gln t) changes (good_view suppliers s t here.sound) h)
-
-pub returns-clause-cancel : goal.returns-clause-cancel
-returns-clause-cancel c suppliers s t content cancel changes here h =
-    apart_from suppliers here.free s here.known t here.sound changes
-    (leads_cancel s content cancel (view s.gln t) changes (good_view suppliers s t here.sound) h)
+    (leads s submission read (view s.gln t) changes (good_view suppliers s t here.sound) h)

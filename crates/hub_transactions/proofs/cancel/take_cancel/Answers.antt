@@ -4,16 +4,18 @@ use Rattle.hub_tables.specs.State.{lines_of}
 use Rattle.hub_tables.specs.Tables.{Tables, view}
 use Rattle.hub_order_lines.specs.KnownLines.{AreUnclean}
 use Rattle.hub_rules.specs.Rules.{judge_cancel}
-use Rattle.hub_law.specs.CancelText.{cancel_text}
-use Rattle.hub_law.specs.Mark.{Whole}
-use Rattle.hub_law.specs.Replies.{act_reply}
-use Rattle.hub_law.specs.Requests.{cancel_named, answered, replied_by}
-use Rattle.hub_law.specs.Told.{act}
-use Rattle.hub_requests.specs.declared.reply.Reply.{Reply}
-use Rattle.hub_transactions.specs.Acts.{as_told}
-use Rattle.hub_transactions.specs.Judged.{VerdictFits}
-use Rattle.hub_transactions.specs.StaysClean.{VerdictClean}
-use Rattle.hub_transactions.proofs.CleanActs.{clean_after_looking, failed_stays, cancel_clean}
+use Rattle.hub_acts.specs.HubLaw.CancelText.{cancel_text}
+use Rattle.hub_acts.specs.HubLaw.Mark.{Whole}
+use Rattle.hub_acts.specs.HubLaw.Replies.{act_reply}
+use Rattle.hub_acts.specs.HubLaw.Requests.{cancel_named, answered, replied_by}
+use Rattle.hub_acts.specs.HubLaw.Told.{act}
+use Rattle.hub_acts.specs.HubRequests.declared.reply.Reply.{Reply}
+use Rattle.hub_acts.specs.Acts.{as_told}
+use Rattle.hub_acts.specs.Verdicts.{VerdictFits}
+use Rattle.hub_acts.specs.HubClean.Clean.{VerdictClean}
+use Rattle.hub_rules.specs.Submissions.{Cancels}
+use Rattle.hub_acts.proofs.HubClean.Verdicts.{cancel_clean}
+use Rattle.hub_acts.proofs.CleanActs.{clean_after_looking, failed_stays}
 use Rattle.hub_transactions.proofs.Fitted.{named_fits}
 use Rattle.hub_transactions.proofs.Afterwards.{after_looking}
 use Rattle.hub_transactions.proofs.cancel.take_cancel.Goals as goal
@@ -39,8 +41,8 @@ returns-clause-carried g c = λ hub rise.
     (λ honest. ap (λ verdict. replied_by act_reply (act verdict t)) (sym (verdict honest)))
     (λ honest. subst (λ verdict. VerdictFits verdict t) (sym (verdict honest)) (named_fits register.suppliers cancel.supplier t
     (λ supplier. judge_cancel supplier (cancel_text cancel) cancel) hub tt
-    (λ s here changes accepted. c.accepted_changes_fit.ensures.cancel register.suppliers s t (cancel_text cancel) cancel changes
-    here rise accepted)))
+    (λ s here changes accepted. c.accepted_changes_fit.ensures register.suppliers s t (Cancels (cancel_text cancel) cancel) changes
+    here rise tt accepted)))
     c.commit_and_reply.result c.commit_and_reply.ensures.carried
 
 pub returns-clause-clean : goal.returns-clause-clean
@@ -61,8 +63,8 @@ returns-clause-clean g c = λ hub rise within.
     (VerdictFits c.in_ok-verdict.verdict) (VerdictClean c.in_ok-verdict.verdict)
     (λ honest. subst (λ verdict. VerdictFits verdict t) (sym (verdict honest)) (named_fits register.suppliers cancel.supplier t
     (λ supplier. judge_cancel supplier (cancel_text cancel) cancel) hub tt
-    (λ s here changes accepted. c.accepted_changes_fit.ensures.cancel register.suppliers s t (cancel_text cancel) cancel changes
-    here rise accepted)))
+    (λ s here changes accepted. c.accepted_changes_fit.ensures register.suppliers s t (Cancels (cancel_text cancel) cancel) changes
+    here rise tt accepted)))
     (λ honest clean. subst (λ verdict. VerdictClean verdict t) (sym (verdict honest))
     (cancel_clean register t cancel c.supplier-supplier.ensures.register hub within clean))
     c.commit_and_reply.result c.commit_and_reply.ensures.clean

@@ -1,6 +1,6 @@
 use Rattle.std.proofs.Common.{◌≡◌, ◌++◌, map, drop}
 use Rattle.hub_tables.specs.Tables.{has_pallet}
-use Rattle.hub_transactions.specs.Acts.{Stays}
+use Rattle.hub_acts.specs.Acts.{Stays}
 use Rattle.hub_transactions.proofs.despatches.used_of.Given as goal
 
 abbrev pub invariant-loop-unit : goal.invariant-loop-unit

@@ -7,15 +7,19 @@ use Rattle.std.proofs.lemmas.Result.{IfOk-weaker}
 use Rattle.hub_rules.specs.declared.verdict.Verdict.{Verdict}
 use Rattle.hub_rules.specs.declared.verdict.Verdict.TheVariants.{Refuse}
 use Rattle.hub_tables.specs.Tables.{view, has_pallet}
-use Rattle.hub_law.specs.Told.{read_act}
+use Rattle.hub_acts.specs.HubLaw.Told.{read_act}
 use Rattle.edi_goods.specs.declared.despatch.Despatch.{Despatch}
 use Rattle.hub_order_lines.specs.Book.{Orders}
-use Rattle.hub_transactions.specs.Judged.{JudgedFits, VerdictFits}
+use Rattle.hub_acts.specs.Verdicts.{VerdictFits}
+use Rattle.hub_transactions.specs.Judged.{JudgedFits}
 use Rattle.hub_transactions.specs.Named.{NamedUnclean}
 use Rattle.hub_transactions.specs.Orders.{KeepsOrders}
-use Rattle.hub_transactions.specs.StaysClean.{VerdictClean}
+use Rattle.hub_acts.specs.HubClean.Clean.{VerdictClean}
 use Rattle.hub_transactions.specs.declared.judged.Judged.TheVariants.{Read}
-use Rattle.hub_transactions.proofs.CleanActs.{failed_clean, despatch_clean}
+use Rattle.edi_documents.specs.declared.document.Document.TheVariants as documents
+use Rattle.hub_acts.proofs.HubClean.Submitted.{of_supplier}
+use Rattle.hub_acts.proofs.HubClean.Verdicts.{despatch_clean}
+use Rattle.hub_transactions.proofs.Judging.{failed_clean}
 use Rattle.hub_transactions.proofs.Fitted.{verdict_fits}
 use Rattle.hub_transactions.proofs.Reading.{act_of_read, act_refused}
 use Rattle.hub_transactions.proofs.judged.judged_despatch.Goals as goal
@@ -46,8 +50,9 @@ returns-clause-judged g c = λ old. record {
       ∙ told.alike c.retailer-retailer.result.now (Some s)
       ∙ ap (λ gln. judge_despatch gln (Some s) (has_pallet t) c.args.incoming despatch (view s.gln t)) c.retailer-retailer.ensures.value in
       subst (λ verdict. VerdictFits verdict t) (sym verdict) (verdict_fits _ t (λ changes accepted.
-      c.accepted_changes_fit.ensures.despatch c.args.register.now.suppliers s t c.args.register.now.retailer (has_pallet t) c.args.incoming
-      despatch changes here rise accepted));
+      c.accepted_changes_fit.ensures c.args.register.now.suppliers s t
+      (of_supplier c.args.register.now.retailer (has_pallet t) c.args.incoming (documents.Despatch despatch)) changes here rise
+      tt accepted));
 }
 
 pub returns-clause-clean : goal.returns-clause-clean

@@ -8,15 +8,18 @@ use Rattle.hub_rules.specs.declared.code.Code.TheVariants as codes
 use Rattle.hub_rules.specs.Sound.{Kept}
 use Rattle.hub_rules.specs.declared.verdict.Verdict.{Verdict}
 use Rattle.hub_tables.specs.Tables.{view}
-use Rattle.hub_law.specs.Messages.{named, body_of}
-use Rattle.hub_law.specs.Told.{read_act}
+use Rattle.hub_acts.specs.HubLaw.Messages.{named, body_of}
+use Rattle.hub_acts.specs.HubLaw.Told.{read_act}
 use Rattle.edi_orders.specs.declared.order.Order.{Order}
 use Rattle.edi_orders.proofs.Read.{order_apart}
-use Rattle.hub_transactions.specs.Judged.{VerdictFits}
-use Rattle.hub_transactions.specs.StaysClean.{VerdictClean}
-use Rattle.hub_transactions.proofs.CleanActs.{order_clean}
+use Rattle.hub_acts.specs.Verdicts.{VerdictFits}
+use Rattle.hub_acts.specs.HubClean.Clean.{VerdictClean}
+use Rattle.edi_documents.specs.declared.document.Document.TheVariants as documents
+use Rattle.hub_acts.proofs.HubClean.Submitted.{of_retailer}
+use Rattle.hub_acts.proofs.HubClean.Verdicts.{order_clean}
 use Rattle.hub_transactions.proofs.Fitted.{named_fits, refused_fits}
-use Rattle.hub_transactions.proofs.Reading.{order_names, act_of_read}
+use Rattle.hub_acts.proofs.HubClean.Names.{order_names}
+use Rattle.hub_transactions.proofs.Reading.{act_of_read}
 use Rattle.hub_transactions.proofs.judged.judged_order.Goals as goal
 
 pub returns-clause-judged : goal.returns-clause-judged
@@ -53,8 +56,9 @@ returns-clause-judged g c = record {
       ∙ (λ i. judge_order (retailer i) (supplier i) c.args.incoming (body i) order (view order.supplier t)) in
       subst (λ verdict. VerdictFits verdict t) (sym verdict) (named_fits suppliers order.supplier t judge hub
       (refused_fits (is_other_buyer c.args.register.now.retailer (Some order.buyer)) codes.Buyer codes.Supplier t)
-      (λ s here changes accepted. c.accepted_changes_fit.ensures.order suppliers s t c.args.register.now.retailer
-      c.args.incoming (body_of message) order changes here rise (order_apart message order c.in-Ok.ensures.ok) accepted));
+      (λ s here changes accepted. c.accepted_changes_fit.ensures suppliers s t
+      (of_retailer c.args.register.now.retailer c.args.incoming (body_of message) (documents.Order order)) changes here rise
+      (order_apart message order c.in-Ok.ensures.ok) accepted));
 }
 
 pub returns-clause-clean : goal.returns-clause-clean

@@ -1,4 +1,4 @@
-use Rattle.std.proofs.Common.{rules, ◌≡◌, Some, Err, sym, subst, ap, ◌∙◌}
+use Rattle.std.proofs.Common.{rules, ◌≡◌, false, Some, Err, sym, subst, ap, ◌∙◌}
 use Rattle.hub_rules.specs.RepeatRules.{judge_once}
 use Rattle.hub_rules.specs.ResponseRules.{judge_new_response}
 use Rattle.hub_rules.specs.Rules.{judge_response, referred_by}
@@ -9,14 +9,18 @@ use Rattle.hub_rules.specs.declared.verdict.Verdict.TheVariants.{Refuse}
 use Rattle.hub_tables.specs.State.{lines_of}
 use Rattle.hub_tables.specs.Tables.{view}
 use Rattle.hub_order_lines.specs.KnownLines.{AreUnclean}
-use Rattle.hub_law.specs.Told.{read_act}
+use Rattle.hub_acts.specs.HubLaw.Told.{read_act}
 use Rattle.edi_orders.specs.declared.response.Response.{Response}
 use Rattle.hub_order_lines.specs.Book.{Orders}
-use Rattle.hub_transactions.specs.Judged.{JudgedFits, VerdictFits}
+use Rattle.hub_acts.specs.Verdicts.{VerdictFits}
+use Rattle.hub_transactions.specs.Judged.{JudgedFits}
 use Rattle.hub_transactions.specs.Orders.{KeepsOrders}
-use Rattle.hub_transactions.specs.StaysClean.{VerdictClean}
+use Rattle.hub_acts.specs.HubClean.Clean.{VerdictClean}
 use Rattle.hub_transactions.specs.declared.judged.Judged.TheVariants.{Read}
-use Rattle.hub_transactions.proofs.CleanActs.{failed_clean, response_clean}
+use Rattle.edi_documents.specs.declared.document.Document.TheVariants as documents
+use Rattle.hub_acts.proofs.HubClean.Submitted.{of_supplier}
+use Rattle.hub_acts.proofs.HubClean.Verdicts.{response_clean}
+use Rattle.hub_transactions.proofs.Judging.{failed_clean}
 use Rattle.hub_transactions.proofs.Fitted.{verdict_fits}
 use Rattle.hub_transactions.proofs.Reading.{act_of_read, act_refused}
 use Rattle.hub_transactions.proofs.judged.judged_response.Goals as goal
@@ -46,8 +50,9 @@ returns-clause-judged g c = λ old. record {
       ∙ told.alike c.retailer-retailer.result.now (Some s)
       ∙ ap (λ gln. judge_response gln (Some s) c.args.incoming response (view s.gln t)) c.retailer-retailer.ensures.value in
       subst (λ verdict. VerdictFits verdict t) (sym verdict) (verdict_fits _ t (λ changes accepted.
-      c.accepted_changes_fit.ensures.response c.args.register.now.suppliers s t c.args.register.now.retailer c.args.incoming
-      response changes here rise accepted));
+      c.accepted_changes_fit.ensures c.args.register.now.suppliers s t
+      (of_supplier c.args.register.now.retailer (λ sscc. false) c.args.incoming (documents.Response response)) changes here rise
+      tt accepted));
 }
 
 pub returns-clause-clean : goal.returns-clause-clean

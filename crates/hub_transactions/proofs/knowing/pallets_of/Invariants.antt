@@ -1,7 +1,7 @@
 use Rattle.std.proofs.Common.{◌≡◌, ◌++◌, map, drop}
 use Rattle.hub_tables.specs.State.{pallet_of}
 use Rattle.hub_tables.specs.Tables.{view}
-use Rattle.hub_transactions.specs.Acts.{Stays}
+use Rattle.hub_acts.specs.Acts.{Stays}
 use Rattle.hub_transactions.proofs.knowing.pallets_of.Given as goal
 
 abbrev pub invariant-loop-unit : goal.invariant-loop-unit

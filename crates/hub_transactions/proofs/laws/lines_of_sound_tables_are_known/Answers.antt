@@ -3,7 +3,7 @@ use Rattle.std.proofs.lemmas.Bool.{true≢false}
 use Rattle.hub_tables.specs.Rows.{same}
 use Rattle.hub_tables.specs.Tables.{view}
 use Rattle.hub_rules.proofs.Rising.{view_rises}
-use Rattle.hub_transactions.proofs.CleanRows.{clean_rows, clean_view}
+use Rattle.hub_acts.proofs.HubClean.CleanRows.{clean_rows, clean_view}
 use Rattle.hub_transactions.proofs.SoundLines.{steps_if_rise}
 use Rattle.hub_transactions.proofs.SoundPallets.{all_named_of, pieces_fit}
 use Rattle.hub_transactions.proofs.laws.lines_of_sound_tables_are_known.Goals as goal

@@ -1,7 +1,7 @@
 use Rattle.std.proofs.Common.{◌≡◌, ◌∷◌, ◌++◌, sym, ap, ◌∙◌, arith}
 use Rattle.std.proofs.lemmas.Grind.{common_steps}
-use Rattle.hub_law.specs.Replies.{told_words}
-use Rattle.hub_law.specs.Widths.{line}
+use Rattle.hub_acts.specs.HubLaw.Replies.{told_words}
+use Rattle.hub_acts.specs.HubLaw.Widths.{line}
 use Rattle.hub_transactions.proofs.messages.commit_and_tell.Goals as goal
 
 pub returns-clause-reply : goal.returns-clause-reply

@@ -2,14 +2,14 @@ use Rattle.std.proofs.Common.{rules, ◌≡◌, Ok, Err, sym, subst, ap, ◌∙�
 use Rattle.hub_rules.specs.declared.incoming.IncomingMessage.{IncomingMessage}
 use Rattle.hub_parties.specs.Rows.{parties_of}
 use Rattle.hub_tables.specs.Tables.{view}
-use Rattle.hub_law.specs.Messages.{incoming, deliver_suppliers}
-use Rattle.hub_texts.specs.Decision.{told_of}
-use Rattle.hub_transactions.specs.Acts.{FailsWith}
+use Rattle.hub_acts.specs.HubLaw.Messages.{incoming, deliver_suppliers}
+use Rattle.hub_acts.specs.HubTexts.Decision.{told_of}
+use Rattle.hub_acts.specs.Acts.{FailsWith}
 use Rattle.hub_transactions.specs.Named.{MessageUnclean}
-use Rattle.hub_transactions.specs.Clean.{WithinMessage}
+use Rattle.hub_acts.specs.HubClean.Clean.{WithinMessage}
 use Rattle.hub_transactions.specs.Judged.{act_of, JudgedFits, UnreadOf}
-use Rattle.hub_transactions.specs.StaysClean.{JudgedClean}
-use Rattle.hub_transactions.proofs.CleanActs.{clean_after_looking, failed_stays}
+use Rattle.hub_transactions.specs.JudgesClean.{JudgedClean}
+use Rattle.hub_acts.proofs.CleanActs.{clean_after_looking, failed_stays}
 use Rattle.hub_transactions.proofs.Afterwards.{after_looking}
 use Rattle.hub_transactions.proofs.Failing.{after_judging}
 use Rattle.hub_transactions.proofs.messages.take_suppliers_message.Goals as goal

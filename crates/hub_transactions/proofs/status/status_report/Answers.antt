@@ -5,8 +5,8 @@ use Rattle.hub_tables.specs.Tables.{view}
 use Rattle.hub_store.specs.Clean.{are_clean}
 use Rattle.hub_store.specs.declared.fault.StoreFault.TheVariants.{Unclean}
 use Rattle.hub_rules.specs.Sound.{Balanced}
-use Rattle.hub_law.specs.Replies.{done}
-use Rattle.hub_law.specs.StatusText.{line_text, pallet_text}
+use Rattle.hub_acts.specs.HubLaw.Replies.{done}
+use Rattle.hub_acts.specs.HubLaw.StatusText.{line_text, pallet_text}
 use Rattle.hub_transactions.specs.Status.{PalletUnclean, SeesPallet, StatusUnclean}
 use Rattle.hub_transactions.proofs.Announced.{sees_pallet, unclean_seen}
 use Rattle.hub_transactions.proofs.Failing.{fails_with}

@@ -2,8 +2,8 @@ use Rattle.std.proofs.Common.{rules, ◌≡◌, ◌⊎◌, inl, inr, Err, [], �
 use Rattle.std.specs.List.{flat_map}
 use Rattle.std.proofs.lemmas.List.{drop_more}
 use Rattle.hub_tables.specs.State.{contents_of, receipts_of}
-use Rattle.hub_law.specs.StatusText.{pallet_text}
-use Rattle.hub_texts.specs.Totals.{IsUnclean}
+use Rattle.hub_acts.specs.HubLaw.StatusText.{pallet_text}
+use Rattle.hub_acts.specs.HubTexts.Totals.{IsUnclean}
 use Rattle.hub_transactions.specs.Status.{SeesPallet, PalletUnclean}
 use Rattle.hub_transactions.proofs.Announced.{unclean_of_some}
 use Rattle.hub_transactions.proofs.Reports.{has_at}

@@ -3,8 +3,8 @@ use Rattle.std.specs.List.{flat_map}
 use Rattle.hub_tables.specs.Sets.{Has}
 use Rattle.hub_tables.specs.Tables.{Tables}
 use Rattle.hub_tables.specs.declared.rows.PalletRow.{PalletRow}
-use Rattle.hub_law.specs.StatusText.{pallet_text}
-use Rattle.hub_transactions.specs.Acts.{Stays}
+use Rattle.hub_acts.specs.HubLaw.StatusText.{pallet_text}
+use Rattle.hub_acts.specs.Acts.{Stays}
 use Rattle.hub_transactions.specs.Status.{SeesPallet}
 use Rattle.hub_transactions.proofs.status.with_pallets.Given as goal
 

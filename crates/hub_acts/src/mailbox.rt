@@ -1,0 +1,125 @@
+//! A supplier's mailbox.
+ghost use Rattle.std.specs.Prelude.{◌≡◌, [], ◌∷◌, IfOk};
+ghost use Rattle.hub_tables.specs.State.{entry_at, untaken_after};
+ghost use Rattle.hub_tables.specs.Tables.{view};
+ghost use Rattle.hub_parties.specs.Rows.{RegisterRows};
+ghost use Rattle.hub_parties.specs.declared.row.SupplierRow.{SupplierRow};
+ghost use Rattle.hub_texts.specs.HubRules.Laws.{Registered, PartiesRise};
+ghost use Rattle.hub_clean.specs.HubLaw.MailText.{list_text};
+ghost use Rattle.hub_clean.specs.HubLaw.Mark.{Whole};
+ghost use Rattle.hub_clean.specs.HubLaw.Replies.{unknown, done, entry_reply};
+ghost use Rattle.hub_clean.specs.HubLaw.Requests.{taken};
+ghost use Rattle.hub_acts.specs.Acts.{Carried, FailsWith, NoCause, Unharmed, Stays, as_told, no_answer};
+ghost use Rattle.hub_acts.specs.StaysClean.{StaysClean};
+
+use edi_base::{Items, MemoryFault, copied};
+use gs1_ids::Gln;
+use hub_clean::acts_stay_sound;
+use hub_store::{Store, StoreFault};
+use hub_tables::{Change, Column};
+use hub_texts::{LIST_LIMIT, Outcome, Reply, entry_text, list_text};
+use std::alloc::Global;
+
+// How many entries are looked up for a list: those that it shows, and one that tells that there are more.
+const LISTED_AND_ONE: usize = LIST_LIMIT + 1;
+
+/// A reply that something was done, with this text.
+pub fn done_reply(body: Items<u8>) -> Reply
+    ensures { result ≡ done body }
+{
+    Reply {
+        outcome: Outcome::Done,
+        refused: false,
+        body,
+    }
+}
+
+// A reply that there is no such thing.
+fn unknown_reply(alloc: Global) -> Result<Reply, MemoryFault>
+    ensures { IfOk result (λ reply. reply ≡ unknown) }
+{
+    Ok(Reply {
+        outcome: Outcome::Unknown,
+        refused: false,
+        body: copied(alloc, b"unknown\n")?,
+    })
+}
+
+/// The list of the mailbox entries above a number that are not taken.
+pub fn mailbox_list<S: Store>(
+    alloc: Global,
+    store: &mut S,
+    supplier: &Gln,
+    number: u64,
+) -> Result<Reply, StoreFault>
+    ensures reply { S.honest store.new →
+        IfOk result (λ reply.
+        reply ≡ done (list_text (untaken_after (view supplier.now (S.content store.old)) number))) }
+    ensures fails { FailsWith S.plain NoCause no_answer (S.broken store.old) (S.broken store.new) result }
+    ensures stays { Stays S.content S.honest S.left store.old store.new }
+{
+    let heads = store.mail_after(supplier, number, LISTED_AND_ONE)?;
+    let text = list_text(alloc, heads.as_slice())?;
+    Ok(done_reply(text))
+}
+
+/// The mailbox entry of a number, as an interchange of the hub.
+pub fn mailbox_entry<S: Store>(
+    alloc: Global,
+    hub: &Gln,
+    store: &mut S,
+    supplier: &Gln,
+    number: u64,
+) -> Result<Reply, StoreFault>
+    ensures reply { S.honest store.new →
+        IfOk result (λ reply. reply ≡ entry_reply hub.now
+        (entry_at (view supplier.now (S.content store.old)) number)) }
+    ensures fails { FailsWith S.plain NoCause no_answer (S.broken store.old) (S.broken store.new) result }
+    ensures stays { Stays S.content S.honest S.left store.old store.new }
+{
+    let Some(entry) = store.mail_item(supplier, number)? else {
+        return Ok(unknown_reply(alloc)?);
+    };
+    let text = entry_text(alloc, hub, &entry)?;
+    Ok(done_reply(text))
+}
+
+// A change alone.
+fn only(alloc: Global, change: Change) -> Result<Items<Change>, MemoryFault>
+    ensures { IfOk result (λ changes. changes ≡ change ∷ []) }
+{
+    let mut changes = Items::new(alloc);
+    changes.push(change)?;
+    Ok(changes)
+}
+
+/// Marks a mailbox entry as taken; one that is taken stays so, and is not written again. The reply is made before. At a
+/// fault nothing was done.
+pub fn take_entry<S: Store>(
+    alloc: Global,
+    store: &mut S,
+    supplier: &Gln,
+    number: u64,
+) -> Result<Reply, StoreFault>
+    ensures carried { (register : RegisterRows) (s : SupplierRow) → s.gln ≡ supplier.now →
+        Registered register.suppliers s (S.content store.old) → PartiesRise (S.content store.old) →
+        Carried S.content S.honest S.left store.old store.new (λ t.
+        taken Whole (entry_at (view supplier.now t) number) t) as_told result }
+    ensures fails { FailsWith S.plain NoCause no_answer (S.broken store.old) (S.broken store.new) result }
+    ensures unharmed { Unharmed S.content S.honest store.old store.new result }
+    ensures clean { (register : RegisterRows) (s : SupplierRow) → s.gln ≡ supplier.now →
+        Registered register.suppliers s (S.content store.old) → PartiesRise (S.content store.old) →
+        StaysClean S.content S.honest S.broken store.old store.new result }
+{
+    acts_stay_sound();
+    let Some(mut entry) = store.mail_item(supplier, number)? else {
+        return Ok(unknown_reply(alloc)?);
+    };
+    let reply = done_reply(copied(alloc, b"taken\n")?);
+    if !entry.taken.case() {
+        entry.taken = Column::of(true);
+        let changes = only(alloc, Change::SetMail(entry))?;
+        store.commit(changes.as_slice())?;
+    }
+    Ok(reply)
+}

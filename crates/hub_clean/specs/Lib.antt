@@ -1,0 +1,2 @@
+pub use Rattle.hub_law.specs as HubLaw
+pub mod Clean

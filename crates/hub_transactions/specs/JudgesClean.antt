@@ -1,0 +1,21 @@
+-- Rows of the kinds that a hub keeps after what is judged of a message.
+use Rattle.std.specs.Prelude.{◌≡◌, ◌≢◌, ⊤, true, Option, None, Result, Err, IfOk}
+use Rattle.hub_tables.specs.Tables.{Tables}
+use Rattle.hub_store.specs.Clean.{are_clean}
+use Rattle.hub_store.specs.declared.fault.LastingFault.{LastingFault}
+use Rattle.hub_store.specs.declared.fault.StoreFault.{StoreFault}
+use Rattle.hub_store.specs.declared.fault.StoreFault.TheVariants.{Unclean}
+use Rattle.hub_acts.specs.HubClean.Clean.{VerdictClean}
+use Rattle.hub_transactions.specs.declared.judged.Judged.{Judged}
+use Rattle.hub_transactions.specs.declared.judged.Judged.TheVariants.{Read, Unread}
+
+abbrev pub JudgedClean : Judged → Tables → Type 0
+JudgedClean (Read verdict) t = VerdictClean verdict t
+JudgedClean (Unread fault) t = ⊤
+
+-- Where all rows are of the kinds, a call that judges answers no `Unclean` of a store that is not broken, and what comes of
+-- the message leaves rows of the kinds.
+pub record JudgesClean {S : Type 0} (content : S → Tables) (honest : S → Type 0) (broken : S → Option LastingFault)
+    (old new : S) (result : Result Judged StoreFault) : Type 0 where
+  pub never : honest new → broken old ≡ None → are_clean (content old) ≡ true → result ≢ Err Unclean
+  pub leaves : honest new → are_clean (content old) ≡ true → IfOk result (λ judged. JudgedClean judged (content old))
