@@ -1,6 +1,7 @@
-"""`make test`: whether each public function has a wrong body (untried.py), and the tables in code are those of the definition (schema.py);
-the gate (rt ci), and what each crate took of the processors in it; and then, on the two programs that the gate built, the cases and the
-trials of the files that PROGRAMS and TRIALS name. The last line is `N passed, M failed` over all.
+"""`make test`: whether each file of a crate is in the toolchain's layout (layout.py), each public function has a wrong body (untried.py),
+the tables in code are those of the definition (schema.py), and each code means the same everywhere (codes.py); the gate (rt ci), and what each crate took of the processors in it; and then, on the two
+programs that the gate built, the cases and the trials of the files that PROGRAMS and TRIALS name. The last line is `N passed, M failed`
+over all.
 
 With `--alone`, all but the gate, on the programs that stand. With `--anew`, nothing that an earlier gate proved is taken over.
 
@@ -13,14 +14,14 @@ import sys
 import tempfile
 from concurrent.futures import ThreadPoolExecutor
 
-from tests import schema, untried
+from tests import codes, layout, schema, untried
 from tests.cases import connections, corrections, hub_commands, hub_files, hub_rules, joins, limits, older_files, without_hub
 from tests.harness import processor_time
 from tests.harness.case import SECONDS
 from tests.harness.tree import ROOT
-from tests.trials import disturbed_commands, documents, failing_openings, files_brought_over, held_file, kept_orders, lines_of_status_3
-from tests.trials import random_runs
-from tests.trials import refused_in_scripts, served_limits, serving, stopped_machine, stopped_program
+from tests.trials import disturbed_commands, documents, failing_openings, files_brought_over, folder_feeding, held_file, kept_orders
+from tests.trials import lines_of_status_3, random_runs
+from tests.trials import refused_in_scripts, served_limits, serving, stopped_machine, stopped_program, units
 
 
 def built(crate):
@@ -38,11 +39,22 @@ PROGRAMS = [
     ),
 ]
 
+OF_EDIHUB = (
+    disturbed_commands,
+    failing_openings,
+    files_brought_over,
+    lines_of_status_3,
+    documents,
+    serving,
+    served_limits,
+    folder_feeding,
+    units,
+)
 # what is tried on a program many times over: each says what is wrong, if anything
 TRIALS = [
     *(
         (built("edihub"), *trial)
-        for of_file in (disturbed_commands, failing_openings, files_brought_over, lines_of_status_3, documents, serving, served_limits)
+        for of_file in OF_EDIHUB
         for trial in of_file.TRIALS
     ),
     (built("trial_script"), "a file that another program holds open", held_file.held_open),
@@ -84,6 +96,11 @@ def gate(words):
     return passed, failed
 
 
+def files_are_in_layout():
+    """Whether the gate will read each file as it is laid out, as a count of one: it takes no other, an hour later."""
+    return (0, 1) if layout.main([]) else (1, 0)
+
+
 def every_function_is_tried():
     """Whether each public function has a wrong body, as a count of one."""
     number, lines = untried.check()
@@ -99,6 +116,11 @@ def every_function_is_tried():
 def tables_are_written():
     """Whether the tables in code are those of the definition, as a count of one."""
     return (0, 1) if schema.main([]) else (1, 0)
+
+
+def codes_mean_the_same():
+    """Whether each code means the same in the list, the definitions, the documents, the page and the help texts, as a count of one."""
+    return (0, 1) if codes.main([]) else (1, 0)
 
 
 def run(program, case, folder):
@@ -156,7 +178,7 @@ def main(words):
     if words not in ([], ["--alone"], ["--anew"]):
         print("usage: python3 -m tests.test [--alone | --anew]")
         return 2
-    passed, failed = (sum(it) for it in zip(every_function_is_tried(), tables_are_written()))
+    passed, failed = (sum(it) for it in zip(files_are_in_layout(), every_function_is_tried(), tables_are_written(), codes_mean_the_same()))
     if words != ["--alone"]:
         more_passed, more_failed = gate(words)
         passed, failed = passed + more_passed, failed + more_failed
