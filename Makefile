@@ -3,8 +3,8 @@ EXAMPLE = 5412345000006 4012345500004 1748942400 1
 PROVED = crates/edihub/out/edihub
 SCRIPT = crates/trial_script/out/trial_script
 
-.PHONY: run day serve page page-test page-pictures try case test wrong split-commit hostile fuzz year crowd worst hubs bench
-.PHONY: edihub trial_script tests_of_calls install uninstall clean
+.PHONY: run day serve page page-test page-pictures try case test wrong split-commit hostile fuzz year crowd front-test worst hubs bench
+.PHONY: join-test edihub trial_script tests_of_calls install uninstall deb deb-test clean
 
 # The main job, proved: the example's ORDERS interchange becomes the supplier's mailbox interchange. The program that does this
 # alone, as `edihub relay` does it, stands on six crates.
@@ -67,23 +67,25 @@ try:
 case:
 	python3 -m tests.unproved $(OF) $(WORDS)
 
-# Puts the program that `make edihub` left into PREFIX, with its man page, completions for bash and a unit: make install PREFIX=/usr
+# Puts the program that `make edihub` left into PREFIX, with its man page, completions for bash, units, scripts, the page, documents and
+# examples; install/place.py has the list: make install PREFIX=/usr
 PREFIX = /usr/local
-INTO = $(DESTDIR)$(PREFIX)
-PAGE = $(INTO)/share/man/man1/edihub.1
-COMPLETIONS = $(INTO)/share/bash-completion/completions/edihub
-UNIT = $(INTO)/lib/systemd/system/edihub.service
+PROGRAM = ./edihub
 
 install:
-	test -x edihub || { echo "make edihub first" >&2; exit 1; }
-	made=$$(mktemp -d) && trap 'rm -rf "$$made"' EXIT && \
-		python3 install/from_help.py man ./edihub > "$$made/page" && python3 install/from_help.py bash ./edihub > "$$made/completions" && \
-		sed 's|/usr/local|$(PREFIX)|' examples/front/edihub.service > "$$made/unit" && install -D -m 755 edihub $(INTO)/bin/edihub && \
-		install -D -m 644 "$$made/page" $(PAGE) && install -D -m 644 "$$made/completions" $(COMPLETIONS) && \
-		install -D -m 644 "$$made/unit" $(UNIT)
+	test -x $(PROGRAM) || { echo "make edihub first" >&2; exit 1; }
+	python3 install/place.py put $(PROGRAM) "$(DESTDIR)" "$(PREFIX)"
 
 uninstall:
-	rm -f $(INTO)/bin/edihub $(PAGE) $(COMPLETIONS) $(UNIT)
+	python3 install/place.py take "$(DESTDIR)" "$(PREFIX)"
+
+# A Debian package of the same, in out/.
+deb:
+	python3 install/deb.py $(PROGRAM) out
+
+# The package by lintian, and in fresh Debian 12 trees, some minutes and as root; no part of the gate.
+deb-test:
+	python3 -m tests.deb $(PROGRAM)
 
 # The gate, and then the end-to-end tests of the program that the gate built.
 test:
@@ -119,6 +121,13 @@ year: edihub
 crowd: edihub
 	python3 -m bench.crowd $(PROVED)
 
+# Slow readers, slow senders, guessed keys and 1,000 suppliers at once, through nginx and HAProxy as examples/front has them, some minutes;
+# no part of the gate. READ=2000 gives the long status fewer lines.
+READ = 180000
+
+front-test: edihub
+	python3 -m bench.front $(PROVED) 1000 $(READ)
+
 # The most expensive requests beside a typical upload, some 10 minutes; no part of the gate. LONG=--long sends the longest in full.
 LONG =
 
@@ -128,6 +137,13 @@ worst: edihub
 # One hub, and three behind HAProxy as examples/hubs has them, asked the same; no part of the gate.
 hubs: edihub
 	python3 -m tests.three_hubs $(PROVED)
+
+# Suppliers that keep asking through HAProxy while another one is registered, some minutes; no part of the gate. LINES="100000 1000000" does
+# it in hubs with this many order lines.
+LINES =
+
+join-test: edihub
+	python3 -m bench.live_join $(PROVED) $(LINES)
 
 bench: edihub trial_script
 	python3 -m bench ./edihub $(SCRIPT)

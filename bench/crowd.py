@@ -95,28 +95,29 @@ class Client:
         await self.ask(request("GET", who, "status"), status_body([self.order], 3))
 
 
-async def never_ends(door, number):
-    """A client that sends the beginning of a head, and nothing more: what is wrong with how it is let go, if anything."""
+async def never_ends(door, number, late):
+    """A client that sends the beginning of a head, and nothing more: what is wrong with how it is let go, if anything. `late` is how what
+    it then reads begins; nothing, if it reads nothing."""
     reader, writer = await door.connected(f"127.2.0.{number + 1}")
     writer.write(b"POST /p/4012345500004/interchanges HTTP/1.1\r\nX-Hub")
     begun = time.monotonic()
     found = await reader.read()
     writer.close()
-    return None if found.startswith(b"HTTP/1.1 408 ") and time.monotonic() - begun < 60 else f"a head that never ends: {found!r:.100}"
+    return None if found[: len(late) or None] == late and time.monotonic() - begun < 60 else f"a head that never ends: {found!r:.100}"
 
 
-async def clients(door, numbers, suppliers, never):
+async def clients(door, numbers, suppliers, never, late):
     """All these suppliers at once: the seconds of each answer, how many were told to come again, what is wrong, and the seconds in all."""
     its = [Client(door, number, suppliers) for number in numbers]
-    begun, waiting = time.monotonic(), [asyncio.create_task(never_ends(door, number)) for number in range(never)]
+    begun, waiting = time.monotonic(), [asyncio.create_task(never_ends(door, number, late)) for number in range(never)]
     await asyncio.gather(*(it.day() for it in its))
     passed = time.monotonic() - begun
     wrong = [why for it in its for why in it.wrong] + [why for why in await asyncio.gather(*waiting) if why]
     return [one for it in its for one in it.seconds], sum(it.busy for it in its), wrong, passed
 
 
-def process(port, certificate, numbers, suppliers, never):
-    return asyncio.run(clients(Door(port, certificate), numbers, suppliers, never))
+def process(port, certificate, *of):
+    return asyncio.run(clients(Door(port, certificate), *of))
 
 
 def founded(program, folder, suppliers):
@@ -141,13 +142,14 @@ def kept(folder, suppliers):
     return is_whole(folder) or (None if count == (3 * suppliers, 3 * suppliers) else f"{count} messages are remembered of {3 * suppliers}")
 
 
-def turn(program, suppliers, count, what):
-    """A crowd over a hub that serves so many connections and is begun anew. What is wrong."""
+def turn(program, suppliers, count, what, front_of=lambda port: Front(FILE, {ADDRESS: port}), most=None):
+    """A crowd over a hub that serves so many connections and is begun anew, through the front that is made for its port. What is wrong; a
+    wait is, that is longer than `most` gives for the seconds in which each supplier has one answer."""
     with tempfile.TemporaryDirectory() as folder:
         founded(program, folder, suppliers)
-        with Supervised(program, folder, count) as hub, Front(FILE, {ADDRESS: hub.port}) as front:
+        with Supervised(program, folder, count) as hub, front_of(hub.port) as front:
             with ProcessPoolExecutor(PROCESSES) as pool:
-                parts = [(range(part, suppliers, PROCESSES), suppliers, 0 if part else NEVER) for part in range(PROCESSES)]
+                parts = [(range(part, suppliers, PROCESSES), suppliers, 0 if part else NEVER, front.late) for part in range(PROCESSES)]
                 found = [it.result() for it in [pool.submit(process, front.port, front.certificate, *part) for part in parts]]
             logged, memory = front.logged(), most_memory(front.child.pid)
         seconds, wrong = ([one for it in found for one in it[place]] for place in (0, 2))
@@ -158,6 +160,8 @@ def turn(program, suppliers, count, what):
         print(f"the front took {memory:.0f} MB", flush=True)
         if b"key-" in logged or logged.count(b" HTTP/1.1\"") < len(seconds):
             wrong.append("a key in the log, or a request that is not there")
+        if most and max(seconds) > most(suppliers / rate):
+            wrong.append(f"somebody waited {max(seconds):.2f} s, but {most(suppliers / rate):.2f} would do")
         why = kept(folder, suppliers)
         return wrong + ([why] if why else [])
 

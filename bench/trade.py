@@ -19,9 +19,9 @@ def supplier_of(number):
 
 
 def request(method, who, rest, text=None):
-    """A request of the retailer, or of the supplier of this number."""
+    """A request of the retailer, or of the supplier of this number, with the name of the host, for which nginx asks."""
     party, key = (RETAILER, KEYS[RETAILER]) if who is None else (supplier_of(who), f"key-{who:04}")
-    return asking(method, f"/p/{party}/{rest}", None, text, f"X-Hub-Key: {key}")
+    return asking(method, f"/p/{party}/{rest}", None, text, f"X-Hub-Key: {key}", "Host: hub.example.com")
 
 
 class Order:
@@ -54,28 +54,28 @@ class Order:
         head = (f"BGM+220+{self.document}+9", "DTM+137:20250603:102", *parties(self.who))
         return message("ORDERS:D:01B:UN:EAN010", reference, *head, *groups, "UNS+S", f"CNT+2:{LINES}")
 
-    def ordrsp(self):
+    def ordrsp(self, reference=1):
         function = 4 if self.is_changed else 29
         head = (f"BGM+231+R{self.document}+{function}", "DTM+137:20250603:102", f"RFF+ON:{self.document}", *parties(self.who))
         groups = []
         for line, (letter, left) in enumerate(self.answers if self.is_changed else [], 1):
             groups.append(f"LIN+{line}+{'5' if letter == 'A' else '7' if letter == 'N' else '3'}+{self.items[line - 1]}:SRV")
             groups += [f"QTY+113:{left}"] if letter == "C" else []
-        return message("ORDRSP:D:01B:UN:EAN009", 1, *head, *groups, "UNS+S")
+        return message("ORDRSP:D:01B:UN:EAN009", reference, *head, *groups, "UNS+S")
 
-    def desadv(self):
+    def desadv(self, reference=1):
         head = (f"BGM+351+D{self.document}+9", "DTM+137:20250604:102", f"RFF+ON:{self.document}", *parties(self.who))
         sent = [(item, quantity) for item, quantity in zip(self.items, self.despatched) if quantity]
         groups = (it for line, (item, quantity) in enumerate(sent, 1) for it in (f"LIN+{line}++{item}:SRV", f"QTY+12:{quantity}"))
-        return message("DESADV:D:01B:UN:EAN007", 1, *head, "CPS+1", f"GIN+BJ+{self.sscc}", *groups)
+        return message("DESADV:D:01B:UN:EAN007", reference, *head, "CPS+1", f"GIN+BJ+{self.sscc}", *groups)
 
-    def recadv(self):
+    def recadv(self, reference=1):
         groups = []
         for line, (item, quantity, back) in enumerate(zip(self.items, self.despatched, self.returned), 1):
             groups += [f"LIN+{line}++{item}:SRV", f"QTY+194:{quantity - 2 * back}"] if quantity else []
             groups += [f"QTY+195:{back}"] if back else []
         head = (f"BGM+632+G{self.document}+9", "DTM+137:20250605:102", *parties(self.who))
-        return message("RECADV:D:01B:UN:EAN005", 1, *head, "CPS+1", f"GIN+BJ+{self.sscc}", *groups)
+        return message("RECADV:D:01B:UN:EAN005", reference, *head, "CPS+1", f"GIN+BJ+{self.sscc}", *groups)
 
     def upload(self, kind):
         """The request that uploads its message of a kind, and the body of the right answer."""

@@ -26,8 +26,9 @@ from tests.harness.hub_steps import found, told
 from tests.harness.register_texts import ALPHA, BETA, RETAILER
 from tests.harness.servers import Server, all_of, listed
 
-# the bounds: times a typical upload; times a list of a mailbox in which few entries are taken; the seconds of a long status
-MOST, MOST_OF_LIST, MOST_OF_STATUS = 4, 2, 1
+# the bounds: times a typical upload; times a list of a mailbox in which few entries are taken; the seconds of a long status, and the
+# bytes of memory that it may take for each row, beside its text
+MOST, MOST_OF_LIST, MOST_OF_STATUS, MOST_OF_ROW = 4, 2, 1, 200
 # messages of an upload; and of those that name many long orders, or meet long contents, without --long and with it
 MESSAGES = 999
 NAMING, REMEMBERED = {False: 150, True: 999}, {False: 100, True: 999}
@@ -220,6 +221,15 @@ class Served:
         with open(f"/proc/{self.server.child.pid}/schedstat", encoding="ascii") as file:
             return int(file.read().split()[0]) / 1e9
 
+    def memory(self, which):
+        """What the system says of the server's memory, in bytes: `VmRSS`, what it has now, or `VmHWM`, the most since `forget_most`."""
+        with open(f"/proc/{self.server.child.pid}/status", encoding="ascii") as file:
+            return next(int(it.split()[1]) << 10 for it in file if it.startswith(f"{which}:"))
+
+    def forget_most(self):
+        with open(f"/proc/{self.server.child.pid}/clear_refs", "w", encoding="ascii") as file:
+            file.write("5")
+
     def ask(self, request, right):
         with socket.create_connection(("127.0.0.1", self.server.port), LONGEST) as one:
             one.sendall(request)
@@ -324,6 +334,7 @@ def lists(bench, served):
 
 def status(bench, served):
     """A status of pallets that are announced, and of the same as they were received."""
+    before = served.memory("VmRSS")
     of_each = [(line, f"{item(line):0>14}") for line in range(1, AT_ONCE + 1)]
     lines = [line_status(it, "W", 1_000, 999, 0, 0, 1, line, gtin_) for it in status_orders() for line, gtin_ in of_each]
 
@@ -334,8 +345,12 @@ def status(bench, served):
             for line, gtin_ in of_each
         )
         asked = asking("GET", f"/p/{ALPHA}/status", ALPHA), response(200, told(*lines, *pallets, "end"))
+        served.forget_most()
         name, seconds = f"a status of {len(lines):,} lines and as many {word} pallets", served.median(repeat(asked))
         bench.figures.tell(f"{name}: seconds of processor time", seconds, MOST_OF_STATUS)
+        # a line, a pallet, what is on it, and what of it was received
+        rows = len(lines) * (4 if accepted else 3)
+        bench.figures.tell(f"{name}: bytes of memory a row", (served.memory("VmHWM") - before - len(asked[1])) / rows, MOST_OF_ROW)
 
     tell("A", 0, "+0", "announced")
     for place, it in enumerate(status_orders()):

@@ -75,10 +75,15 @@ def man(program):
     return "\n".join(lines) + "\n"
 
 
+def completed(options):
+    """The options that are proposed: not one whose value can be in a file instead, as a key, which nobody is to type."""
+    return [it for it in options if f"{it}-file" not in options]
+
+
 def bash(program):
     """Completions of commands and their options; behind an option, the names of files."""
     name, known = os.path.basename(program), commands(program)
-    options = {it: " ".join(re.findall(r"--[a-z-]+", " ".join(words for words, _ in its.options))) for it, its in known.items()}
+    options = {it: " ".join(completed(re.findall(r"--[a-z-]+", " ".join(words for words, _ in its.options)))) for it, its in known.items()}
     cases = "\n".join(f"        {it}) words={words!r} ;;" for it, words in options.items())
     return f"""# Completions of {name} for bash.
 _{name}() {{

@@ -1,24 +1,31 @@
 #!/bin/sh
 # Some days of one retailer with two suppliers and a third that joins, by the commands of edihub over a database file: sh day.sh PROGRAM.
-# The file is made in a temporary folder, which is thrown away in the end.
+# The file, and those with the keys, are in a temporary folder, which is thrown away in the end.
 set -eu
 program=$(cd "$(dirname "$1")" && pwd)/$(basename "$1")
 cd "$(dirname "$0")"
 kept=$(mktemp -d)
 trap 'rm -rf "$kept"' EXIT
+cp -R . "$kept"
+cd "$kept"
+umask 077
+echo retail-key > retail.key
+echo alpha-key-1 > alpha.key
+echo beta-key-1 > beta.key
+echo gamma-key-1 > gamma.key
 
 # says whose turn it is, and runs a command; a refusal (status 1) is part of the day
 edihub() {
     command=$1
     shift
     echo "\$ edihub $command $*"
-    "$program" "$command" --db "$kept/hub.db" "$@" || test $? -eq 1
+    "$program" "$command" --db hub.db "$@" || test $? -eq 1
     echo
 }
-retailer="--as 5412345000013 --key retail-key"
-a="--as 4012345500004 --key alpha-key-1"
-b="--as 8712345000004 --key beta-key-1"
-c="--as 7612345000008 --key gamma-key-1"
+retailer="--as 5412345000013 --key-file retail.key"
+a="--as 4012345500004 --key-file alpha.key"
+b="--as 8712345000004 --key-file beta.key"
+c="--as 7612345000008 --key-file gamma.key"
 
 echo "Monday: the retailer founds its hub, with the suppliers A and B."
 edihub init --register register.toml
@@ -41,7 +48,7 @@ edihub import $a --moment 1749024000 --folder 4-despatch-of-a
 edihub import $b --moment 1749027600 --folder 5-despatch-of-b
 
 echo "10:00: a third supplier, C, joins. The retailer orders of it, and C reads the order."
-edihub join $retailer --moment 1749031200 --supplier 7612345000008 --supplier-key gamma-key-1 --prefixes 7612345,7612346
+edihub join $retailer --moment 1749031200 --supplier 7612345000008 --supplier-key-file gamma.key --prefixes 7612345,7612346
 edihub import $retailer --moment 1749033000 --folder 6-order-for-c
 edihub mail $c --do item --n 1
 

@@ -1,11 +1,12 @@
-"""A small reverse proxy for trying the page alone, on 127.0.0.1 and without TLS: it serves the files of `page/` at `/` and passes `/p/` to
-the hub. In use stands one as docs/PAGE.md describes it."""
+"""A small reverse proxy for trying the page alone, on 127.0.0.1 and without TLS, so without Strict-Transport-Security: it serves the files
+of `page/` at `/` and passes `/p/` to the hub. For use set up one as docs/PAGE.md describes it."""
 import http.client
 import os
 from http.server import BaseHTTPRequestHandler, ThreadingHTTPServer
 
 PAGE = os.path.join(os.path.dirname(os.path.dirname(os.path.dirname(os.path.abspath(__file__)))), "page")
 TYPES = {".html": "text/html; charset=utf-8", ".css": "text/css", ".js": "text/javascript", ".svg": "image/svg+xml"}
+TYPES[".csv"] = "text/csv"
 POLICY = (
     "default-src 'none'; script-src 'self'; style-src 'self'; img-src 'self'; connect-src 'self'; "
     "base-uri 'none'; form-action 'none'; frame-ancestors 'none'; require-trusted-types-for 'script'; trusted-types 'none'"
@@ -19,9 +20,11 @@ class Proxy(ThreadingHTTPServer):
 
     daemon_threads = True
 
-    def __init__(self, port, hub_port, handler=None):
+    def __init__(self, port, hub_port, handler=None, suppliers=None):
         super().__init__(("127.0.0.1", port), handler or Handler)
         self.hub_port = hub_port
+        # the file that is beside the page as suppliers.csv, if there is one
+        self.suppliers = suppliers
 
     @property
     def address(self):
@@ -70,7 +73,7 @@ class Handler(BaseHTTPRequestHandler):
     def give_file(self):
         name = os.path.normpath(self.path.partition("?")[0].lstrip("/") or "index.html")
         kind = TYPES.get(os.path.splitext(name)[1])
-        file = os.path.join(PAGE, name)
+        file = self.server.suppliers or "" if name == "suppliers.csv" else os.path.join(PAGE, name)
         if kind and not name.startswith("..") and os.path.isfile(file):
             with open(file, "rb") as opened:
                 self.answer(200, opened.read(), kind)
@@ -84,6 +87,7 @@ class Handler(BaseHTTPRequestHandler):
             ("Content-Length", str(len(body))),
             ("Cache-Control", "no-store"),
             ("Content-Security-Policy", POLICY),
+            ("Cross-Origin-Opener-Policy", "same-origin"),
             ("Referrer-Policy", "no-referrer"),
             ("X-Content-Type-Options", "nosniff"),
         ):

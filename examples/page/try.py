@@ -10,7 +10,8 @@ import tempfile
 from proxy import Proxy
 
 EXAMPLES = os.path.dirname(os.path.dirname(os.path.abspath(__file__)))
-RETAILER = ["--as", "5412345000013", "--key", "retail-key"]
+SUPPLIERS = os.path.join(EXAMPLES, "page", "suppliers.csv")
+RETAILER, RETAIL_KEY = "5412345000013", "retail-key"
 SAID = """The page is at {address}  (^C ends it)
 
   This is for trying alone: without TLS, on this machine only, and all of it is thrown away in the end.
@@ -32,10 +33,12 @@ def free_port():
 
 def founded(program, folder):
     """A new hub's database file, with the orders of the example day."""
-    file = os.path.join(folder, "hub.db")
+    file, key = os.path.join(folder, "hub.db"), os.path.join(folder, "retail.key")
+    with open(key, "w", encoding="ascii") as keys:
+        keys.write(RETAIL_KEY)
     for words in (
         ["init", "--register", os.path.join(EXAMPLES, "register.toml"), "--db", file],
-        ["import", "--db", file, *RETAILER, "--folder", os.path.join(EXAMPLES, "day", "1-orders")],
+        ["import", "--db", file, "--as", RETAILER, "--key-file", key, "--folder", os.path.join(EXAMPLES, "day", "1-orders")],
     ):
         subprocess.run([program, *words], check=True, stdout=subprocess.DEVNULL)
     return file
@@ -54,7 +57,7 @@ def main(program, port):
     with tempfile.TemporaryDirectory() as folder:
         child, hub_port = serving(program, founded(program, folder))
         try:
-            with Proxy(port, hub_port) as proxy:
+            with Proxy(port, hub_port, suppliers=SUPPLIERS) as proxy:
                 print(SAID.format(address=proxy.address), flush=True)
                 proxy.serve_forever()
         except KeyboardInterrupt:

@@ -70,9 +70,9 @@ class Reader:
 
     def __init__(self, program, stack):
         self.program, self.stack, self.ran, self.not_run, self.looked_up, self.served = os.path.abspath(program), stack, 0, [], 0, ""
-        self.folder, home = self.new(), self.empty()
+        self.folder, self.day, home = self.new(), None, self.empty()
         os.symlink(self.program, os.path.join(home, "edihub"))
-        write(home, ".curlrc", 'fail\nsilent\nnoproxy = "*"\n')
+        write(home, ".curlrc", 'fail-with-body\nsilent\nnoproxy = "*"\n')
         self.env = {**os.environ, "PATH": f"{home}:{os.environ['PATH']}", "CURL_HOME": home, "PYTHONDONTWRITEBYTECODE": "1"}
 
     def empty(self):
@@ -82,7 +82,8 @@ class Reader:
         """A folder with the examples, interchanges of the retailer and of a supplier, and no hub."""
         folder = self.empty()
         os.symlink(EXAMPLES, os.path.join(folder, "examples"))
-        for path in ("register.toml", "backup/backup.sh", "hubs/apart.py", *(f"hubs/register-{k}.toml" for k in (1, 2, 3))):
+        registers = (f"hubs/register-{k}.toml" for k in (1, 2, 3))
+        for path in ("register.toml", "backup/backup.sh", "folder/feed.py", "hubs/apart.py", *registers):
             shutil.copy(os.path.join(EXAMPLES, path), folder)
         for names, text in ((["in/retailer/0.edi"], ORDERS), (["answer.edi", "in/alpha/1.edi"], RESPONSE), (["in/alpha/2.edi"], DESPATCH)):
             for name in names:

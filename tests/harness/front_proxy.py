@@ -109,14 +109,43 @@ class Door:
         writer.transport.abort()
 
 
-class Front:
+class Served:
+    """A front on a port of its own, with a folder for its log and its certificate."""
+
+    def __init__(self):
+        self.folder, self.port = tempfile.mkdtemp(), free_port()
+        self.log, self.certificate = os.path.join(self.folder, "log"), certificate(self.folder)
+
+    def await_listening(self):
+        for _ in range(100):
+            try:
+                socket.create_connection(("127.0.0.1", self.port), 1).close()
+                return
+            except OSError:
+                time.sleep(0.05)
+        raise OSError(f"no front: {self.logged()!r:.300}")
+
+    def __enter__(self):
+        return self
+
+    def door(self):
+        return Door(self.port, self.certificate)
+
+    def logged(self):
+        with open(self.log, "rb") as log:
+            return log.read()
+
+
+class Front(Served):
     """HAProxy with a file of the examples, in which nothing but the addresses of the front and of the hubs, the certificate, the log and
     the user are others. `hubs`: what stands in the file for the address of a hub, and the port that takes its place. `changes`: what
     else is another."""
 
+    # what a client reads whose head does not come in time
+    late = b"HTTP/1.1 408 "
+
     def __init__(self, name, hubs, changes=()):
-        self.folder, self.port = tempfile.mkdtemp(), free_port()
-        self.log, self.certificate = os.path.join(self.folder, "log"), certificate(self.folder)
+        super().__init__()
         path = os.path.join(self.folder, "haproxy.cfg")
         with open(path, "w", encoding="ascii") as file:
             file.write(self.text(name, hubs, changes))
@@ -132,34 +161,18 @@ class Front:
             text = instead(text, place, words)
         for address, port in hubs.items():
             text = instead(text, f" {address} ", f" 127.0.0.1:{port} ")
-        text = instead(text, f"bind {ADDRESS} ", f"bind 127.0.0.1:{self.port} ")
-        text = instead(text, CERTIFICATE, self.certificate)
+        text = self.placed(text)
         text = instead(text, "log /dev/log local0", "log stdout format raw local0")
         return re.sub(r"^ +(user|group) haproxy\n", "", text, flags=re.MULTILINE)
 
-    def await_listening(self):
-        for _ in range(100):
-            try:
-                socket.create_connection(("127.0.0.1", self.port), 1).close()
-                return
-            except OSError:
-                time.sleep(0.05)
-        raise OSError(f"no front: {self.logged()!r:.300}")
-
-    def __enter__(self):
-        return self
+    def placed(self, text):
+        """The file with its own port and certificate."""
+        return instead(instead(text, f"bind {ADDRESS} ", f"bind 127.0.0.1:{self.port} "), CERTIFICATE, self.certificate)
 
     def __exit__(self, *_):
         self.child.kill()
         self.child.wait()
         shutil.rmtree(self.folder, ignore_errors=True)
-
-    def door(self):
-        return Door(self.port, self.certificate)
-
-    def logged(self):
-        with open(self.log, "rb") as log:
-            return log.read()
 
 
 async def answered(reader):

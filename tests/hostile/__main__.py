@@ -6,7 +6,7 @@ import os
 import sys
 import tempfile
 
-from tests.hostile import copied_files, damaged_files, full_disks, killed_programs, little_memory, refused_memory
+from tests.hostile import copied_files, damaged_files, failing_backups, full_disks, killed_programs, little_memory, refused_memory
 from tests.trials.refused_in_calls import calls_refused
 
 # what is tried on the program
@@ -25,6 +25,7 @@ TRIALS = (
     killed_programs.servers_killed,
     copied_files.imports_copied,
     copied_files.servers_copied,
+    *failing_backups.TRIALS,
 )
 # and on the program that plays scripts and on the tests of calls
 OF_SCRIPTS = (refused_memory.script_refused, calls_refused)

@@ -3,8 +3,8 @@ from typing import NamedTuple
 
 from tests.harness.first_order import ORDERS
 from tests.harness.hub_scripts import DESPATCH, RECEIPT, RESPONSE, SECOND, SPELLED
-from tests.harness.hub_steps import over, told
-from tests.harness.register_texts import ALPHA, GAMMA, HUB, RETAILER, of_prefixes
+from tests.harness.hub_steps import in_files, over, told
+from tests.harness.register_texts import ALPHA, DELTA, GAMMA, HUB, RETAILER, of_prefixes
 
 
 class Command(NamedTuple):
@@ -41,6 +41,7 @@ def sends(name, caller, reference, kind, text):
 def changes():
     """The commands that bring orders, a supplier and what follows from an order."""
     join = over("join", RETAILER, "--supplier", GAMMA, "--supplier-key", "gamma-key-1", "--prefixes", "7612345,7612346")
+    join_by_files = in_files(over("join", RETAILER, "--supplier", DELTA, "--supplier-key", "delta-key-1", "--prefixes", "3512345"))
     cancel = over("cancel", RETAILER, "--supplier", ALPHA, "--reference", "C1", "--order", "128576", "--line", "1", "--quantity", "10")
     return [
         sends("order", RETAILER, "1001", "ORDERS", ORDERS),
@@ -48,6 +49,7 @@ def changes():
         sends("second", RETAILER, "1002", "ORDERS", SECOND),
         # a join is not remembered, so the same join again is refused
         Command("join", join, printed=b"accepted\n", again=(1, b"refused B18\n", b"")),
+        Command("join_by_files", *join_by_files, printed=b"accepted\n", again=(1, b"refused B18\n", b"")),
         sends("answer", ALPHA, "S1", "ORDRSP", RESPONSE),
         sends("despatch", ALPHA, "S2", "DESADV", DESPATCH),
         sends("receipt", RETAILER, "1005", "RECADV", RECEIPT),

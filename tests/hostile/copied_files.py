@@ -22,6 +22,8 @@ from tests.hostile.shared import run
 # how many orders come while copies are made, and about how many copies
 ORDERS, HALTS = 500, 60
 BACKUP = os.path.join(EXAMPLES, "backup", "backup.sh")
+# what the script says if the copies are not on another disk
+WARNING = "is on the same file system"
 
 
 def folder_with_order_files(program, top):
@@ -58,10 +60,20 @@ def halts(child):
         yield
 
 
-def backed_up(pid, folder, copies):
+def with_program(program, top):
+    """The variables with which a script finds the program by its name."""
+    folder = os.path.join(top, "programs")
+    os.makedirs(folder, exist_ok=True)
+    if not os.path.lexists(os.path.join(folder, "edihub")):
+        os.symlink(program, os.path.join(folder, "edihub"))
+    return {**os.environ, "PATH": f"{folder}:{os.environ['PATH']}"}
+
+
+def backed_up(pid, folder, copies, env):
     """Copies a running program's files, as the operator does. Returns the folder of the copy."""
-    ran = subprocess.run(["sh", BACKUP, str(pid), os.path.join(folder, NAME), copies], capture_output=True, text=True, timeout=60)
-    if ran.returncode or ran.stderr:
+    words = ["sh", BACKUP, str(pid), os.path.join(folder, NAME), copies]
+    ran = subprocess.run(words, capture_output=True, text=True, timeout=120, env=env)
+    if ran.returncode or any(WARNING not in line for line in ran.stderr.splitlines()):
         raise OSError(f"no backup: {ran.returncode}, {ran.stderr}")
     return ran.stdout.strip()
 
@@ -126,13 +138,13 @@ def report(kept, between, what):
 def imports_copied(program, top):
     whole, folder = folder_with_order_files(program, top), folder_with_order_files(program, top)
     changes = changes_of(program, IMPORT, whole, top)
-    wanted, copies, made = rows_of(whole), [], tempfile.mkdtemp(dir=top)
+    wanted, copies, made, env = rows_of(whole), [], tempfile.mkdtemp(dir=top), with_program(program, top)
     with open(os.path.join(folder, "printed"), "wb") as printed:
         child = subprocess.Popen([program, *IMPORT], cwd=folder, stdout=printed, env=halting(top, folder, HALT=str(changes // HALTS)))
     for _ in halts(child):
         with open(os.path.join(folder, "printed"), "rb") as printed:
             acknowledged = printed.read().count(b" accepted\n")
-        copies.append((backed_up(child.pid, folder, made), acknowledged))
+        copies.append((backed_up(child.pid, folder, made, env), acknowledged))
     if child.returncode or rows_of(folder) != wanted:
         return f"the import that is halted ends with {child.returncode}, or with other rows"
 
@@ -160,7 +172,7 @@ def orders_served(server, answered, kept=0):
 def server_copied(program, folder, top, every):
     """Uploads all orders to a server that is halted at changes of its files, and copied. Returns the copies, each with the number of
     orders that were answered, and what is wrong, if anything."""
-    answered, copies, made = [], [], tempfile.mkdtemp(dir=top)
+    answered, copies, made, env = [], [], tempfile.mkdtemp(dir=top), with_program(program, top)
     server = Server(program, ORDERS, folder=folder, env=halting(top, folder, HALT=str(every)))
     with ThreadPoolExecutor(2) as pool:
         asked = pool.submit(orders_served, server, answered)
@@ -169,7 +181,7 @@ def server_copied(program, folder, top, every):
             # after this time the client has read what was answered
             time.sleep(0.05)
             acknowledged = len(answered)
-            copies.append((backed_up(server.child.pid, folder, made), acknowledged))
+            copies.append((backed_up(server.child.pid, folder, made, env), acknowledged))
         why = asked.result() or (None if lines.result().count(b" 200\n") == ORDERS else "the server did not answer all")
     return copies, why or (f"the server that is halted ends with {server.child.returncode}" if server.child.returncode else None)
 

@@ -15,7 +15,7 @@ from tests.harness.http_texts import response
 from tests.harness.hub_scripts import MOMENT
 from tests.harness.hub_steps import init, over, told
 from tests.harness.register_texts import BETA, RETAILER
-from tests.harness.servers import all_of, free_port, upload
+from tests.harness.servers import all_of, free_port, send, upload
 from tests.harness.shims import REFUSE, built
 from tests.hostile import commands_in_turn
 from tests.hostile.shared import FOUNDED, KNOWN, folder_with_file, folder_with_hub, folder_without_hub, in_words, on_all_processors, put
@@ -172,8 +172,7 @@ def served_once(program, folder, request, variables):
         first = child.stdout.readline()
         if first:
             with socket.create_connection(("127.0.0.1", port), 60) as one:
-                one.sendall(request)
-                one.shutdown(socket.SHUT_WR)
+                send(one, request, ends=True)
                 found = all_of(one)
         printed, error = child.communicate(timeout=60)
         if error != b"listen\n":

@@ -289,7 +289,7 @@ def day(program):
 
 
 def version(program):
-    """`--version` names the schema of a file that is founded, and the toolchain."""
+    """`--version` names the schema of a file that is founded, and the logic of the toolchain."""
     with tempfile.TemporaryDirectory() as folder:
         path = os.path.join(folder, NAME)
         with open(os.path.join(folder, REGISTER), "w", encoding="ascii") as file:
@@ -297,9 +297,10 @@ def version(program):
         subprocess.run([program, *init()], cwd=folder, stdout=subprocess.DEVNULL, check=True)
         with contextlib.closing(sqlite3.connect(path)) as hub:
             number = hub.execute("SELECT number FROM schema").fetchone()[0]
-    toolchain = subprocess.run(["rt", "version"], capture_output=True, text=True).stdout.strip()
+    # kits of one logic prove the same: `rattle-kit-13b logic ..` and `rattle-kit-13f logic ..`
+    logic = subprocess.run(["rt", "version"], capture_output=True, text=True).stdout.strip().partition(" ")[2]
     found = subprocess.run([program, "--version"], capture_output=True, text=True).stdout
-    wanted = f"edihub 1.0.0 (schema {number}, {toolchain})\n"
+    wanted = f"edihub 1.0.0 (schema {number}, {logic})\n"
     return "" if found == wanted else f"the version is {found!r}, not {wanted!r}"
 
 

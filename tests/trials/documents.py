@@ -38,9 +38,13 @@ def read(document):
 # what supplier A sees of the interchanges in the folders, and then of a cancellation
 SEEN_PALLET = OTHERS[-1].replace(OTHER_PALLET, PALLET)
 BEFORE, STATUS = (told(line_status("128576", "C", 48, *it, 12), SEEN_PALLET, "end") for it in ((24, 12, 0), (14, 12, 10)))
-OF_A, OF_THE_RETAILER = f"--db hub.db --as {ALPHA} --key {KEYS[ALPHA]}", f"--db hub.db --as {RETAILER} --key {KEYS[RETAILER]}"
+OF_THE_RETAILER = f"--db hub.db --as {RETAILER} --key-file retail.key"
 FOUND = "edihub init --register register.toml --db hub.db"
-ORDERED = f"{FOUND} && edihub import {OF_THE_RETAILER} --folder in/retailer --moment {MOMENT} > printed"
+FOUND_WITH_HEADER = f"{FOUND} && echo X-Hub-Key: {KEYS[RETAILER]} > retail.header"
+ORDERED = f"{FOUND} && echo {KEYS[RETAILER]} > retail.key"
+ORDERED += f" && edihub import {OF_THE_RETAILER} --folder in/retailer --moment {MOMENT} > printed"
+DAY = FOUND.replace("register.toml", "examples/day/register.toml") + f" && echo {KEYS[RETAILER]} > retail.key"
+DAY += f" && edihub import {OF_THE_RETAILER} --folder examples/day/1-orders --moment 1748935800 > printed"
 SERVE = f"exec edihub serve --db hub.db --port 8080 --count 1000 --moment {MOMENT}"
 
 
@@ -114,6 +118,17 @@ def answer(port, path, key=KEYS[ALPHA], breaks_off=False):
             return file.read().decode()
 
 
+def in_examples(folder):
+    """How the commands of a block are looked up, which run a script in a folder of the examples."""
+
+    def trial(reader, block, _section):
+        for line in lines_of(block):
+            script(reader, line.replace("python3 ", f"python3 examples/{folder}/"))
+            reader.looked_up += 1
+
+    return trial
+
+
 def head_of_a_list(reader, block, _section):
     """The head of the answer to a list of one entry."""
     folder = reader.new()
@@ -121,6 +136,49 @@ def head_of_a_list(reader, block, _section):
     with reader.serving(SERVE, folder) as (port, _):
         head = answer(port, "mail/after/0").replace("\r\n", "\n").partition("\n\n")[0] + "\n"
     hold(head == block, f"{head!r} is answered")
+
+
+def a_header(reader, block, _section):
+    """The file with the key that the next block uses."""
+    write(reader.folder, "alpha.header", block)
+
+
+def answer_of_the_day(reader, head, body):
+    """Head and body of an answer of a hub with the orders of the example day, which is served as long as its document is read."""
+    if not reader.day:
+        folder = reader.new()
+        reader.run(DAY, folder)
+        reader.day, _ = reader.stack.enter_context(reader.serving(SERVE, folder))
+    with socket.create_connection(("127.0.0.1", reader.day), SECONDS) as one, one.makefile("rb") as file:
+        one.sendall((head.replace("\n", "\r\n") + "\r\n\r\n" + body).encode())
+        answered_head, _, answered = file.read().decode().partition("\r\n\r\n")
+    return answered_head.replace("\r\n", "\n"), answered
+
+
+def exchanged(reader, block, _section):
+    """A request to the hub of the example day, and its answer byte for byte, but that a mailbox entry is broken into lines."""
+    request, response = block.split("\n\nHTTP/1.1 ")
+    (head, _, body), (expected, _, text) = request.partition("\n\n"), f"HTTP/1.1 {response}".partition("\n\n")
+    body += "\n" if body else ""
+    length = re.search(r"^Content-Length: (\d+)$", head, re.MULTILINE)
+    hold(not body or int(length[1]) == len(body), f"the request has {len(body)} bytes")
+    answered_head, answered = answer_of_the_day(reader, head, body)
+    hold(answered_head == expected, f"{answered_head!r} is answered")
+    hold(answered in (text, text.replace("\n", "")), f"{answered!r} is answered")
+    reader.ran += 1
+
+
+def partly_refused(reader, block, _section):
+    """What is answered to a supplier's interchange with a response that the hub has, and a despatch advice of what is not open."""
+    text, despatch = (text_of(EXAMPLES, "day", it) for it in ("2-answer-of-a/answer.edi", "4-despatch-of-a/despatch.edi"))
+    more = despatch[despatch.index("UNH+") : despatch.index("UNZ+")]
+    changes = (("UNH+1", "UNH+2"), ("A-D1", "A-D2"), ("000000029", "000000043"), ("000000012", "000000036"), ("UNT+19+1", "UNT+19+2"))
+    for old, new in changes:
+        more = more.replace(old, new)
+    body = text.replace("UNZ+1", more + "UNZ+2")
+    head = f"POST /p/{ALPHA}/interchanges HTTP/1.1\nX-Hub-Key: {KEYS[ALPHA]}\nContent-Length: {len(body)}"
+    answered_head, answered = answer_of_the_day(reader, head, body)
+    hold(" 200 OK\n" in answered_head and answered == block, f"{answered_head!r}, {answered!r} is answered")
 
 
 def served(reader, block, _section):
@@ -218,36 +276,56 @@ ANSWERED = told("interchange S1 messages 1", "1 ORDRSP accepted", line_status("1
 UPLOADED = told("interchange 1001 messages 1", "1 ORDERS accepted", line_status("128576", "W", 48, 48, 0, 0, 0), "end", "accepted")
 IMPORTED = told("file 0.edi", "interchange 1001 messages 1", "1 ORDERS accepted", "file 1.edi", "interchange S1 messages 1")
 IMPORTED += told("1 ORDRSP accepted", "file 2.edi", "interchange S2 messages 1", "1 DESADV accepted") + MAIL + BEFORE * 2 + told("accepted")
-TWO, HUBS, LOGGED = "ok 2 suppliers", "ok 3 hubs, 10 suppliers", told("file 1.edi", "interchange S1 messages 1")
-PICTURE, NGINX = "a picture", "a configuration of nginx"
+TWO, HUBS = "ok 2 suppliers", "ok 3 hubs, 10 suppliers"
+# files that were imported before
+FED = [told(f"interchange S{k} messages 1", f"1 {kind} repeated") for k, kind in ((1, "ORDRSP"), (2, "DESADV"))]
+FED = {f"in/alpha/done/{k}.edi.reply": reply for k, reply in enumerate(FED, 1)}
+# whose key is in which file
+KEPT = {"retail": RETAILER, "alpha": ALPHA}
+PICTURE, NGINX, PACKAGE = "a picture", "a configuration of nginx", "what installs the package, and begins the hub"
 # of each document with blocks, how each begins, and how it is tried; or what it is, where it has no command
 BLOCKS = {
     "README.md": {"make run": looked_up},
     "docs/ARCHITECTURE.md": {"doors ": PICTURE},
     "docs/CONTRIBUTING.md": {"grep -rn 'WithoutLines'": looked_up},
     "docs/FORMATS.md": {"UNA:": "the form of mail", "service component": shown_lines, "HTTP/1.1 200 OK": head_of_a_list},
-    "docs/HTTP.md": {
-        f"HUB=http://127.0.0.1:8080/p/{ALPHA}": Run(ORDERED, True, True, {}, MAIL + ANSWERED, ("taken", "end"), {"order.edi": FIRST_MAIL}),
-        f"HUB=http://127.0.0.1:8080/p/{RETAILER}": Run(FOUND, True, True, {}, UPLOADED, ("accepted",)),
-        "edihub init": served,
-        "listening 8080": printed_before,
-        "server {": NGINX,
-    },
     "docs/OPERATING.md": {
+        "make deb": looked_up,
+        "apt-get install": PACKAGE,
+        "install -o edihub -m 600": PACKAGE,
+        "install -d -o root": PACKAGE,
+        "python3 add_supplier.py": in_examples("front"),
+        "join: accepted": "what the script prints",
         "edihub check": Run(prints=told(TWO, TWO), says=(TWO,)),
         "cp -p hub.db": Run(**OLD, prints=told(TWO, TWO), says=(TWO,), leaves={"hub.db.before": text_of(OLD_FILE)}),
         "sqlite3 hub.db 'SELECT": Run(**OLD, prints=told(ALPHA, f"{ALPHA}|{PALLET}", f"{ALPHA}|{OTHER_PALLET}")),
-        "edihub join": Run(prints=told("accepted"), says=("accepted",)),
+        "umask 077\ncat": Run(instead={f"cat > {it}.key": f"echo {KEYS[gln]} > {it}.key" for it, gln in KEPT.items()}),
+        "umask 077\nhead": Run(prints=told("accepted"), says=("accepted",)),
         "edihub import": Run(prints=IMPORTED, leaves={"order.edi": FIRST_MAIL.partition("+250603")[0]}),
-        "* * * * *": Run(instead={"* * * * *": "", "/run/": "", "...": OF_A}, prints="", leaves={"alpha.log": LOGGED}),
+        "python3 feed.py": Run(served=True, prints=told("done 1.edi", "done 2.edi"), says=("done 1.edi",), leaves=FED),
         "python3 apart.py": Run(prints=told(HUBS), says=(HUBS,)),
         "kill -STOP PID": Run("mkdir backup", served=True, prints="", then="cmp hub.db backup/hub.db; cmp hub.db-wal backup/hub.db-wal"),
         "sh backup.sh PID": Run("mkdir new", served=True, instead={"/var/backups/edihub": "new"}, then="mv PRINTED copy"),
         "edihub status --db copy": Run(prints=STATUS + told("ok")),
         "sqlite3 hub.db 'PRAGMA": Run(prints=told("ok", "128576|1|48|14|C")),
     },
-    "docs/PAGE.md": {"root /srv": NGINX},
+    "docs/PAGE.md": {"root /srv": NGINX, "GLN;Name": "a list of suppliers", "location = /suppliers.csv": NGINX},
     "docs/REGISTER.md": {"hub = ": a_register, "edihub check": Run(prints=told(TWO))},
+    "docs/SERVING.md": {"edihub init": served, "listening 8080": printed_before, "server {": NGINX},
+    "docs/SUPPLIER.md": {
+        "X-Hub-Key: ": a_header,
+        f"HUB=http://127.0.0.1:8080/p/{ALPHA}": Run(ORDERED, served=True, prints=MAIL + ANSWERED, leaves={"order.edi": FIRST_MAIL}),
+        f"HUB=http://127.0.0.1:8080/p/{RETAILER}": Run(FOUND_WITH_HEADER, True, True, prints=UPLOADED),
+        f"GET /p/{ALPHA}/mail/after/0": exchanged,
+        f"GET /p/{ALPHA}/mail/item/1": exchanged,
+        f"POST /p/{ALPHA}/mail/item/1/taken": exchanged,
+        f"POST /p/{ALPHA}/interchanges HTTP/1.1\nContent-Length: 297": exchanged,
+        f"POST /p/{ALPHA}/interchanges HTTP/1.1\nContent-Length: 398": exchanged,
+        f"GET /p/{ALPHA}/status": exchanged,
+        "interchange A1": partly_refused,
+        f"POST /p/{RETAILER}/cancellations": exchanged,
+        f"GET /p/{RETAILER}/status": exchanged,
+    },
     "docs/TESTING.md": {"file: src/answers.rt": "an edit"},
 }
 
@@ -294,4 +372,16 @@ def each_command(program):
     return "\n".join([it for wrong, _ in found for it in wrong] + [f"no document {it}" for it in BLOCKS if it not in names])
 
 
-TRIALS = [("each command of the documents", each_command)]
+def page_of(text):
+    """The block of an nginx configuration that serves the page, without its indentation."""
+    block = re.search(r"^( *)location / \{\n(?=\1 +set \$policy)(.*?)^\1\}", text, re.MULTILINE | re.DOTALL)
+    return textwrap.dedent(block[2])
+
+
+def page_is_served_alike(_program):
+    """What is wrong where PAGE and the whole front serve the page in different ways, if anything."""
+    told_by, used = (page_of(text_of(*it)) for it in ((ROOT, "docs", "PAGE.md"), (EXAMPLES, "front", "nginx.conf")))
+    return "" if told_by == used else f"PAGE.md has\n{told_by}and examples/front/nginx.conf\n{used}"
+
+
+TRIALS = [("each command of the documents", each_command), ("the page as documented and as in the front", page_is_served_alike)]

@@ -69,7 +69,8 @@ def fault(tried):
 def file(tried):
     no_register = tried.run(*init("none.toml", "new.db"))
     no_folder = tried.run(*over("import", RETAILER, "--folder", "none"))
-    return no_register == no_folder == (3, b"", b"file\n")
+    no_key = tried.run("status", "--db", NAME, "--as", ALPHA, "--key-file", "none.key")
+    return no_register == no_folder == no_key == (3, b"", b"file\n")
 
 
 def store_disk(tried):

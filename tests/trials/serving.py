@@ -610,6 +610,28 @@ def unsound(program):
     return served(program, asked, data=data) or served(program, [list_of_other], data=data)
 
 
+def stopped_when_broken(program):
+    """With `--stop-when-broken` the connection at which the database fails for good is the last one, and one line tells why. A refusal, or
+    a wrong key, is no reason; and where nothing fails, all connections are served."""
+    data = {NAME: database_files.file_of(database_files.TABLES, database_files.ROWS, hub_files.SPOILED[0][1])}
+    list_of_other, spoiled = get(BETA, "mail/after/0", 200, "end\n"), get(ALPHA, "status", 503, "stopped\n")
+    denied = ("a wrong key", head(f"GET /p/{BETA}/status HTTP/1.1", "X-Hub-Key: another-key"), 403, "denied\n")
+    for name, asked, given, wanted in (
+        ("a spoiled row", [list_of_other, denied, spoiled], data, (3, b"store unclean\n")),
+        ("nothing that fails", [list_of_other, denied, list_of_other], {}, (1, b"")),
+    ):
+        with Server(program, 5 if wanted[1] else 3, data=given, more=["--stop-when-broken"]) as server:
+            for what, request, status, body in asked:
+                why = unlike(f"{name}: {what}", server.ask(request), response(status, body))
+                if why:
+                    return why
+            lines = lines_of(server.port, [status for _, _, status, _ in asked])
+            why = unlike(name, server.end(), (wanted[0], lines, wanted[1]))
+            if why:
+                return why
+    return None
+
+
 def for_this_machine(program):
     """It listens on 127.0.0.1 and on no other address; and its files are their owner's alone, however open the folder is."""
     with Server(program, 1) as server:
@@ -809,6 +831,7 @@ ALL = {
     "a server that is killed": killed,
     "commits that take long": late,
     "a row that is none of the kinds": unsound,
+    "stopped when the database has failed for good": stopped_when_broken,
     "an address and files of its own": for_this_machine,
     "what is wrong before the first connection": begins,
     "connections by the clock": by_the_clock,

@@ -1,0 +1,77 @@
+"""The units for systemd in examples: systemd reads each of them, each service is hardened, and those of several hubs say the same as that
+of one. Where systemd's tools are not installed only the last is tried."""
+import os
+import re
+import shutil
+import subprocess
+import tempfile
+from glob import glob
+
+from tests.harness.document_shell import text_of
+from tests.harness.tree import EXAMPLES
+
+# the most exposure of a service, in tenths, as `systemd-analyze security` reckons it; seconds past which a look hangs
+MOST, SECONDS = 30, 120
+TEMPLATES = (("backup", "edihub-backup"), ("front", "edihub-restart"))
+UNITS = sorted(it for kind in ("service", "timer", "path") for it in glob(os.path.join(EXAMPLES, "*", f"*.{kind}")))
+
+
+def looked_at(*words):
+    ran = subprocess.run(["systemd-analyze", *words], stdout=subprocess.PIPE, stderr=subprocess.STDOUT, text=True, timeout=SECONDS)
+    # programs that are not installed here
+    return ran.returncode, "\n".join(it for it in ran.stdout.splitlines() if "is not executable" not in it)
+
+
+def instances(folder):
+    """The units in a folder, each template as its instance 1."""
+    for path in UNITS:
+        name = os.path.basename(path)
+        shutil.copy(path, os.path.join(folder, name))
+        if "@." in name:
+            shutil.copy(path, os.path.join(folder, name.replace("@.", "@1.")))
+    return [os.path.join(folder, os.path.basename(path).replace("@.", "@1.")) for path in UNITS]
+
+
+def why_not(unit):
+    """What systemd says against a unit, if anything."""
+    said = looked_at("verify", unit)[1]
+    if said:
+        return f"{os.path.basename(unit)}: {said:.300}"
+    if unit.endswith(".service"):
+        status, said = looked_at("security", "--offline=true", f"--threshold={MOST}", unit)
+        return f"{os.path.basename(unit)}: {said.splitlines()[-1]}" if status else None
+    return None
+
+
+def is_as_one(number):
+    """Whether the unit of the hub of this number says the same as that of a hub alone, but for number, port and file."""
+    one, text = (text_of(EXAMPLES, *it).partition("\n")[2] for it in (("front", "edihub.service"), ("hubs", f"edihub-{number}.service")))
+    instead = {f"/edihub/{number}": "/edihub", f"hub {number}": "hub", f"--port 808{number}": "--port 8080"}
+    for place, words in instead.items():
+        text = text.replace(place, words)
+    return text == one
+
+
+def is_as_template(folder, name):
+    """Whether the template of a unit for several hubs says the same as the unit for one, but for the hub."""
+    one, text = text_of(EXAMPLES, folder, f"{name}.service"), text_of(EXAMPLES, "hubs", f"{name}@.service")
+    return one.partition("[Unit]")[2] == re.sub("[-/ ]%i", "", text).partition("[Unit]")[2]
+
+
+def hubs_alike():
+    """What is wrong with the units of several hubs, which say the same as those of one, if anything."""
+    others = [f"edihub-{number}.service" for number in "123" if not is_as_one(number)]
+    others += [f"{name}@.service" for folder, name in TEMPLATES if not is_as_template(folder, name)]
+    return f"{others} say something else than the units of one hub" if others else None
+
+
+def read_by_systemd(_program):
+    """What is wrong with a unit, if anything."""
+    if not shutil.which("systemd-analyze"):
+        print("no systemd-analyze, so no unit is looked at")
+        return hubs_alike()
+    with tempfile.TemporaryDirectory() as folder:
+        return hubs_alike() or next((why for why in map(why_not, instances(folder)) if why), None)
+
+
+TRIALS = [("units for systemd", read_by_systemd)]
