@@ -1,13 +1,17 @@
 // @ts-check
-// Who is signed in, and what this tab knows of the hub. All of it is in memory alone, and gone with the tab.
+// Who is signed in, and what this tab knows of the hub. Over a reload the tab keeps GLN and key (kept_sign_in.js), drafts and what was
+// sent (kept.js); all else is in memory alone.
 
+import { readOrders } from "./entries.js";
 import { Hub, Refused } from "./hub/client.js";
+import { withExactOrders } from "./hub/order_numbers.js";
 import { readList, readStatus } from "./hub/replies.js";
+import { SentList } from "./hub/sent_list.js";
+import { MailSearch } from "./mail_search.js";
 import { readInterchange } from "./edi/envelope.js";
 import { readOrder } from "./edi/order.js";
 import { readReceipt } from "./edi/receipt.js";
 
-/** @typedef {import("./hub/delivery.js").Delivery} Delivery */
 /** @typedef {{ number: number, text: string, interchange: import("./edi/envelope.js").Interchange | null,
  *   order: import("./edi/order.js").Order | null, receipt: import("./edi/receipt.js").Receipt | null }} Entry */
 
@@ -20,19 +24,22 @@ export class Session {
     this.entries = new Map();
     /** @type {Set<number>} */
     this.taken = new Set();
-    /** @type {Delivery[]} */
-    this.deliveries = [];
+    /** @type {Set<string>} the order numbers that the mailbox was searched for */
+    this.searched = new Set();
+    this.sent = new SentList(hub);
+    this.mail = new MailSearch(this);
     this.prefix = "";
+    this.firstSerial = "";
     this.supplier = "";
   }
 
-  /** The session of this GLN and key, or null where the hub does not know them together.
+  /** The session of this GLN and key, or null if the hub does not know them together. Throws if the answer is not one that a hub gives.
    * @param {string} gln @param {string} key */
   static async begin(gln, key) {
     const hub = new Hub(gln, key);
-    if ((await answered(() => hub.mailAfter(0))) === 200) return new Session(hub, "supplier");
+    if ((await answered(() => hub.mailAfter(0), isList)) === 200) return new Session(hub, "supplier");
     // the retailer has no status of its own: it is told `unknown`, and who is not known `denied`
-    return (await answered(() => hub.statusOf(gln))) === 404 ? new Session(hub, "retailer") : null;
+    return (await answered(() => hub.statusOf(gln), isNothing)) === 404 ? new Session(hub, "retailer") : null;
   }
 
   /** Entry n of the mailbox, or null where there is none. What an entry says never changes, so it is asked for once.
@@ -64,9 +71,33 @@ export class Session {
     return { entries, raw };
   }
 
-  /** The status of the supplier who is signed in, or of the one that the retailer names. @param {string} [supplier] */
-  async status(supplier) {
-    return readStatus(await (supplier ? this.hub.statusOf(supplier) : this.hub.status()));
+  /** The status of the supplier who is signed in, with the exact order numbers of these lines at least; that of a supplier that the
+   * retailer names shows no blanks at the end of a number.
+   * @param {string} [supplier]
+   * @param {(line: import("./hub/replies.js").StatusLine) => boolean} [wanted] */
+  async status(supplier, wanted = () => false) {
+    const status = readStatus(await (supplier ? this.hub.statusOf(supplier) : this.hub.status()));
+    const orders = () => (supplier ? [] : this.orders);
+    const left = () => {
+      const known = new Set(orders().map((it) => it.document));
+      const unknown = withExactOrders(status.lines, orders()).filter((it) => it.unsure || (wanted(it) && !known.has(it.order)));
+      return unknown.filter((it) => !this.searched.has(it.order));
+    };
+    const numbers = new Set(supplier ? [] : left().map((it) => it.order));
+    await readOrders(this, numbers, () => !left().length);
+    // what was not found would not be found again
+    numbers.forEach((it) => this.searched.add(it));
+    return { ...status, lines: withExactOrders(status.lines, orders()) };
+  }
+
+  /** The status as the hub reports it, by one request: without the blanks at the end of order numbers. */
+  async report() {
+    return readStatus(await this.hub.status());
+  }
+
+  /** The orders that were read. */
+  get orders() {
+    return [...this.entries.values()].flatMap((it) => it.order ?? []);
   }
 
   /** The GLNs of hub and buyer, which the first entry of the mailbox names; null while there is none. */
@@ -74,22 +105,6 @@ export class Session {
     const first = await this.entry(1);
     const buyer = first?.order?.buyer || first?.receipt?.buyer;
     return first?.interchange && buyer ? { hub: first.interchange.sender, buyer } : null;
-  }
-
-  /** The exact number of an order, of which a status report does not tell blanks at the end. @param {string} reported */
-  exactOrder(reported) {
-    const documents = [...this.entries.values()].flatMap((it) => (it.order ? [it.order.document] : []));
-    return documents.includes(reported) ? reported : documents.find((it) => it.trimEnd() === reported) ?? reported;
-  }
-
-  /** @param {Delivery} delivery */
-  deliver(delivery) {
-    this.deliveries.push(delivery);
-    return delivery.send();
-  }
-
-  get unsettled() {
-    return this.deliveries.filter((it) => it.isUnsettled);
   }
 }
 
@@ -100,11 +115,16 @@ function entryOf(number, text) {
   return { number, text, interchange, order: message && readOrder(message), receipt: message && readReceipt(message) };
 }
 
-// The status of an answer: 200, 403 or 404. Any other is no hub's.
-/** @param {() => Promise<string>} ask */
-async function answered(ask) {
+/** @param {string} text */
+const isList = (text) => /(^|\n)(end|more)\n$/.test(text) && !readList(text).raw.length;
+const isNothing = () => false;
+
+// The status of an answer: 200, 403 or 404. Any other, and another text with a status of 200, is not a hub's.
+/** @param {() => Promise<string>} ask @param {(text: string) => boolean} isRight */
+async function answered(ask, isRight) {
   try {
-    await ask();
+    const text = await ask();
+    if (!isRight(text)) throw new Error(`it begins with ${JSON.stringify(text.slice(0, 40))}`);
     return 200;
   } catch (why) {
     if (why instanceof Refused && ["denied", "unknown"].includes(why.body)) return why.status;

@@ -1,148 +1,286 @@
 // @ts-check
 // Which screen is shown: the part of the address behind `#` names it, and never who is signed in.
 
-import { Broken, Refused } from "./hub/client.js";
-import { button, element, heading, link, notice, saying } from "./parts/dom.js";
+import { inWords } from "./hub/answers.js";
+import { Broken, Hub, Refused } from "./hub/client.js";
+import { isSafePlace } from "./hub/place.js";
+import { watchUse } from "./idle.js";
+import { hasDrafts, hasWork } from "./kept.js";
+import { forgetSignIn, keepOn, keptSignIn } from "./kept_sign_in.js";
+import { lockTab } from "./lock.js";
+import { Banner } from "./parts/banner.js";
+import { button, element, heading, link, saying } from "./parts/dom.js";
+import { askToLeave } from "./parts/leaving.js";
+import { clockTime } from "./parts/sending_panel.js";
 import { answerScreen } from "./screens/answer.js";
 import { cancelScreen } from "./screens/cancel.js";
+import { cancelLinesScreen } from "./screens/cancel_lines.js";
 import { despatchScreen } from "./screens/despatch.js";
 import { entryScreen } from "./screens/entry.js";
+import { labelsScreen } from "./screens/labels.js";
 import { mailboxScreen } from "./screens/mailbox.js";
+import { openLinesScreen } from "./screens/open_lines.js";
+import { overviewScreen } from "./screens/overview.js";
+import { searchScreen } from "./screens/search.js";
+import { sentScreen } from "./screens/sent.js";
 import { signInScreen } from "./screens/sign_in.js";
 import { statusScreen } from "./screens/status.js";
 import { supplierScreen } from "./screens/supplier.js";
+import { todayScreen } from "./screens/today.js";
 import { uploadScreen } from "./screens/upload.js";
+import { Session } from "./session.js";
 
-/** @typedef {import("./session.js").Session} Session */
 /** @typedef {{ session: Session, go: (to: string) => void }} Context */
-/** @typedef {{ title: string, content: import("./parts/dom.js").Child[] }} Screen */
+/** @typedef {{ title: string, content: import("./parts/dom.js").Child[], focus?: HTMLElement, leave?: () => void }} Screen */
 
 /** @type {Record<string, Record<string, (context: Context, ...words: string[]) => Promise<Screen>>>} */
 const SCREENS = {
-  supplier: { mailbox: mailboxScreen, entry: entryScreen, answer: answerScreen, despatch: despatchScreen, status: statusScreen },
-  retailer: { upload: uploadScreen, supplier: supplierScreen, cancel: cancelScreen },
+  supplier: {
+    today: todayScreen,
+    mailbox: mailboxScreen,
+    entry: entryScreen,
+    answer: answerScreen,
+    despatch: despatchScreen,
+    status: statusScreen,
+    sent: sentScreen,
+    labels: labelsScreen,
+  },
+  retailer: {
+    upload: uploadScreen,
+    overview: overviewScreen,
+    "open-lines": openLinesScreen,
+    search: searchScreen,
+    supplier: supplierScreen,
+    cancel: cancelScreen,
+    "cancel-lines": cancelLinesScreen,
+    sent: sentScreen,
+  },
 };
 // the menu's item for a screen that is none itself
 /** @type {Record<string, string>} */
-const BELONGS = { entry: "mailbox", answer: "mailbox" };
+const BELONGS = {
+  entry: "mailbox",
+  answer: "mailbox",
+  labels: "sent",
+  "open-lines": "overview",
+  search: "overview",
+  "cancel-lines": "supplier",
+};
 /** @type {Record<string, [string, string][]>} */
 const MENUS = {
-  supplier: [["mailbox", "Mailbox"], ["despatch", "Despatch"], ["status", "Status"]],
-  retailer: [["upload", "Upload"], ["supplier", "Status"], ["cancel", "Cancel"]],
+  supplier: [["today", "Today"], ["mailbox", "Mailbox"], ["despatch", "Despatch"], ["status", "Status"], ["sent", "Sent"]],
+  retailer: [["upload", "Upload"], ["overview", "Overview"], ["supplier", "Status"], ["cancel", "Cancel"], ["sent", "Sent"]],
 };
 
 const main = /** @type {HTMLElement} */ (document.getElementById("main"));
 const top = /** @type {HTMLElement} */ (document.getElementById("top"));
-const banner = /** @type {HTMLElement} */ (document.getElementById("banner"));
+const banner = new Banner(/** @type {HTMLElement} */ (document.getElementById("banner")), main);
+// how many documents have no answer, in the menu
+const without = element("span", {});
 
 /** @type {Session | null} */
-let session = null;
+let session = keptSession();
 let shown = 0;
+// what the screen that is shown does when it is left
+let leave = () => {};
+let menuItem = "";
+// of the screen that is shown
+let address = location.href;
+/** @type {Promise<boolean> | null} */
+let asking = null;
 
-/** @param {string} to */
-function go(to) {
-  if (location.hash === `#${to}`) show();
+// Who was signed in before the tab was reloaded.
+function keptSession() {
+  const kept = isSafePlace(location) ? keptSignIn() : null;
+  return kept?.key ? new Session(new Hub(kept.gln, kept.key), kept.role) : null;
+}
+
+/** Goes to a screen, or loads it again; asks first if typed work is left. @param {string} to */
+async function go(to) {
+  const here = location.hash === `#${to}`;
+  if (!(await mayLeave(here ? "Reload" : "Leave"))) return;
+  if (here) show();
   else location.hash = to;
+}
+
+const formWithWork = () => /** @type {HTMLElement | null} */ (main.querySelector("[data-typed]"));
+
+const KEPT = "This tab keeps what you typed: open the screen again, and it is there. It is gone when you sign out or close the tab.";
+
+/** @param {string} label of the button that leaves */
+async function mayLeave(label) {
+  const form = formWithWork();
+  if (!form) return true;
+  asking ??= askToLeave(`${form.dataset.typed} is not sent yet`, KEPT, label).finally(() => (asking = null));
+  if (!(await asking)) return false;
+  delete form.dataset.typed;
+  return true;
 }
 
 /** @param {Screen} screen */
 function fill(screen) {
+  address = location.href;
+  leave = screen.leave ?? (() => {});
   document.title = `${screen.title} · edihub`;
   main.replaceChildren(...screen.content.filter((it) => it instanceof Node));
-  const title = /** @type {HTMLElement | null} */ (main.querySelector("h1"));
-  title?.focus({ preventScroll: true });
+  const first = screen.focus ?? /** @type {HTMLElement | null} */ (main.querySelector("h1"));
+  first?.focus({ preventScroll: true });
   scrollTo(0, 0);
 }
 
 async function show() {
+  if (!session) return showSignIn();
+  // what the address names is shown once the tab is unlocked
+  if (session.hub.isLocked) return;
   shown += 1;
   const now = shown;
-  if (!session) return showSignIn();
-  // what has no answer yet is told here from now on, since the screen that told it goes
-  session.unsettled.forEach((it) => it.addEventListener("change", drawUnsettled));
+  leave();
+  banner.fail();
   const [name, ...words] = location.hash.slice(1).split("/");
   const screens = SCREENS[session.role];
   const chosen = Object.hasOwn(screens, name) ? name : MENUS[session.role][0][0];
-  drawTop(BELONGS[chosen] ?? chosen);
+  menuItem = BELONGS[chosen] ?? chosen;
+  drawTop(menuItem);
   main.setAttribute("aria-busy", "true");
+  const next = await screenOrFailure(() => screens[chosen]({ session, go }, ...words.map(decodeURIComponent)));
+  await session.hub.ready();
+  // another screen may have been asked for meanwhile
+  if (now === shown) fill(next);
+  main.removeAttribute("aria-busy");
+  drawSent();
+}
+
+/** @param {() => Promise<Screen>} make @returns {Promise<Screen>} */
+async function screenOrFailure(make) {
   try {
-    const screen = await screens[chosen]({ session, go }, ...words.map(decodeURIComponent));
-    // another screen may have been asked for meanwhile
-    if (now === shown) fill(screen);
+    return await make();
   } catch (why) {
     const again = button("Try again", show, { class: "primary" });
-    if (now === shown) fill({ title: "No answer", content: [heading("No answer"), failure(why), again] });
+    return { title: "No answer", content: [heading("No answer"), failure(why), again] };
   }
-  main.removeAttribute("aria-busy");
-  drawUnsettled();
 }
 
 function showSignIn() {
   drawTop("");
-  banner.replaceChildren();
-  fill(signInScreen(signedIn));
-  /** @type {HTMLElement | null} */ (main.querySelector("input"))?.focus();
+  banner.clear();
+  const gln = keptSignIn()?.gln ?? "";
+  fill(signInScreen(signedIn, gln, gln && hasWork(gln) ? signOut : null));
+  const inputs = /** @type {HTMLInputElement[]} */ ([...main.querySelectorAll("input")]);
+  inputs.find((it) => !it.value)?.focus();
 }
+
+// A form says itself what becomes of what it sent, so it is asked first.
+const listen = () => session?.sent.addEventListener("change", () => queueMicrotask(drawSent));
 
 /** @param {Session} begun */
 function signedIn(begun) {
   session = begun;
+  listen();
   // a screen that the address names is gone to, as after a reload
   const [name] = location.hash.slice(1).split("/");
   go(Object.hasOwn(SCREENS[begun.role], name) ? location.hash.slice(1) : MENUS[begun.role][0][0]);
 }
 
-// The page is loaded anew, so that nothing of the session stays in memory; where something has no answer, the browser asks first.
-function signOut() {
+// The page is loaded again, so that nothing of the session stays in memory; what would be lost is asked for first.
+async function signOut() {
+  if (!(await mayForget())) return;
+  forgetSignIn();
+  session = null;
   history.replaceState(null, "", location.pathname);
+  location.reload();
+}
+
+async function mayForget() {
+  const lost = session && loss(session);
+  return !lost || askToLeave(...lost, "Sign out");
+}
+
+/** What signing out would lose, and what that means. @param {Session} session @returns {[string, string] | null} */
+function loss({ sent, hub }) {
+  const [open] = sent.unsettled;
+  const typed = formWithWork()?.dataset.typed;
+  if (open) return [`${open.facts.what} has no answer yet`, "If you sign out, the same cannot be sent again from here."];
+  if (typed) return [`${typed} is not sent yet`, "If you sign out, what you typed is gone."];
+  if (sent.next?.facts.kind === "file") return ["Files are not sent yet", "If you sign out, you have to choose them again."];
+  if (sent.next) return [`${sent.next.facts.what} is not sent yet`, "If you sign out, what waits for its turn is not sent."];
+  return hasDrafts(hub.caller) ? ["There are drafts", "You typed something that is not sent. If you sign out, it is gone."] : null;
+}
+
+function lock() {
+  if (!session || session.hub.isLocked) return;
+  // what is asked names what was typed
+  /** @type {HTMLDialogElement | null} */ (document.querySelector("dialog[open]"))?.close();
+  const draw = () => [drawTop(menuItem), drawSent()];
+  const left = leave;
+  lockTab({ main, session, fill, draw, show, signOut });
+  // the screen that is put away is left later
+  leave = left;
+}
+
+// A page that the browser brings back as it was has what a person saw who has signed out since: it is loaded again then.
+/** @param {PageTransitionEvent} event */
+function broughtBack({ persisted }) {
+  if (!persisted || !session || keptSignIn()?.gln === session.hub.caller) return;
+  main.replaceChildren();
   location.reload();
 }
 
 /** @param {string} chosen */
 function drawTop(chosen) {
   const brand = element("span", { class: "brand" }, "edihub");
-  if (!session) return top.replaceChildren(element("div", { class: "bar-top" }, brand));
-  const items = MENUS[session.role].map(([to, label]) => link(label, to, { "aria-current": to === chosen ? "page" : null }));
+  if (!session || session.hub.isLocked) return top.replaceChildren(element("div", { class: "bar-top" }, brand));
+  const items = MENUS[session.role].map(([to, label]) =>
+    link([label, to === "sent" ? without : null], to, { "aria-current": to === chosen ? "page" : null }),
+  );
   const side = session.role === "supplier" ? "Supplier " : "Retailer ";
   const who = element("span", { class: "who" }, side, element("span", { class: "digits" }, session.hub.caller));
   const menu = element("nav", { "aria-label": "Screens" }, ...items);
   top.replaceChildren(element("div", { class: "bar-top" }, brand, menu, who, button("Sign out", signOut, { class: "quiet" })));
 }
 
-// What was sent from a screen that was left, and has no answer.
-function drawUnsettled() {
-  const left = session?.unsettled.filter((it) => it.state === "unanswered") ?? [];
-  banner.replaceChildren(...left.map(unsettledNotice));
-}
-
-/** @param {import("./hub/delivery.js").Delivery} delivery */
-function unsettledNotice(delivery) {
-  const again = button("Send the same again", async () => {
-    await delivery.send();
-    drawUnsettled();
-    const said = element("code", {}, delivery.reply.trim());
-    if (delivery.state === "answered") banner.append(saying("plain", `${delivery.what}: the hub said `, said));
-  });
-  return notice("warn", element("p", {}, `${delivery.what} was sent, and no answer came. Sending the very same again is safe.`), again);
+// What was sent from a screen that was left, and how many have no answer.
+function drawSent() {
+  if (!session) return;
+  banner.place.hidden = session.hub.isLocked;
+  banner.draw(session.sent.sendings);
+  const count = session.sent.unsettled.length;
+  without.textContent = count ? ` (${count} without answer)` : "";
 }
 
 /** @param {unknown} why */
 function failure(why) {
-  if (why instanceof Broken) return saying("warn", "The hub does not answer. Nothing is lost: try again in a moment.");
+  if (why instanceof Broken) return saying("warn", `${inWords(why.reason)} Nothing is lost: try again ${laterInWords(why.wait)}.`);
   const denied = why instanceof Refused && why.status === 403;
   if (denied) return saying("bad", "Denied: the hub does not know this GLN with this key any more. Sign out and in again.");
   return saying("bad", `Something went wrong: ${why instanceof Error ? why.message : why}`);
 }
 
-addEventListener("hashchange", (event) => {
-  if (location.hash !== "#main") return show();
-  // the link that skips the menu is no screen
-  history.replaceState(null, "", event.oldURL);
-  main.focus();
+/** @param {number} wait milliseconds */
+const laterInWords = (wait) => (wait ? `after ${clockTime(Date.now() + wait)}` : "in a moment");
+
+// Links to screens ask before typed work is left, and load the screen again that is shown.
+document.addEventListener("click", (event) => {
+  const to = event.target instanceof Element ? event.target.closest("a[href^='#']")?.getAttribute("href")?.slice(1) : null;
+  if (!to || to === "main" || event.ctrlKey || event.metaKey || event.shiftKey || event.altKey) return;
+  event.preventDefault();
+  go(to);
+});
+addEventListener("hashchange", async (event) => {
+  if (location.hash === "#main") {
+    // the link that skips the menu is no screen
+    history.replaceState(null, "", event.oldURL);
+    main.focus();
+  } else if (await mayLeave("Leave")) show();
+  else history.pushState(null, "", address);
 });
 // what an action of a screen did not expect
-addEventListener("unhandledrejection", (event) => banner.replaceChildren(failure(event.reason)));
+addEventListener("unhandledrejection", (event) => banner.fail(failure(event.reason)));
+// A browser asks nobody who has not used the page yet, and complains if it is told to.
 addEventListener("beforeunload", (event) => {
-  if (session?.unsettled.length) event.preventDefault();
+  const isUsed = navigator.userActivation?.hasBeenActive ?? true;
+  if (isUsed && session && (formWithWork() || session.sent.unsettled.length || session.sent.next)) event.preventDefault();
 });
+addEventListener("pageshow", broughtBack);
+watchUse(lock, keepOn);
+listen();
 show();

@@ -4,12 +4,15 @@
 /** @param {number} number @param {number} [places] */
 const padded = (number, places = 2) => String(number).padStart(places, "0");
 
-/** CCYYMMDD of the day on the clock of whoever writes.
+/** CCYYMMDD on the local clock of whoever writes: all dates, times and document numbers that the page makes come from that clock.
  * @param {Date} date */
 export const day = (date) => padded(date.getFullYear(), 4) + padded(date.getMonth() + 1) + padded(date.getDate());
 
 /** HHMM. @param {Date} date */
 export const minute = (date) => padded(date.getHours()) + padded(date.getMinutes());
+
+/** SS. @param {Date} date */
+export const second = (date) => padded(date.getSeconds());
 
 /** Whether CCYYMMDD (102) or CCYYMMDDHHMM (203) names a day of the Gregorian calendar, and a minute of it.
  * @param {string} text @param {string} format */
@@ -35,6 +38,13 @@ export function dateInWords(text, format) {
   const date = `${Number(text.slice(6, 8))} ${MONTHS[Number(text.slice(4, 6)) - 1]} ${text.slice(0, 4)}`;
   return format === "203" ? `${date}, ${text.slice(8, 10)}:${text.slice(10)}` : date;
 }
+
+/** A moment as a number by which moments are sorted, to the minute; a day is its first minute, and what is no date comes before all.
+ * @param {string} text @param {string} format */
+export const moment = (text, format) => (isDate(text, format) ? Number(text.padEnd(12, "0")) : 0);
+
+/** The same of a UNB's date and time. @param {string} date @param {string} time */
+export const preparedMoment = (date, time) => moment(`20${date}${time}`, "203");
 
 /** The date and time of a UNB, whose year has two digits.
  * @param {string} date @param {string} time */

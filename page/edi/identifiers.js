@@ -43,16 +43,3 @@ export const isPrefix = (text) => /^[0-9]{4,12}$/.test(text);
 
 /** @param {string} sscc @param {string} prefix */
 export const isUnder = (sscc, prefix) => sscc.startsWith(prefix, 1);
-
-/** The next SSCC under a prefix: one more than the greatest that is used under it, or the first one. Without a prefix it is one more than
- * the greatest used. Empty where none can be proposed.
- * @param {string} prefix
- * @param {string[]} used */
-export function nextSscc(prefix, used) {
-  const known = used.filter((it) => isSscc(it) && isUnder(it, prefix)).sort();
-  const last = known[known.length - 1];
-  if (!last) return isPrefix(prefix) ? withCheckDigit("3" + prefix.padEnd(15, "0") + "1") : "";
-  const next = String(BigInt(last.slice(0, 17)) + 1n).padStart(17, "0");
-  const carried = next.length > 17 || next[0] !== last[0] || !isUnder(next, prefix);
-  return carried ? "" : withCheckDigit(next);
-}

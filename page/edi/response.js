@@ -38,7 +38,8 @@ function answerLine(group, order) {
   return quantity === null ? null : { line: named?.line ?? null, gtin: line.gtin, answer, quantity };
 }
 
-/** The message that answers an order. Function 29 accepts and 27 refuses all that waits, without lines; else each line is named.
+/** The message that answers an order. Function 29 accepts and 27 refuses all that still waits, without lines; function 4, which the
+ * page sends, names each line.
  * @param {{ document: string, date: string, order: string, buyer: string, supplier: string, function: string,
  *   lines: AnswerLine[] }} response */
 export function responseText({ document, date, order, buyer, supplier, function: purpose, lines }) {

@@ -1,8 +1,17 @@
 // @ts-check
 // The hub's HTTP paths, as one caller asks them. A body is a string with one character for each byte.
 
-/** The connection broke, or the hub could not go on: whether it was done is not known, and the same may be asked again. */
-export class Broken extends Error {}
+import { reasonOf, waitOf } from "./answers.js";
+
+/** There is no answer: whether it was done is not known, and the same may be asked again, after the wait that was asked for. */
+export class Broken extends Error {
+  /** @param {string} said @param {import("./answers.js").Reason} reason @param {number} [wait] milliseconds */
+  constructor(said, reason, wait = 0) {
+    super(said);
+    this.reason = reason;
+    this.wait = wait;
+  }
+}
 
 /** The hub answered that it does not do this. */
 export class Refused extends Error {
@@ -14,7 +23,9 @@ export class Refused extends Error {
   }
 }
 
-const PATIENCE = 90_000;
+// The front takes 30 seconds for a request, keeps it 90 in its queue, tries the hub 60 times in as many seconds, and waits 60 for its
+// answer (examples/front/haproxy.cfg). A page that gives up earlier asks again while its first request still waits for its turn.
+const PATIENCE = 250_000;
 const ONCE_MORE = 400;
 
 /** @param {string} text */
@@ -28,13 +39,11 @@ export function textOfBytes(buffer) {
   return pieces.join("");
 }
 
-// Answers after which the same may be asked again: of the hub, that it stopped or that the body broke off; of a proxy, that the hub is
-// away.
-/** @param {number} status @param {string} body */
-const isBroken = (status, body) => status >= 500 || status === 429 || (status === 400 && body === "bad request\n");
-
 export class Hub {
+  /** @type {string | Promise<string>} */
   #key;
+  /** @type {(key: string) => void} */
+  #bringKey = () => {};
 
   /** @param {string} caller a GLN
    * @param {string} key */
@@ -43,37 +52,61 @@ export class Hub {
     this.#key = key;
   }
 
-  /** @param {string} path @param {Uint8Array} [body] */
-  async #ask(path, body) {
-    let status, text;
+  /** Forgets the key: what is asked from now on waits until `unlock` brings it back. */
+  lock() {
+    this.#key = new Promise((done) => (this.#bringKey = done));
+  }
+
+  /** @param {string} key */
+  unlock(key) {
+    this.#key = key;
+    this.#bringKey(key);
+  }
+
+  /** Waits while the key is forgotten. */
+  async ready() {
+    await this.#key;
+  }
+
+  get isLocked() {
+    return typeof this.#key !== "string";
+  }
+
+  /** @param {string} path @param {Uint8Array} [body] @param {AbortSignal} [stop] by which the person stops it */
+  async #ask(path, body, stop) {
+    const key = await this.#key;
+    const patience = AbortSignal.timeout(PATIENCE);
+    let status, text, wait;
     try {
       const response = await fetch(`/p/${this.caller}/${path}`, {
         method: body ? "POST" : "GET",
         body,
-        headers: { "X-Hub-Key": this.#key },
+        headers: { "X-Hub-Key": key },
         cache: "no-store",
         credentials: "omit",
         redirect: "error",
         referrerPolicy: "no-referrer",
-        signal: AbortSignal.timeout(PATIENCE),
+        signal: stop ? AbortSignal.any([patience, stop]) : patience,
       });
       status = response.status;
       text = textOfBytes(await response.arrayBuffer());
+      wait = waitOf(response.headers.get("Retry-After"));
     } catch (why) {
-      throw new Broken(String(why));
+      throw new Broken(String(why), why instanceof DOMException && why.name === "TimeoutError" ? "patience" : "connection");
     }
-    if (isBroken(status, text)) throw new Broken(`${status} ${text}`.trim());
+    const reason = reasonOf(status, text);
+    if (reason) throw new Broken(`${status} ${text}`.trim(), reason, wait);
     if (status !== 200 && !(status === 400 && text.startsWith("refused "))) throw new Refused(status, text);
     return text;
   }
 
-  // What only reads is asked once more where the connection breaks.
+  // What only reads is asked once more if the connection breaks, unless a longer wait was asked for.
   /** @param {string} path */
   async #read(path) {
     try {
       return await this.#ask(path);
     } catch (why) {
-      if (!(why instanceof Broken)) throw why;
+      if (!(why instanceof Broken) || why.wait) throw why;
       await new Promise((done) => setTimeout(done, ONCE_MORE));
       return this.#ask(path);
     }
@@ -101,6 +134,11 @@ export class Hub {
   /** @param {string} supplier a GLN */
   statusOf(supplier) {
     return this.#read(`status/${supplier}`);
+  }
+
+  /** The same by one request, which can be stopped. @param {string} supplier a GLN @param {AbortSignal} stop */
+  statusOnce(supplier, stop) {
+    return this.#ask(`status/${supplier}`, undefined, stop);
   }
 
   /** @param {Uint8Array} interchange */

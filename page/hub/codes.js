@@ -1,66 +1,281 @@
 // @ts-check
-// What the hub's codes mean, and what to do then: in the words of docs/FORMATS.md and docs/RULES.md, shortened.
+// What the hub's codes mean, their usual causes, and what to do then: written from docs/codes.toml by `python3 -m tests.codes --write`.
 
-/** @type {Record<string, [string, string]>} */
+/** @typedef {{ meaning: string, cause: string, remedy: string }} Words */
+
+/** @type {Record<string, Words>} */
 const CODES = {
-  E01: ["The file is longer than 1,048,576 bytes.", "Split it into several."],
-  E02: ["The service string (UNA) at the beginning is wrong.", "Have the file made again."],
-  E03: ["A character stands in it that an interchange cannot have.", "Take it out and send it again."],
-  E04: ["The file is cut: it ends inside a segment.", "Send the whole file."],
-  E05: ["Something else stands where a segment's tag has to be.", "See whether this is an EDIFACT file at all."],
-  E06: ["It does not begin with UNB and end with UNZ.", "Send the whole file, and only one interchange in it."],
-  E07: ["The header (UNB) is wrong: syntax, partners, date, time or reference.", "Have the sender's set-up looked at."],
-  E08: ["The sender in the file is not the one who is signed in.", "Sign in as the sender, or correct the file."],
-  E09: ["The recipient in the file is not this hub.", "Correct the recipient."],
-  E10: ["The messages are not each one UNH, its segments and one UNT.", "Have the file made again."],
-  E11: ["A message's header (UNH) is wrong, or its count is no number.", "Have the file made again."],
-  E12: ["A message's count of segments is wrong.", "Part of it may be missing. Have the file made again."],
-  E13: ["A message's end has another reference than its beginning.", "Have the file made again."],
-  E14: ["The count of messages is wrong.", "Part of the file may be missing."],
-  E15: ["The end of the file has another reference than its beginning.", "Have the file made again."],
-  E16: ["Two messages in it have the same reference.", "Number the messages of a file differently."],
-  E17: ["It is marked as a test.", "The hub takes no tests."],
-  E18: ["It has more than 999 messages.", "Split it into several."],
-  E19: ["It has letters that its character set (UNOA, UNOB) does not have.", "Use UNOC."],
-  E20: ["A segment is longer than 8,192 bytes.", "Shorten the text in it."],
-  M01: ["This type of message is not taken from this side.", "The retailer sends ORDERS and RECADV, a supplier ORDRSP and DESADV."],
-  M02: ["The beginning (BGM) or the document number is wrong.", "A document number has 1 to 35 plain letters, digits or signs."],
-  M03: ["The message's function is not one that is taken.", "Send originals (function 9); a receipt that replaces has function 5."],
-  M04: ["The document date is missing or no date.", "Give exactly one date."],
-  M05: ["The buyer or the supplier is missing, stands twice, or its GLN is wrong.", "Look at the GLNs."],
-  M06: ["The summary (UNS) is missing or in the wrong place.", "Have the message made again."],
-  M07: ["A line is wrong: its number, its article or its answer.", "Look at the article numbers (GTIN)."],
-  M08: ["A quantity is missing, stands twice or is no number.", "Quantities are whole pieces, at most 999,999,999."],
-  M09: ["The reference to an order is missing or wrong.", "Name one order in 1 to 35 plain letters, digits or signs."],
-  M10: ["A pallet is wrong: its SSCC is missing, no SSCC, or stands twice.", "Look at the SSCC."],
-  M11: ["The count of lines is wrong.", "Part of it may be missing. Have the message made again."],
-  M12: ["The message has no line.", "Send at least one line."],
-  B01: ["The buyer named in it is not this hub's retailer.", "Look at the buyer's GLN."],
-  B02: ["The supplier is not known to the hub, or is not the one who is signed in.", "The retailer has to let the supplier in first."],
-  B03: ["Something else was sent under the same reference before.", "Send it again: the page takes a new reference."],
-  B04: ["The supplier already has an order of this number.", "Give the order another number."],
-  B05: ["The supplier has no such order.", "Look at the order number."],
-  B06: ["The order has no such line.", "Look at the line number."],
-  B07: ["The line does not wait for an answer any more: it was answered before.", "Look at the status."],
-  B08: ["The changed quantity is less than what is despatched, or more than that and what is open.", "Give a quantity between the two."],
-  B09: ["The line has another article.", "Look at the article number (GTIN)."],
-  B10: ["More is despatched than is open.", "Something may have been cancelled meanwhile. Lower the quantity."],
-  B11: ["The SSCC is under none of the supplier's company prefixes.", "Use the prefix that GS1 gave to you."],
-  B12: ["The SSCC was used before.", "Take a new one: an SSCC is used once, for ever."],
-  B13: ["You have sent a despatch advice of this number before.", "Give it another number."],
-  B14: ["The supplier has announced no such pallet.", "Look at the SSCC."],
-  B15: ["The pallet was received before.", "To correct a receipt, send one with function 5."],
-  B16: ["The supplier's mailbox is full.", "Call the retailer."],
-  B17: ["More is cancelled than is open.", "Lower the quantity."],
-  B18: ["This GLN is already one of the hub's.", ""],
-  B19: ["A company prefix is also that of another supplier.", ""],
-  B20: ["The hub has 1,000 suppliers, which is the most it takes.", ""],
+  E01: {
+    meaning: "The file is longer than 1,048,576 bytes.",
+    cause: "Too many messages were put into one file.",
+    remedy: "Split it into several interchanges.",
+  },
+  E02: {
+    meaning: "The service string (UNA) at the beginning is wrong or cut off.",
+    cause: "The sender's program uses separators that are not allowed, such as one character for two of them.",
+    remedy: "Set the program to the usual separators, which are : + . ? and the apostrophe.",
+  },
+  E03: {
+    meaning: "The file has a character that is not allowed in an interchange.",
+    cause: "A text has a tab or a line break in it, or the file was saved as UTF-8.",
+    remedy: "Take the character out, or save the file as ISO 8859-1.",
+  },
+  E04: {
+    meaning: "The file is cut off: it ends inside a segment.",
+    cause: "A transfer broke off, or the terminator of the last segment is missing.",
+    remedy: "Send the whole file.",
+  },
+  E05: {
+    meaning: "The file has something other than a segment's tag where one has to be.",
+    cause: "It is not an EDIFACT file, or a text has an apostrophe without a release character before it.",
+    remedy: "Check that you chose the right file, and have each apostrophe in a text written as ?'.",
+  },
+  E06: {
+    meaning: "The file does not begin with UNB and end with UNZ, or has one of them twice.",
+    cause: "The file is incomplete, or several interchanges are in it.",
+    remedy: "Send each interchange whole, and in a file of its own.",
+  },
+  E07: {
+    meaning: "The header (UNB) is wrong: its syntax, sender, recipient, date, time or reference.",
+    cause: "The sender's program is set to another syntax or version, or to a qualifier other than 14.",
+    remedy: "Set it to UNOC and version 3, with a GLN and qualifier 14 for sender and recipient.",
+  },
+  E08: {
+    meaning: "The sender in the file is not the company that is signed in.",
+    cause: "The file is another company's, or the sender's program has another GLN for it.",
+    remedy: "Sign in as the sender, or correct the sender in UNB.",
+  },
+  E09: {
+    meaning: "The recipient in the file is not this hub.",
+    cause: "The sender's program has another GLN for the hub.",
+    remedy: "Correct the recipient in UNB: the hub's GLN, or a supplier may give the retailer's.",
+  },
+  E10: {
+    meaning: "The messages are not each one UNH, its segments and one UNT.",
+    cause: "A UNH or UNT is missing, or the sender's program writes functional groups (UNG and UNE).",
+    remedy: "Have the file written again, without groups.",
+  },
+  E11: {
+    meaning: "A message's header (UNH) is wrong, or the count in its UNT is not a number.",
+    cause: "The message reference is missing or longer than 14 characters, or the message type is incomplete.",
+    remedy: "Correct UNH: a reference, and a type such as ORDRSP:D:01B:UN.",
+  },
+  E12: {
+    meaning: "The count of segments in a message's UNT is wrong.",
+    cause: "Part of the message is missing, or it was changed by hand.",
+    remedy: "Have the file written again.",
+  },
+  E13: {
+    meaning: "A message's UNT has another reference than its UNH.",
+    cause: "The message was changed by hand, or put together from two.",
+    remedy: "Have the file written again.",
+  },
+  E14: {
+    meaning: "The count of messages in UNZ is wrong.",
+    cause: "A message is missing, or was added by hand.",
+    remedy: "Have the file written again.",
+  },
+  E15: {
+    meaning: "The end of the file (UNZ) has another reference than its beginning (UNB).",
+    cause: "The file was changed by hand, or put together from two.",
+    remedy: "Have the file written again.",
+  },
+  E16: {
+    meaning: "Two messages in the file have the same reference.",
+    cause: "A message was copied, or the sender's program does not number its messages.",
+    remedy: "Give each message of a file a reference of its own.",
+  },
+  E17: {
+    meaning: "The file is marked as a test, and the hub takes no tests.",
+    cause: "The sender's program is still set to testing.",
+    remedy: "Have the test indicator left out, and send the file again.",
+  },
+  E18: {
+    meaning: "The file has more than 999 messages.",
+    cause: "The messages of a long time were put into one file.",
+    remedy: "Split it into several interchanges.",
+  },
+  E19: {
+    meaning: "The file has letters that its character set, UNOA or UNOB, does not have.",
+    cause: "A name or a text has an umlaut or an accent.",
+    remedy: "Set the sender's program to UNOC.",
+  },
+  E20: {
+    meaning: "A segment is longer than 8,192 bytes.",
+    cause: "A text in it is too long, or a terminator is missing.",
+    remedy: "Shorten the text, and have each segment end with its terminator.",
+  },
+  M01: {
+    meaning: "The hub does not take this type of message, or not from this side.",
+    cause: "The message is of the other side, or the sender's program writes another version than D.01B.",
+    remedy: "The retailer sends ORDERS and RECADV, a supplier ORDRSP and DESADV, each as D:01B:UN.",
+  },
+  M02: {
+    meaning: "The beginning (BGM) or the document number is wrong.",
+    cause: "The document number is missing, longer than 35 characters, or has an umlaut or an accent.",
+    remedy: "Give it 1 to 35 plain letters, digits or signs.",
+  },
+  M03: {
+    meaning: "The hub does not take this function of a message.",
+    cause: "The sender's program sends a copy, a change or a cancellation.",
+    remedy: "Send originals (function 9). An answer to an order may also have 4, 27 or 29, a receipt 5.",
+  },
+  M04: {
+    meaning: "The document date is missing, there are two, or it is not a date.",
+    cause: "The sender's program writes a date in another format, or a day that does not exist.",
+    remedy: "Give exactly one date (DTM 137), in format 102 or 203.",
+  },
+  M05: {
+    meaning: "The buyer or the supplier is missing, there are two, or its GLN is wrong.",
+    cause: "A check digit is wrong, or the sender's program gives a customer number in place of the GLN.",
+    remedy: "Give each party once, by its GLN with code 9.",
+  },
+  M06: {
+    meaning: "The summary (UNS) is missing or in the wrong place.",
+    cause: "The sender's program leaves it out, or writes it before the last line.",
+    remedy: "Have one UNS+S written after the last line.",
+  },
+  M07: {
+    meaning: "A line is wrong: its number, its article or its answer.",
+    cause: "The check digit of a GTIN is wrong, or a company's own article number is given instead.",
+    remedy: "Give each line its number and the GTIN of its article.",
+  },
+  M08: {
+    meaning: "A quantity is missing, there are two, or it is not valid.",
+    cause: "It is not a whole number, is in another unit than pieces, or is zero in an order or a despatch.",
+    remedy: "Give each quantity once, in whole pieces, at most 999,999,999.",
+  },
+  M09: {
+    meaning: "The reference to an order is missing or wrong.",
+    cause: "The sender's program leaves the order number out, or an answer names two orders.",
+    remedy: "Give the order's number (RFF+ON) as it is in the order, and send an answer for each order.",
+  },
+  M10: {
+    meaning: "A pallet is wrong: its SSCC is missing or not valid, or two pallets have it.",
+    cause: "The check digit of an SSCC is wrong, or a line comes before the first pallet.",
+    remedy: "Give each pallet one SSCC of its own, and put each line on a pallet.",
+  },
+  M11: {
+    meaning: "The count of lines (CNT+2) is wrong.",
+    cause: "A line is missing, or the sender's program counts something else.",
+    remedy: "Have the message written again; the count may also be left out.",
+  },
+  M12: {
+    meaning: "The message has no line.",
+    cause: "The document was still empty when it was sent.",
+    remedy: "Send at least one line; only an answer to a whole order (function 27 or 29) needs none.",
+  },
+  B01: {
+    meaning: "The buyer in the message is not this hub's retailer.",
+    cause: "The GLN is that of a branch or of another customer.",
+    remedy: "Give the retailer's GLN as the buyer.",
+  },
+  B02: {
+    meaning: "The supplier is not registered in the hub, or is not the one that is signed in.",
+    cause: "The supplier's GLN is wrong, or the retailer has not registered the supplier yet.",
+    remedy: "Check the GLN. Once the retailer has registered the supplier, send it again.",
+  },
+  B03: {
+    meaning: "Something else was sent under the same reference before.",
+    cause: "A document was changed and sent again, or the sender's program began to count again.",
+    remedy: "Send it under a new reference; the page takes a new one when you send again.",
+  },
+  B04: {
+    meaning: "The supplier already has an order of this number.",
+    cause: "The order was sent before, or its number was used for another one.",
+    remedy: "If it is a new order, give it another number.",
+  },
+  B05: {
+    meaning: "The supplier has no such order.",
+    cause: "The order number is mistyped, or is the supplier's own number for it.",
+    remedy: "Give the number as it is in the order.",
+  },
+  B06: {
+    meaning: "The order has no such line, or it is not clear which line is meant.",
+    cause: "The line number is wrong; or none is given, and the article is on no line or on several.",
+    remedy: "Give the line's number as it is in the order.",
+  },
+  B07: {
+    meaning: "The line does not wait for an answer any more.",
+    cause: "It was answered before, perhaps by a colleague.",
+    remedy: "Look at the status: it has the answer that counts.",
+  },
+  B08: {
+    meaning: "The changed quantity is less than what is despatched, or more than that and what is open together.",
+    cause: "Part of the line was despatched or cancelled before.",
+    remedy: "Look at the status, and give a quantity between the two.",
+  },
+  B09: {
+    meaning: "The line has another article.",
+    cause: "The line number is wrong, or a substitute was delivered.",
+    remedy: "Give the line and its article as they are in the order.",
+  },
+  B10: {
+    meaning: "More is despatched than is open.",
+    cause: "Part of the line was despatched, refused or cancelled before.",
+    remedy: "Look at the status, and lower the quantity.",
+  },
+  B11: {
+    meaning: "The SSCC is under none of the supplier's company prefixes.",
+    cause: "The SSCC is another company's, or the prefix is not registered in the hub.",
+    remedy: "Use the prefix that GS1 gave you, and ask the retailer which prefixes are registered.",
+  },
+  B12: {
+    meaning: "The SSCC was used before.",
+    cause: "The despatch was sent before, or the sender's program began its serial numbers again.",
+    remedy: "Take a new one: an SSCC is used only once.",
+  },
+  B13: {
+    meaning: "The supplier has sent a despatch advice of this number before.",
+    cause: "The despatch was sent before, or its number was used for another one.",
+    remedy: "If it is a new despatch, give it another number.",
+  },
+  B14: {
+    meaning: "The supplier has announced no such pallet.",
+    cause: "The SSCC is mistyped, or the despatch advice has not come yet.",
+    remedy: "Check the SSCC. Once the despatch advice has come, send the receipt again.",
+  },
+  B15: {
+    meaning: "The pallet was received before.",
+    cause: "The receipt was sent before, or the same pallet was counted twice.",
+    remedy: "To correct a receipt, send one with function 5.",
+  },
+  B16: {
+    meaning: "The supplier's mailbox is full.",
+    cause: "It has 99,999,999,999,999 entries, which is the most it takes.",
+    remedy: "Ask the hub's operator: the supplier needs another hub.",
+  },
+  B17: {
+    meaning: "More is cancelled than is open.",
+    cause: "The supplier has despatched or refused part of the line meanwhile.",
+    remedy: "Look at the status, and lower the quantity.",
+  },
+  B18: {
+    meaning: "The GLN is already the hub's, the retailer's or a supplier's.",
+    cause: "The supplier was registered before, perhaps by a command whose answer was lost.",
+    remedy: "If the supplier is in the hub, there is nothing left to do; if not, check the GLN.",
+  },
+  B19: {
+    meaning: "A company prefix begins one of another supplier, or is begun by it.",
+    cause: "One of the two prefixes is mistyped or cut short.",
+    remedy: "Ask both suppliers which prefix GS1 gave them.",
+  },
+  B20: {
+    meaning: "The hub has 1,000 suppliers, which is the most it takes.",
+    cause: "No supplier ever leaves a hub, so it fills up.",
+    remedy: "Set up another hub for further suppliers.",
+  },
 };
 
-/** What a code means, and what to do then. @param {string} code */
-export const meaningOf = (code) => CODES[code]?.[0] ?? "The page does not know this code.";
+/** @type {Words} */
+const UNKNOWN = {
+  meaning: "The page does not know this code.",
+  cause: "The hub is newer than the page.",
+  remedy: "Look it up in docs/CODES.md of the hub's version.",
+};
+
 /** @param {string} code */
-export const adviceOf = (code) => CODES[code]?.[1] ?? "docs/FORMATS.md and docs/RULES.md have them all.";
+export const wordsOf = (code) => CODES[code] ?? UNKNOWN;
 
 /** @type {Record<string, string>} */
 export const OUTCOMES = {

@@ -5,7 +5,7 @@
 /** @typedef {{ number: number, type: string, document: string }} MailEntry */
 /** @typedef {"W" | "A" | "N" | "C"} AnswerLetter */
 /** @typedef {{ order: string, line: number, gtin: string, answer: AnswerLetter, ordered: number, open: number, refused: number,
- *   cancelled: number, despatched: number }} StatusLine */
+ *   cancelled: number, despatched: number, unsure?: number }} StatusLine an order of which it is unsure has a number from 1 */
 /** @typedef {{ sscc: string, gtin: string, state: "A" | "R" | "C", despatched: number, accepted: number, returned: number,
  *   destroyed: number, difference: number }} StatusPallet */
 

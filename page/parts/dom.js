@@ -50,6 +50,9 @@ const FIGURES = new Intl.NumberFormat("en-GB");
 /** @param {number} number */
 export const figure = (number) => FIGURES.format(number);
 
+/** So many of a thing, as `1 line` or `2 lines`. @param {number} count @param {string} noun */
+export const counted = (count, noun) => `${figure(count)} ${noun}${count === 1 ? "" : "s"}`;
+
 let identifiers = 0;
 
 /** An identifier that no other element of this page has. @param {string} name */
@@ -63,6 +66,12 @@ export const actions = (...children) => element("div", { class: "actions" }, ...
 
 /** A notice of one paragraph. @param {string} kind @param {...Child} words */
 export const saying = (kind, ...words) => notice(kind, element("p", {}, ...words));
+
+/** Gives a live region its words, unless it has them: what did not change is not spoken again.
+ * @param {HTMLElement} region @param {string} words */
+export function sayOnce(region, words) {
+  if (region.textContent !== words) region.textContent = words;
+}
 
 /** A notice of one kind: `good`, `bad`, `warn` or `plain`. @param {string} kind @param {...(Child | Child[])} children */
 export const notice = (kind, ...children) => element("div", { class: `notice ${kind}` }, ...children);

@@ -4,15 +4,17 @@
 import { element, newId } from "./dom.js";
 
 /** @typedef {{ label: string, hint?: string, value?: string, type?: string, inputmode?: string, maxlength?: number, hidden?: boolean,
- *   autocomplete?: string, class?: string }} FieldWords */
+ *   autocomplete?: string, name?: string, class?: string }} FieldWords */
+
+const USUAL = { type: "text", autocomplete: "off", spellcheck: "false" };
 
 export class Field {
   /** @param {FieldWords} words */
-  constructor({ label, hint, value = "", type = "text", inputmode, maxlength, hidden = false, autocomplete = "off", class: kind = "" }) {
+  constructor({ label, hint, value = "", hidden = false, class: kind = "", ...words }) {
     const id = newId("field");
     this.label = label;
     this.wrong = element("p", { class: "wrong", id: `${id}-wrong` });
-    this.input = /** @type {HTMLInputElement} */ (element("input", { id, type, inputmode, maxlength, autocomplete, spellcheck: "false" }));
+    this.input = /** @type {HTMLInputElement} */ (element("input", { id, ...USUAL, ...words }));
     this.input.value = value;
     this.input.setAttribute("aria-describedby", [hint ? `${id}-hint` : "", `${id}-wrong`].join(" ").trim());
     this.element = element(
@@ -51,7 +53,7 @@ export class Field {
   }
 }
 
-/** Brings the first wrong field of these into view and focus. @param {Field[]} fields */
+/** Brings the first wrong field of these into view and focus. @param {{ isWrong: boolean, input: HTMLElement }[]} fields */
 export function focusFirstWrong(fields) {
   fields.find((it) => it.isWrong)?.input.focus();
 }

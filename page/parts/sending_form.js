@@ -1,81 +1,154 @@
 // @ts-check
-// A form whose content is written as an interchange or a cancellation, shown on demand, and sent. While no answer came the form is locked,
-// so that the same bytes are sent again and never others in their place.
+// A form whose content is checked, summed up, and sent by a second press as an interchange or a cancellation. It lives as
+// hub/sending_states.js says: while no answer came it is locked, so that the same bytes are sent again and never others in their place.
 
-import { bytesOf } from "../hub/client.js";
-import { Delivery } from "../hub/delivery.js";
-import { newReference } from "../edi/references.js";
-import { deliveryPanel } from "./delivery_panel.js";
-import { actions, element, saying } from "./dom.js";
-import { oneALine } from "./raw.js";
+import { dropDraft, draftOf, keepDraft } from "../kept.js";
+import { isSettled, isUnsent, isUnsettled } from "../hub/sending_states.js";
+import { actions, button, element, notice, saying } from "./dom.js";
+import { enterMoves } from "./enter_moves.js";
+import { contentOf, putBack } from "./form_content.js";
+import { preview } from "./preview.js";
+import { FIRST, sendingRegion, tell } from "./sending_panel.js";
+import { Summary } from "./summary.js";
 
-/** @typedef {import("./delivery_panel.js").Verdict} Verdict */
-/** @typedef {{ reference: string, moment: Date }} Draft */
+/** @typedef {import("../hub/kinds.js").Verdict} Verdict */
+/** @typedef {import("./form_content.js").FormContent} FormContent */
+/** @typedef {{ reference: string, moment: Date }} Stamp */
 /**
  * @typedef {{
- *   session: import("../session.js").Session,
- *   what: string,
- *   label: string,
+ *   context: import("../start.js").Context,
+ *   kind: import("../hub/kinds.js").Kind,
+ *   what: () => string,
+ *   noun: string,
+ *   draft: string,
  *   content: Node[],
+ *   prepare?: (draft: FormContent) => Promise<void>,
  *   check: () => boolean,
- *   write: (draft: Draft) => string | null,
- *   ask: (bytes: Uint8Array) => Promise<string>,
- *   read: (reply: string) => Verdict | null,
+ *   summary: () => import("./summary.js").SummaryWords,
+ *   write: (stamp: Stamp) => string | null,
  *   settled: (verdict: Verdict) => void,
- * }} Sending
+ * }} FormWords `draft` names the form's draft; `prepare` makes room in the form for a draft
  */
 
-const FIRST = "Something that you sent before has no answer yet. Send that again first, by the button at the top of the page.";
+const BACK = "What you typed here before is back. It was not sent. ";
 
-/** @param {Sending} sending */
-export function sendingForm(sending) {
-  let reference = newReference();
-  const draft = () => ({ reference, moment: new Date() });
-  const panel = element("div", { class: "panel" });
-  const submit = element("button", { type: "submit", class: "primary" }, sending.label);
-  const shown = preview(() => sending.write(draft()));
-  const all = /** @type {HTMLFieldSetElement} */ (element("fieldset", { class: "bare" }, ...sending.content, shown, actions(submit)));
-  const form = element("form", { novalidate: true, onsubmit: send }, all, panel);
-
-  /** @param {Event} event */
-  function send(event) {
-    event.preventDefault();
-    if (sending.session.unsettled.length) return panel.replaceChildren(saying("warn", FIRST));
-    const text = sending.check() ? sending.write(draft()) : null;
-    if (text === null) return;
-    const delivery = new Delivery(sending.what, text, () => sending.ask(bytesOf(text)));
-    all.disabled = true;
-    panel.replaceChildren(deliveryPanel(delivery, sending.read));
-    delivery.addEventListener("change", () => settle(delivery));
-    sending.session.deliver(delivery);
-  }
-
-  /** @param {Delivery} delivery */
-  function settle(delivery) {
-    panel.scrollIntoView({ block: "center" });
-    if (delivery.isUnsettled) return;
-    reference = newReference();
-    const verdict = delivery.state === "answered" ? sending.read(delivery.reply) : null;
-    all.disabled = verdict !== null && verdict.outcome !== "refused";
-    if (all.disabled) form.querySelector("details")?.removeAttribute("open");
-    if (verdict) sending.settled(verdict);
-  }
-
-  return form;
+/** The form, with the draft that the tab keeps of it. @param {FormWords} words */
+export async function sendingForm(words) {
+  const form = new SendingForm(words);
+  await form.takeDraft();
+  return form.element;
 }
 
-// What would be sent, made anew whenever it is looked at.
-/** @param {() => string | null} write */
-function preview(write) {
-  const shown = element("pre", { class: "raw", tabindex: "0", "aria-label": "What will be sent" });
-  const summary = element("summary", {}, "Show what will be sent");
-  const details = /** @type {HTMLDetailsElement} */ (element("details", { class: "raw-details" }, summary, shown));
-  const draw = () => {
-    const text = details.open ? write() : "";
-    shown.textContent = text === null ? "Not complete yet." : oneALine(text);
-  };
-  details.addEventListener("toggle", draw);
-  // what is typed anywhere in the form changes what will be sent
-  queueMicrotask(() => ["input", "change", "click"].forEach((it) => details.closest("form")?.addEventListener(it, () => setTimeout(draw))));
-  return details;
+class SendingForm {
+  /** @param {FormWords} words */
+  constructor(words) {
+    this.words = words;
+    this.list = words.context.session.sent;
+    this.caller = words.context.session.hub.caller;
+    this.sending = this.begin();
+    const checkButton = button(`Check ${words.noun}`, () => this.review(), { class: "primary" });
+    const shown = preview(() => words.write(this.stamp()));
+    this.fields = /** @type {HTMLFieldSetElement} */ (
+      element("fieldset", { class: "bare" }, ...words.content, shown, actions(checkButton))
+    );
+    this.summary = new Summary(words.noun, () => this.send(), () => this.edit());
+    this.restored = element("div", { role: "status" });
+    this.first = element("div", { role: "alert" });
+    this.region = sendingRegion();
+    const parts = [this.restored, this.fields, this.first, this.summary.element, this.region];
+    this.element = element("form", { novalidate: true, onsubmit: (event) => event.preventDefault() }, ...parts);
+    enterMoves(this.fields, checkButton);
+    this.pristine = JSON.stringify(contentOf(this.fields));
+    for (const it of ["input", "change", "click"]) this.fields.addEventListener(it, () => setTimeout(() => this.note()));
+  }
+
+  /** A new document, with a reference of its own. */
+  begin() {
+    const sending = this.list.begin(this.words.kind, "");
+    sending.addEventListener("change", () => this.draw(sending));
+    return sending;
+  }
+
+  stamp() {
+    return { reference: this.sending.facts.id, moment: new Date() };
+  }
+
+  async takeDraft() {
+    const draft = draftOf(this.caller, this.words.draft);
+    if (!draft) return;
+    await this.words.prepare?.(draft);
+    const missing = putBack(this.fields, draft).map((it) => it.replaceAll("\n", ": "));
+    const scratch = button("Start from scratch", () => this.discard(), { class: "quiet" });
+    const lost = missing.length ? `It had something that is not in the form any more: ${missing.join(", ")}. ` : "";
+    this.restored.replaceChildren(notice("plain", element("p", {}, BACK, lost, scratch)));
+    this.note();
+  }
+
+  discard() {
+    dropDraft(this.caller, this.words.draft);
+    delete this.element.dataset.typed;
+    this.words.context.go(location.hash.slice(1));
+  }
+
+  /** Notes whether there is typed work, and keeps it. */
+  note() {
+    if (this.fields.disabled || !["empty", "typed"].includes(this.sending.state)) return;
+    const content = contentOf(this.fields);
+    const typed = JSON.stringify(content) !== this.pristine;
+    this.sending.happen(typed ? "type" : "clear");
+    if (typed) keepDraft(this.caller, this.words.draft, content);
+    else dropDraft(this.caller, this.words.draft);
+  }
+
+  review() {
+    this.note();
+    const waits = this.list.unsettled.length > 0;
+    this.first.replaceChildren(...(waits ? [saying("warn", FIRST)] : []));
+    if (waits || !this.words.check() || this.words.write(this.stamp()) === null) return;
+    if (!this.sending.happen("review")) return;
+    // an earlier refusal was of what the form said before
+    this.region.replaceChildren();
+    this.summary.show(this.words.summary());
+  }
+
+  edit() {
+    this.sending.happen("edit");
+    this.note();
+    /** @type {HTMLElement | null} */ (this.fields.querySelector("input:not(:disabled)"))?.focus();
+  }
+
+  send() {
+    const text = this.words.write(this.stamp());
+    if (text === null || this.sending.state !== "review") return;
+    const draft = { name: this.words.draft, content: contentOf(this.fields) };
+    dropDraft(this.caller, draft.name);
+    this.restored.replaceChildren();
+    this.sending.send(text, { what: this.words.what(), draft });
+  }
+
+  /** @param {import("../hub/sending.js").Sending} sending */
+  draw(sending) {
+    const { state } = sending;
+    const focused = this.element.contains(document.activeElement) || document.activeElement === document.body;
+    if (state !== "review") this.summary.hide();
+    this.fields.disabled = !["empty", "typed", "refused", "denied"].includes(state);
+    if (isUnsent(state)) this.element.dataset.typed = this.words.what();
+    else delete this.element.dataset.typed;
+    if (!isUnsettled(state) && !isSettled(state)) return;
+    tell(this.region, sending);
+    if (this.element.isConnected && focused) this.region.focus({ preventScroll: true });
+    this.region.scrollIntoView({ block: "center" });
+    if (isSettled(state)) this.end(sending);
+  }
+
+  /** The hub answered: what it did not take is typed work again, with a new reference.
+   * @param {import("../hub/sending.js").Sending} sending */
+  end(sending) {
+    if (sending.state === "accepted") this.fields.querySelector("details.raw-details")?.removeAttribute("open");
+    else {
+      this.sending = this.begin();
+      this.sending.happen("type");
+    }
+    if (sending.verdict && sending.state !== "denied") this.words.settled(sending.verdict);
+  }
 }

@@ -1,26 +1,34 @@
 // @ts-check
-// A table whose rows are sorted by its headings, filtered from outside, and summed below. On a narrow page each row is a card, whose cells
-// name their column.
+// A table whose rows are sorted by its headings or a choice, filtered from outside, summed below, and downloaded as CSV as they are shown.
+// On a narrow page each row is a card, whose cells name their column.
 
+import { asText, csvText, harmless, separatorOf } from "./csv.js";
 import { append, element, figure } from "./dom.js";
+import { csvButton } from "./download.js";
+import { SortChoice } from "./sort_choice.js";
 
 /** @typedef {import("./dom.js").Child} Child */
 /**
  * @template Row
  * @typedef {{ title: string, cell: (row: Row) => Child | Child[], value?: (row: Row) => string | number, number?: boolean,
- *   sum?: boolean, kind?: string }} Column
+ *   sum?: boolean, kind?: string, csv?: false | ((row: Row) => string | number) }} Column `csv` is what a file says instead of the cell;
+ * a column without a title, or with `csv: false`, is not in the file
  */
 
 /** @template Row */
 export class Table {
-  /** @param {{ caption: string, columns: Column<Row>[], rows: Row[], kind?: string, empty?: string, sums?: boolean }} words */
-  constructor({ caption, columns, rows, kind = "", empty = "Nothing here.", sums = false }) {
+  /** @param {{ caption: string, columns: Column<Row>[], rows: Row[], kind?: string, empty?: string, sums?: boolean, most?: number }} words
+   * the first `most` rows are drawn; the file and the sums have all */
+  constructor({ caption, columns, rows, kind = "", empty = "Nothing here.", sums = false, most = Infinity }) {
     this.columns = columns;
     this.rows = rows;
     this.empty = empty;
+    this.most = most;
+    /** @type {Row[]} in their order */
+    this.shown = [];
     this.blank = element("tr", { role: "row" }, ...columns.map(blankCell));
-    /** @type {Map<Row, HTMLElement>} */
-    this.made = new Map();
+    /** @type {WeakMap<any, HTMLElement>} rows that are not shown any more are forgotten with their elements */
+    this.made = new WeakMap();
     this.sortedBy = -1;
     this.falls = false;
     this.heads = columns.map((column, place) => this.#head(column, place));
@@ -29,7 +37,11 @@ export class Table {
     const head = element("thead", { role: "rowgroup" }, element("tr", { role: "row" }, ...this.heads));
     const caption_ = element("caption", { class: "spoken" }, caption);
     const table = element("table", { role: "table", class: kind }, caption_, head, this.body, this.foot);
-    this.element = element("div", { class: "table" }, table);
+    this.download = csvButton(caption, () => this.csv());
+    this.more = element("p", { class: "hint", hidden: true });
+    this.choice = new SortChoice(columns, (place, falls) => this.sortBy(place, falls));
+    const scrolled = element("div", { class: "table" }, table);
+    this.element = element("div", { class: "table-part" }, this.choice.element, scrolled, this.more, this.download);
     this.show(rows);
   }
 
@@ -41,14 +53,35 @@ export class Table {
     return element("th", { role: "columnheader", scope: "col", class: kind, "aria-sort": "none" }, sort);
   }
 
-  /** @param {number} place */
+  /** Sorts by a heading that was pressed. @param {number} place */
   sort(place) {
-    this.falls = this.sortedBy === place && !this.falls;
-    this.sortedBy = place;
+    this.sortBy(place, this.sortedBy === place && !this.falls);
+  }
+
+  /** @param {number} place -1: as the rows come @param {boolean} falls */
+  sortBy(place, falls) {
+    [this.sortedBy, this.falls] = [place, falls];
+    this.choice.show(place, falls);
     this.heads.forEach((head, at) => {
       if (head.hasAttribute("aria-sort")) head.setAttribute("aria-sort", at !== place ? "none" : this.falls ? "descending" : "ascending");
     });
     this.show(this.rows);
+  }
+
+  /** Sorts again once values have changed, if a heading was pressed. */
+  sortAgain() {
+    if (this.sortedBy >= 0) this.showAgain(this.rows);
+  }
+
+  /** Shows these rows in the place of others; what has the focus keeps it, or else the link to the same place gets it.
+   * @param {Row[]} rows */
+  showAgain(rows) {
+    const focused = this.body.contains(document.activeElement) ? /** @type {HTMLElement} */ (document.activeElement) : null;
+    this.show(rows);
+    if (!focused) return;
+    const to = focused.getAttribute("href");
+    const same = [...this.body.querySelectorAll("a")].find((it) => it.getAttribute("href") === to);
+    (focused.isConnected ? focused : same)?.focus({ preventScroll: true });
   }
 
   /** Shows these rows, in the order that is chosen. @param {Row[]} rows */
@@ -57,9 +90,32 @@ export class Table {
     const value = this.columns[this.sortedBy]?.value;
     const turn = this.falls ? -1 : 1;
     const sorted = value ? [...rows].sort((a, b) => turn * compared(value(a), value(b))) : rows;
+    this.shown = sorted;
+    this.download.hidden = !sorted.length;
+    this.choice.offer(sorted.length);
     const none = element("tr", { role: "row" }, element("td", { role: "cell", colspan: this.columns.length, class: "none" }, this.empty));
-    this.body.replaceChildren(...(sorted.length ? sorted.map((row) => this.#row(row)) : [none]));
+    const drawn = sorted.slice(0, this.most);
+    this.body.replaceChildren(...(drawn.length ? drawn.map((row) => this.#row(row)) : [none]));
+    this.more.hidden = drawn.length === sorted.length;
+    this.more.textContent = `These are the first ${figure(drawn.length)} of ${figure(sorted.length)}. The file has all of them.`;
     this.foot?.replaceChildren(...(rows.length > 1 ? [this.#sums(rows)] : []));
+  }
+
+  /** The rows as they are shown, under the headings and without the sums. @param {string} [language] */
+  csv(language = navigator.language) {
+    const columns = this.columns.flatMap((it, place) => (it.title && it.csv !== false ? [place] : []));
+    const rows = this.shown.map((row) => columns.map((place) => this.#written(row, place)));
+    return csvText([columns.map((place) => this.columns[place].title), ...rows], separatorOf(language));
+  }
+
+  // A figure without its commas, and an identifier as a text.
+  /** @param {Row} row @param {number} place */
+  #written(row, place) {
+    const { csv, value, kind } = this.columns[place];
+    const cell = csv ? csv(row) : this.#row(row).children[place].textContent ?? "";
+    const number = typeof cell === "number" ? cell : value?.(row);
+    if (typeof number === "number" && (cell === number || cell === figure(number))) return String(number);
+    return kind === "digits" ? asText(String(cell)) : harmless(String(cell));
   }
 
   // A row is made once, and moved when the table is sorted.

@@ -1,18 +1,21 @@
 // @ts-check
 // The answer to an order (ORDRSP): each line accepted, refused or changed to a quantity.
 
+import { articlesOf } from "../articles.js";
 import { interchangeText } from "../edi/envelope.js";
 import { day } from "../edi/dates.js";
-import { gtinAsPrinted } from "../edi/identifiers.js";
 import { responseText } from "../edi/response.js";
 import { ANSWERS } from "../hub/codes.js";
-import { readUploadOfOne } from "../hub/replies.js";
-import { actions, button, element, exact, figure, heading, link, newId, saying } from "../parts/dom.js";
+import { articleCell, articleColumn } from "../parts/article.js";
+import { actions, button, element, figure, heading, link, newId, saying } from "../parts/dom.js";
 import { proposedNumber, wrongNumber } from "../parts/document_number.js";
+import { documentNumber, numberInWords } from "../parts/order_number.js";
 import { Field, check, focusFirstWrong, wholeNumber } from "../parts/field.js";
 import { sendingForm } from "../parts/sending_form.js";
 import { Table } from "../parts/table.js";
+import { answerSummary } from "./answer_summary.js";
 import { linesWithStatus } from "./order.js";
+import { pasteAnswers } from "./paste_answers.js";
 
 /** @typedef {import("../edi/response.js").Answer} Answer */
 /** @typedef {ReturnType<typeof linesWithStatus>[number]} Line */
@@ -82,24 +85,26 @@ export async function answerScreen(context, word) {
   const { session } = context;
   const { order, interchange } = entry;
   const answers = linesWithStatus(order, (await session.status()).lines).map((it) => new LineAnswer(it));
+  const lines = table(answers, order.document, articlesOf(session));
   const hint = "As you like; proposed from the clock.";
   const document = new Field({ label: "Number of your answer", hint, value: proposedNumber(), maxlength: 35 });
   const wrong = element("div", { role: "alert" });
   const next = element("div", {});
   const waiting = () => answers.filter((it) => it.waits);
-  const title = `Answer order ${order.document}`;
-  const form = sendingForm({
-    session,
-    what: `Your answer to order ${order.document}`,
-    label: "Send answer",
-    content: [tools(waiting()), table(answers), wrong, document.element],
+  const title = `Answer order ${numberInWords(order.document)}`;
+  const form = await sendingForm({
+    context,
+    kind: "document",
+    what: () => `Your answer to order ${numberInWords(order.document)}`,
+    noun: "answer",
+    draft: `answer/${word}`,
+    content: [tools(waiting()), pasteAnswers(answers), lines, wrong, document.element],
     check: () => checked(waiting(), document, wrong),
+    summary: () => answerSummary(order.document, waiting()),
     write: ({ reference, moment }) => {
       const words = { sender: session.hub.caller, recipient: interchange.sender, reference, moment };
       return isComplete(waiting()) ? interchangeText(words, messageOf(order, answers, document.value, moment)) : null;
     },
-    ask: (bytes) => session.hub.upload(bytes),
-    read: readUploadOfOne,
     settled: ({ outcome, code }) => {
       if (outcome === "refused") showAtItsPlace(session, code, { order, answers, document });
       else next.replaceChildren(nextSteps(Number(word)));
@@ -108,9 +113,9 @@ export async function answerScreen(context, word) {
   return {
     title,
     content: [
-      element("p", { class: "back" }, link(["‹ Order ", exact(order.document)], `entry/${word}`)),
-      heading("Answer order ", exact(order.document)),
-      ...(waiting().length ? [form] : [saying("plain", "No line of this order waits for an answer."), table(answers)]),
+      element("p", { class: "back" }, link(["‹ Order ", documentNumber(order.document)], `entry/${word}`)),
+      heading("Answer order ", documentNumber(order.document)),
+      ...(waiting().length ? [form] : [saying("plain", "No line of this order waits for an answer."), lines]),
       next,
     ],
   };
@@ -125,19 +130,25 @@ function tools(waiting) {
   );
 }
 
-/** @param {LineAnswer[]} answers */
-function table(answers) {
+/** @param {LineAnswer} it */
+const answerInFile = (it) => (it.waits ? it.answer ?? "" : it.known);
+/** @param {LineAnswer} it */
+const quantityInFile = (it) => (it.waits && it.answer === "changed" ? it.quantity.trimmed : "");
+
+/** @param {LineAnswer[]} answers @param {string} order @param {import("../articles.js").Articles} articles */
+function table(answers, order, articles) {
+  const article = (/** @type {LineAnswer} */ { line: { gtin, line } }) => articleCell(gtin, articles.of({ gtin, order, line }));
   return new Table({
     caption: "Lines of the order, each with your answer",
     kind: "answers",
     rows: answers,
     columns: [
       { title: "Line", cell: (it) => it.line.line },
-      { title: "Article (GTIN)", cell: (it) => gtinAsPrinted(it.line.gtin), kind: "digits" },
+      articleColumn((/** @type {LineAnswer} */ it) => it.line.gtin, article),
       { title: "Ordered", cell: (it) => figure(it.line.quantity), number: true },
       { title: "Open", cell: (it) => (it.line.status ? figure(it.line.status.open) : "–"), number: true },
-      { title: "Your answer", kind: "choice-cell", cell: (it) => (it.waits ? it.choices : it.known) },
-      { title: "Changed to", cell: (it) => (it.waits ? it.quantity.element : "") },
+      { title: "Your answer", kind: "choice-cell", cell: (it) => (it.waits ? it.choices : it.known), csv: answerInFile },
+      { title: "Changed to", cell: (it) => (it.waits ? it.quantity.element : ""), csv: quantityInFile },
     ],
   }).element;
 }
@@ -154,22 +165,22 @@ function checked(waiting, document, wrong) {
   const some = waiting.some((it) => it.answer);
   wrong.replaceChildren(...(some ? [] : [saying("bad", "Choose an answer for at least one line.")]));
   if (!right) focusFirstWrong(fields);
+  else if (!some) waiting[0].radios[0].input.focus();
   return right && some;
 }
 
+// Each answered line is named, also if all are accepted or refused: functions 29 and 27 would answer whatever still waits when the message
+// arrives, and not the lines that the person saw.
 /** @param {import("../edi/order.js").Order} order @param {LineAnswer[]} answers @param {string} document @param {Date} moment */
 function messageOf(order, answers, document, moment) {
-  const given = answers.filter((it) => it.waits && it.answer);
-  const alike = given.length === answers.length && new Set(given.map((it) => it.answer)).size === 1 ? given[0].answer : null;
-  const purpose = alike === "accepted" ? "29" : alike === "refused" ? "27" : "4";
-  const lines = given.map((it) => ({
+  const lines = answers.filter((it) => it.waits && it.answer).map((it) => ({
     line: it.line.line,
     gtin: it.line.gtin,
     answer: it.answer ?? "accepted",
     quantity: wholeNumber(it.quantity.value),
   }));
-  const words = { document, date: day(moment), order: order.document, buyer: order.buyer, supplier: order.supplier, function: purpose };
-  return responseText({ ...words, lines: purpose === "4" ? lines : [] });
+  const { document: number, buyer, supplier } = order;
+  return responseText({ document, date: day(moment), order: number, buyer, supplier, function: "4", lines });
 }
 
 // What the hub refused, at the field that its code speaks of, by the status as it is now: what is answered or despatched meanwhile tells

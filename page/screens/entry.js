@@ -1,9 +1,11 @@
 // @ts-check
 // One entry of the mailbox: an order or a receiving advice as a page that one can print; anything else as it stands.
 
+import { articlesOf } from "../articles.js";
 import { TYPES } from "../hub/codes.js";
-import { button, element, exact, heading, link, saying } from "../parts/dom.js";
+import { button, element, heading, link, saying } from "../parts/dom.js";
 import { downloadButton } from "../parts/download.js";
+import { documentNumber, numberInWords } from "../parts/order_number.js";
 import { rawDetails } from "../parts/raw.js";
 import { orderView } from "./order.js";
 import { receiptView } from "./receipt.js";
@@ -14,12 +16,12 @@ export async function entryScreen(context, word) {
   if (!entry) return missing(word);
   const record = entry.order ?? entry.receipt;
   const type = entry.interchange?.messages[0]?.type ?? "";
-  const title = record ? `${TYPES[type]} ${record.document}` : `Entry ${word}`;
+  const title = record ? `${TYPES[type]} ${numberInWords(record.document)}` : `Entry ${word}`;
   return {
     title,
     content: [
       element("p", { class: "back no-print" }, link("‹ Mailbox", "mailbox")),
-      heading(record ? `${TYPES[type]} ` : title, record ? exact(record.document) : null),
+      heading(record ? `${TYPES[type]} ` : title, record ? documentNumber(record.document) : null),
       actions(context, entry),
       ...(await content(context, entry)),
       rawDetails("The interchange as the hub gave it", entry.text, !record),
@@ -36,7 +38,7 @@ const missing = (word) => ({
 /** @param {import("../start.js").Context} context @param {import("../session.js").Entry} entry */
 async function content(context, entry) {
   if (entry.order) return orderView(entry.order, entry, await context.session.status());
-  if (entry.receipt) return receiptView(entry.receipt, entry, await context.session.status());
+  if (entry.receipt) return receiptView(entry.receipt, entry, await context.session.status(), articlesOf(context.session));
   return [saying("warn", "The page does not understand this entry. It stands below as the hub gave it.")];
 }
 

@@ -1,28 +1,32 @@
 // @ts-check
 // The mailbox: what is new, and apart from it what was marked as taken.
 
-import { dateInWords, preparedInWords } from "../edi/dates.js";
+import { dateInWords, moment, preparedInWords, preparedMoment } from "../edi/dates.js";
+import { lastEntry } from "../entries.js";
 import { TYPES } from "../hub/codes.js";
-import { button, element, exact, heading, link } from "../parts/dom.js";
+import { button, element, heading, link } from "../parts/dom.js";
+import { documentNumber, numberInWords } from "../parts/order_number.js";
 import { notUnderstood } from "../parts/raw.js";
 import { Table } from "../parts/table.js";
 
-/** @typedef {{ number: number, type: string, document: string, date: Text, sortDate: string, arrived: Text }} Row */
+/** @typedef {{ number: number, type: string, document: string, date: Text, moment: number, arrived: Text, arrival: number }} Row */
 
 const AT_ONCE = 20;
 
 /** @param {import("../start.js").Context} context */
 export async function mailboxScreen({ session }) {
   const { entries, raw } = await session.untaken();
-  const rows = entries.reverse().map((it) => ({ ...it, date: new Text("…"), sortDate: "", arrived: new Text("…") }));
+  const rows = entries.reverse().map((it) => ({ ...it, date: new Text("…"), moment: 0, arrived: new Text("…"), arrival: 0 }));
+  const label = (/** @type {Row} */ row) => `Mark ${numberInWords(row.document)} as taken`;
   const table = new Table({
     caption: "New entries of the mailbox",
     kind: "mailbox",
-    columns: columns((row) => button("Mark as taken", () => take(row), { class: "quiet", "aria-label": `Mark ${row.document} as taken` })),
+    columns: columns((row) => button("Mark as taken", () => take(row), { class: "quiet", "aria-label": label(row) })),
     rows,
     empty: "No new mail. What you marked as taken stands below.",
   });
-  fillDates(session, rows);
+  // the table may have been sorted by dates that were not there yet
+  fillDates(session, rows).then(() => table.sortAgain());
 
   /** @param {Row} row */
   async function take(row) {
@@ -55,9 +59,9 @@ function columns(action) {
   return [
     { title: "Number", cell: (it) => it.number, value: (it) => it.number },
     { title: "Type", cell: badge, value: (it) => it.type },
-    { title: "Document", cell: (it) => link(exact(it.document), `entry/${it.number}`), value: (it) => it.document },
-    { title: "Date", cell: (it) => it.date, value: (it) => it.sortDate },
-    { title: "Came in", cell: (it) => it.arrived },
+    { title: "Document", cell: (it) => link(documentNumber(it.document), `entry/${it.number}`), value: (it) => it.document },
+    { title: "Date", cell: (it) => it.date, value: (it) => it.moment },
+    { title: "Came in", cell: (it) => it.arrived, value: (it) => it.arrival },
     ...(action ? [{ title: "", cell: action, kind: "action" }] : []),
   ];
 }
@@ -69,8 +73,8 @@ async function fillDates(session, rows) {
     try {
       const found = datesOf(await session.entry(row.number));
       row.date.data = found.date;
-      row.sortDate = found.sortDate;
       row.arrived.data = found.arrived;
+      [row.moment, row.arrival] = [found.moment, found.arrival];
     } catch {
       row.date.data = row.arrived.data = "not read";
     }
@@ -83,8 +87,9 @@ function datesOf(entry) {
   const { interchange } = entry ?? {};
   return {
     date: record ? dateInWords(record.date, record.format) : "not understood",
-    sortDate: record?.date ?? "",
+    moment: record ? moment(record.date, record.format) : 0,
     arrived: interchange ? preparedInWords(interchange.date, interchange.time) : "",
+    arrival: interchange ? preparedMoment(interchange.date, interchange.time) : 0,
   };
 }
 
@@ -123,20 +128,6 @@ function takenPart(session, untaken) {
 function rowOf(entry, number) {
   const type = entry?.interchange?.messages[0]?.type ?? "";
   const document = (entry?.order ?? entry?.receipt)?.document ?? `Entry ${number}`;
-  const { date, sortDate, arrived } = datesOf(entry);
-  return { number, type, document, date: new Text(date), sortDate, arrived: new Text(arrived) };
-}
-
-// The number of the last entry: the hub lists only what is not taken, so it is looked for, by steps that double and then halve.
-/** @param {import("../session.js").Session} session @param {number} known */
-async function lastEntry(session, known) {
-  let step = 1;
-  while (await session.entry(known + step)) {
-    known += step;
-    step *= 2;
-  }
-  for (step = Math.floor(step / 2); step >= 1; step = Math.floor(step / 2)) {
-    if (await session.entry(known + step)) known += step;
-  }
-  return known;
+  const { date, arrived, ...found } = datesOf(entry);
+  return { number, type, document, ...found, date: new Text(date), arrived: new Text(arrived) };
 }

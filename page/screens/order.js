@@ -1,74 +1,72 @@
 // @ts-check
 // An order as a page: parties, dates, and lines with what became of them.
 
-import { component } from "../edi/segments.js";
-import { headerOf } from "../edi/message.js";
-import { dateInWords, preparedInWords } from "../edi/dates.js";
-import { gtinAsPrinted } from "../edi/identifiers.js";
+import { detailsOfEntry } from "../articles.js";
+import { preparedInWords } from "../edi/dates.js";
 import { ANSWERS } from "../hub/codes.js";
-import { element, exact, figure, terms } from "../parts/dom.js";
+import { articleCell, articleColumn } from "../parts/article.js";
+import { element, exact, figure, notice, terms } from "../parts/dom.js";
+import { numberInWords } from "../parts/order_number.js";
 import { Table } from "../parts/table.js";
+import { dateRow, packInWords, partyRow, priceInWords, rawSegments, remarks } from "./order_words.js";
 
 /** @typedef {import("../edi/order.js").Order} Order */
-/** @typedef {import("../edi/segments.js").Segment} Segment */
+/** @typedef {import("../edi/order_details.js").Details} Details */
 /** @typedef {import("../hub/replies.js").StatusLine} StatusLine */
-/** @typedef {ReturnType<typeof linesWithStatus>[number]} Line */
+/** @typedef {ReturnType<typeof linesWithStatus>[number] & { details: Details }} Line */
+/** @typedef {import("../parts/table.js").Column<Line>} Column */
 
-/** @type {Record<string, string>} */
-const DATES = {
-  137: "Date of the order",
-  2: "Delivery wanted",
-  10: "Despatch wanted",
-  63: "Delivery at the latest",
-  64: "Delivery at the earliest",
-};
-/** @type {Record<string, string>} */
-const PARTIES = { BY: "Buyer", SU: "Supplier", DP: "Deliver to", IV: "Invoice to" };
-
-/** The lines of an order beside what the status says of each.
+/** The lines of an order with its exact number beside what the status says of each.
  * @param {Order} order @param {StatusLine[]} lines */
 export function linesWithStatus(order, lines) {
-  const own = lines.filter((it) => it.order === order.document.trimEnd());
+  const own = lines.filter((it) => it.order === order.document);
   return order.lines.map((line) => ({ ...line, status: own.find((it) => it.line === line.line) ?? null }));
 }
 
 /** @param {Order} order @param {import("../session.js").Entry} entry @param {{ lines: StatusLine[] }} status */
 export function orderView(order, entry, status) {
-  const message = entry.interchange?.messages[0].segments ?? [];
-  const header = headerOf(message);
-  const rows = linesWithStatus(order, status.lines);
+  const details = detailsOfEntry(entry);
+  if (!details) return [];
+  const { header, lines } = details;
+  const rows = linesWithStatus(order, status.lines).map((it, place) => ({ ...it, details: lines[place] }));
+  const columns = columnsOf(rows, header.currency);
   return [
-    element("div", { class: "columns" }, parties(header), dates(header, entry)),
-    ...texts(message),
-    new Table({ caption: `Lines of order ${order.document}`, columns: columns(), rows, sums: true }).element,
+    element("div", { class: "columns" }, terms(header.parties.map(partyRow)), terms(facts(header, entry))),
+    ...header.texts.map((it) => element("p", { class: "free-text" }, exact(it))),
+    unread(header.raw),
+    new Table({ caption: `Lines of order ${numberInWords(order.document)}`, kind: "order-lines", columns, rows, sums: true }).element,
   ];
 }
 
-/** @param {Segment[]} header */
-function parties(header) {
-  const named = header.filter((it) => it.tag === "NAD" && PARTIES[component(it, 1)]);
-  const words = (/** @type {Segment} */ it) => [component(it, 2), ...(it.elements[3] ?? [])].filter(Boolean).join(", ");
-  return terms(named.map((it) => [PARTIES[component(it, 1)], exact(words(it))]));
-}
-
-/** @param {Segment[]} header @param {import("../session.js").Entry} entry */
-function dates(header, entry) {
-  const named = header.filter((it) => it.tag === "DTM" && DATES[component(it, 1)]);
-  /** @type {[string, string][]} */
-  const rows = named.map((it) => [DATES[component(it, 1)], dateInWords(component(it, 1, 2), component(it, 1, 3))]);
+/** @param {Details} header @param {import("../session.js").Entry} entry */
+function facts({ dates, descriptions, itemKinds, contracts, packs, currency }, entry) {
+  /** @type {[string, import("../parts/dom.js").Child][]} */
+  const rows = dates.map(dateRow);
+  [...descriptions, ...itemKinds].forEach((it) => rows.push(["Of all lines", exact(it)]));
+  contracts.forEach((it) => rows.push(["Contract", exact(it)]));
+  packs.forEach((it) => rows.push(["Packages", packInWords(it)]));
+  if (currency) rows.push(["Currency", currency]);
   if (entry.interchange) rows.push(["Came in", preparedInWords(entry.interchange.date, entry.interchange.time)]);
-  return terms(rows);
+  return rows;
 }
 
-// Free texts (FTX) are for people, wherever they stand.
-/** @param {Segment[]} message */
-function texts(message) {
-  const found = message.filter((it) => it.tag === "FTX" && it.elements[3]?.some(Boolean));
-  return found.map((it) => element("p", { class: "free-text" }, exact(it.elements[3].filter(Boolean).join(" "))));
+/** @param {string[]} raw */
+function unread(raw) {
+  const words = "The page does not read all of these segments of the order:";
+  return raw.length ? notice("plain", element("p", {}, words), rawSegments(raw)) : null;
 }
 
-/** @returns {import("../parts/table.js").Column<Line>[]} */
-function columns() {
+// Pack, price and remarks have a column only if a line has some.
+/** @param {Line[]} rows @param {string} currency @returns {Column[]} */
+function columnsOf(rows, currency) {
+  const some = (/** @type {(details: Details) => unknown[]} */ of, /** @type {Column} */ column) =>
+    rows.some((it) => of(it.details).length) ? [column] : [];
+  const lined = (/** @type {string} */ title, /** @type {(details: Details) => string[]} */ texts) => ({
+    title,
+    cell: (/** @type {Line} */ it) => whole(texts(it.details).map((text) => element("span", { class: "article-line" }, text))),
+    csv: (/** @type {Line} */ it) => texts(it.details).join("; "),
+  });
+  const said = (/** @type {Line} */ it) => remarks(it.details).map((paragraph) => paragraph.textContent).join("; ");
   const known = (/** @type {string} */ title, /** @type {"open" | "despatched"} */ name) => ({
     title,
     cell: (/** @type {Line} */ { status }) => (status ? figure(status[name]) : "–"),
@@ -76,12 +74,27 @@ function columns() {
     number: true,
     sum: true,
   });
+  const ofRemarks = { title: "Remarks", cell: (/** @type {Line} */ it) => whole(remarks(it.details)), kind: "remarks", csv: said };
   return [
     { title: "Line", cell: (it) => it.line, value: (it) => it.line },
-    { title: "Article (GTIN)", cell: (it) => gtinAsPrinted(it.gtin), value: (it) => it.gtin, kind: "digits" },
+    { ...articleColumn((/** @type {Line} */ it) => it.gtin, articleOfLine), value: (it) => it.gtin },
+    ...some((it) => it.packs, lined("Pack", (it) => it.packs.map(packInWords))),
+    ...some((it) => it.prices, lined("Price", (it) => it.prices.map((price) => priceInWords(price, currency)))),
     { title: "Ordered", cell: (it) => figure(it.quantity), value: (it) => it.quantity, number: true, sum: true },
     known("Open", "open"),
     known("Despatched", "despatched"),
     { title: "Answer", cell: (it) => (it.status ? ANSWERS[it.status.answer] : "–"), value: (it) => it.status?.answer ?? "" },
+    ...some(remarks, ofRemarks),
   ];
+}
+
+// An empty cell is left out of the cards of a narrow page.
+/** @param {HTMLElement[]} parts */
+const whole = (parts) => (parts.length ? element("div", { class: "article" }, ...parts) : "");
+
+/** @param {Line} line */
+function articleOfLine({ gtin, details: { descriptions, itemKinds, supplierNumbers, buyerNumbers } }) {
+  const article = { description: [...descriptions, ...itemKinds].join(", "), number: supplierNumbers.join(", ") };
+  const ofBuyer = buyerNumbers.length ? element("span", {}, "Buyer's article ", exact(buyerNumbers.join(", "))) : null;
+  return articleCell(gtin, article, ofBuyer);
 }

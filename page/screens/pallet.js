@@ -1,9 +1,12 @@
 // @ts-check
 // A pallet in the form of a despatch: its SSCC, and how much of each open order line is on it.
 
-import { gtinAsPrinted, isPrefix, isSscc, isUnder, withCheckDigit } from "../edi/identifiers.js";
-import { actions, button, element, exact, figure } from "../parts/dom.js";
+import { isPrefix, isSscc, isUnder, withCheckDigit } from "../edi/identifiers.js";
+import { ssccOf } from "../edi/sscc.js";
+import { articleCell, articleColumn } from "../parts/article.js";
+import { actions, button, element, figure, newId } from "../parts/dom.js";
 import { Field, check, wholeNumber } from "../parts/field.js";
+import { orderInWords, orderNumber } from "../parts/order_number.js";
 import { Table } from "../parts/table.js";
 
 /** @typedef {import("../hub/replies.js").StatusLine} StatusLine */
@@ -14,12 +17,16 @@ import { Table } from "../parts/table.js";
 export const nameOf = (line) => `${line.order}\n${line.line}`;
 
 export class Pallet {
-  /** @param {{ sscc: string, lines: StatusLine[], tally: (line: StatusLine) => Tally, remove: (pallet: Pallet) => void }} words */
-  constructor({ sscc, lines, tally, remove }) {
+  /** @param {{ sscc: string, lines: StatusLine[], articles: import("../articles.js").Articles,
+   *   tally: (line: StatusLine) => Tally, remove: (pallet: Pallet) => void }} words */
+  constructor({ sscc, lines, articles, tally, remove }) {
+    this.articles = articles;
     this.tally = tally;
-    const hint = "18 digits. Type 17, and the page adds the check digit.";
-    this.sscc = new Field({ label: "SSCC", hint, value: sscc, inputmode: "numeric", maxlength: 24 });
-    this.sscc.input.addEventListener("change", () => (this.sscc.value = withCheckDigit(this.number)));
+    this.proposed = sscc;
+    const hint = "18 digits, typed or scanned. Type 17, and the page adds the check digit.";
+    this.sscc = new Field({ label: "SSCC", hint, value: sscc, inputmode: "numeric", maxlength: 48 });
+    this.sscc.input.addEventListener("change", () => (this.sscc.value = this.number));
+    this.labelled = /** @type {HTMLInputElement} */ (element("input", { type: "checkbox", id: newId("labelled"), class: "labelled" }));
     /** @type {Row[]} */
     this.rows = [];
     this.legend = element("legend", {});
@@ -29,6 +36,7 @@ export class Pallet {
       { class: "pallet card" },
       this.legend,
       this.sscc.element,
+      element("label", { class: "choice label-tick" }, this.labelled, element("span", {}, "Labelled: its label is printed")),
       this.list,
       actions(
         button("Put all that is open on it", () => this.fill(), { class: "fill" }),
@@ -38,9 +46,21 @@ export class Pallet {
     this.offer(lines);
   }
 
-  /** The digits of the SSCC, however they are grouped. */
+  /** The digits of the SSCC, however they are grouped or scanned. */
   get number() {
-    return this.sscc.value.replace(/\s/g, "");
+    return ssccOf(this.sscc.value);
+  }
+
+  /** Whether the label with its SSCC is printed already. */
+  get isLabelled() {
+    return this.labelled.checked;
+  }
+
+  /** Gives it an SSCC that the page proposes. @param {string} sscc */
+  propose(sscc) {
+    this.proposed = sscc;
+    this.sscc.value = sscc;
+    this.sscc.say("");
   }
 
   /** Offers these order lines; what was typed stays. @param {StatusLine[]} lines */
@@ -48,7 +68,7 @@ export class Pallet {
     const typed = new Map(this.rows.map((it) => [nameOf(it.line), it.field.value]));
     this.rows = lines.map((line) => ({ line, field: quantityField(line, typed.get(nameOf(line)) ?? "") }));
     const words = { caption: "What is on this pallet", kind: "contents", empty: "Choose an order above." };
-    this.list.replaceChildren(new Table({ ...words, columns: columns(), rows: this.rows }).element);
+    this.list.replaceChildren(new Table({ ...words, columns: columns(this.articles), rows: this.rows }).element);
   }
 
   /** @param {StatusLine} line */
@@ -85,18 +105,18 @@ export class Pallet {
 
 /** @param {StatusLine} line @param {string} value */
 function quantityField(line, value) {
-  const label = `Quantity of order ${line.order}, line ${line.line}`;
+  const label = `Quantity of order ${orderInWords(line)}, line ${line.line}`;
   return new Field({ label, hidden: true, value, inputmode: "numeric", maxlength: 9, class: "short" });
 }
 
-/** @returns {import("../parts/table.js").Column<Row>[]} */
-function columns() {
+/** @param {import("../articles.js").Articles} articles @returns {import("../parts/table.js").Column<Row>[]} */
+function columns(articles) {
   return [
-    { title: "Order", cell: (it) => exact(it.line.order) },
+    { title: "Order", cell: (it) => orderNumber(it.line) },
     { title: "Line", cell: (it) => it.line.line },
-    { title: "Article (GTIN)", cell: (it) => gtinAsPrinted(it.line.gtin), kind: "digits" },
+    articleColumn((/** @type {Row} */ it) => it.line.gtin, ({ line }) => articleCell(line.gtin, articles.of(line))),
     { title: "Open", cell: (it) => figure(it.line.open), number: true },
-    { title: "On this pallet", cell: (it) => it.field.element },
+    { title: "On this pallet", cell: (it) => it.field.element, csv: (it) => it.field.trimmed },
   ];
 }
 

@@ -2,8 +2,8 @@
 // A receiving advice beside what was announced: for each pallet and article what was sent, what was received, and the difference.
 
 import { dateInWords, preparedInWords } from "../edi/dates.js";
-import { gtinAsPrinted } from "../edi/identifiers.js";
 import { sumsOf } from "../edi/receipt.js";
+import { articleCell, articleColumn } from "../parts/article.js";
 import { figure, saying, terms } from "../parts/dom.js";
 import { difference } from "../parts/difference.js";
 import { Table } from "../parts/table.js";
@@ -16,8 +16,9 @@ const REPLACES = "This advice replaces an earlier one (function 5): what was sai
 
 /** @param {import("../edi/receipt.js").Receipt} receipt
  * @param {import("../session.js").Entry} entry
- * @param {{ pallets: StatusPallet[] }} status */
-export function receiptView(receipt, entry, status) {
+ * @param {{ pallets: StatusPallet[] }} status
+ * @param {import("../articles.js").Articles} articles */
+export function receiptView(receipt, entry, status, articles) {
   const rows = receipt.units.flatMap((unit) => rowsOf(unit, status.pallets.filter((it) => it.sscc === unit.sscc)));
   return [
     terms([
@@ -26,7 +27,7 @@ export function receiptView(receipt, entry, status) {
       ["Came in", entry.interchange ? preparedInWords(entry.interchange.date, entry.interchange.time) : ""],
     ]),
     receipt.replaces && saying("plain", REPLACES),
-    new Table({ caption: "Pallets received, beside what was announced", columns: columns(), rows, sums: true }).element,
+    new Table({ caption: "Pallets received, beside what was announced", columns: columns(articles), rows, sums: true }).element,
     ...correctedSince(receipt, rows),
   ];
 }
@@ -46,8 +47,8 @@ function rowsOf(unit, announced) {
 /** @param {ReceiptLine} it */
 const inAll = (it) => it.accepted + it.returned + it.destroyed;
 
-/** @returns {import("../parts/table.js").Column<Row>[]} */
-function columns() {
+/** @param {import("../articles.js").Articles} articles @returns {import("../parts/table.js").Column<Row>[]} */
+function columns(articles) {
   const quantity = (/** @type {string} */ title, /** @type {"accepted" | "returned" | "destroyed"} */ name) => ({
     title,
     cell: (/** @type {Row} */ it) => figure(it.received[name]),
@@ -59,12 +60,12 @@ function columns() {
   const lack = (/** @type {Row} */ it) => inAll(it.received) - announced(it);
   return [
     { title: "Pallet (SSCC)", cell: (it) => it.sscc, value: (it) => it.sscc, kind: "digits" },
-    { title: "Article (GTIN)", cell: (it) => gtinAsPrinted(it.gtin), value: (it) => it.gtin, kind: "digits" },
+    { ...articleColumn((/** @type {Row} */ it) => it.gtin, (it) => articleCell(it.gtin, articles.of(it))), value: (it) => it.gtin },
     { title: "Announced", cell: (it) => (it.announced === null ? "–" : figure(it.announced)), value: announced, number: true, sum: true },
     quantity("Accepted", "accepted"),
     quantity("Returned", "returned"),
     quantity("Destroyed", "destroyed"),
-    { title: "Difference", cell: (it) => difference(lack(it)), value: lack, number: true },
+    { title: "Difference", cell: (it) => difference(lack(it)), value: lack, csv: lack, number: true },
   ];
 }
 

@@ -1,14 +1,16 @@
 // @ts-check
 // The status of a supplier: order lines with what became of them, and pallets with what was received.
 
-import { gtinAsPrinted } from "../edi/identifiers.js";
+import { Articles, articlesOf } from "../articles.js";
 import { ANSWERS, PALLET_STATES } from "../hub/codes.js";
+import { isAnnounced, isDifferent, isOpen, isUnanswered } from "../hub/status_kinds.js";
+import { articleCell, articleColumn } from "../parts/article.js";
 import { bar, legend } from "../parts/bar.js";
 import { difference } from "../parts/difference.js";
-import { element, exact, figure, heading, newId } from "../parts/dom.js";
-import { Field } from "../parts/field.js";
+import { element, figure, heading } from "../parts/dom.js";
+import { FilteredTable } from "../parts/filtered_table.js";
+import { orderNumber } from "../parts/order_number.js";
 import { notUnderstood } from "../parts/raw.js";
-import { Table } from "../parts/table.js";
 
 /** @typedef {import("../hub/replies.js").StatusLine} StatusLine */
 /** @typedef {import("../hub/replies.js").StatusPallet} StatusPallet */
@@ -17,65 +19,54 @@ import { Table } from "../parts/table.js";
 /** @type {[string, string, (line: StatusLine) => boolean][]} */
 const LINES_SHOWN = [
   ["all", "All lines", () => true],
-  ["open", "With something open", (it) => it.open > 0],
-  ["waiting", "Waiting for an answer", (it) => it.answer === "W"],
+  ["open", "With something open", isOpen],
+  ["waiting", "Waiting for an answer", isUnanswered],
   ["refused", "With something refused", (it) => it.refused > 0],
   ["cancelled", "With something cancelled", (it) => it.cancelled > 0],
 ];
 /** @type {[string, string, (pallet: StatusPallet) => boolean][]} */
 const PALLETS_SHOWN = [
   ["all", "All pallets", () => true],
-  ["announced", "Announced, not received", (it) => it.state === "A"],
-  ["different", "With a difference", (it) => it.difference !== 0],
+  ["announced", "Announced, not received", isAnnounced],
+  ["different", "With a difference", isDifferent],
   ["corrected", "Corrected", (it) => it.state === "C"],
 ];
 
-/** @param {import("../start.js").Context} context */
-export async function statusScreen({ session }) {
+/** @param {import("../start.js").Context} context @param {string} [sscc] of the pallet to begin with, above the order lines */
+export async function statusScreen({ session }, sscc = "") {
   const status = await session.status();
-  return { title: "Status", content: [heading("Status"), ...statusView(status)] };
+  const [lines, pallets, raw] = statusView(status, articlesOf(session), { sscc });
+  return { title: "Status", content: [heading("Status"), ...(sscc ? [pallets, lines] : [lines, pallets]), raw] };
 }
 
 /** @param {{ lines: StatusLine[], pallets: StatusPallet[], raw: string[] }} status
- * @param {(line: StatusLine) => Child} [action] in a last column */
-export function statusView(status, action) {
+ * @param {Articles} articles
+ * @param {{ sscc?: string, without?: string[], more?: import("../parts/table.js").Column<StatusLine>[],
+ *   under?: (shown: () => StatusLine[]) => Child }} words by which `sscc` the pallets are filtered to begin with, columns of the lines that
+ * are left out and added, and what is under the lines */
+export function statusView(status, articles, { sscc = "", without = [], more = [], under = () => null }) {
   const ofLines = { caption: "Order lines", kind: "lines", empty: "No order line fits.", sums: true };
-  const lines = new Table({ ...ofLines, columns: lineColumns(action), rows: status.lines });
+  const lines = new FilteredTable(
+    { ...ofLines, columns: [...lineColumns(articles, ...without), ...more], rows: status.lines },
+    { label: "Order or article", kinds: LINES_SHOWN, words: (it) => [it.order, it.gtin, articles.words(it)] },
+  );
   const ofPallets = { caption: "Pallets", kind: "pallet-rows", empty: "No pallet fits.", sums: true };
-  const pallets = new Table({ ...ofPallets, columns: palletColumns(), rows: status.pallets });
-  const lineFilter = filter("Order or article", LINES_SHOWN, (fits, text) =>
-    lines.show(status.lines.filter((it) => fits(it) && `${it.order} ${it.gtin}`.includes(text))),
+  const pallets = new FilteredTable(
+    { ...ofPallets, columns: palletColumns(articles), rows: status.pallets },
+    { label: "SSCC or article", kinds: PALLETS_SHOWN, words: (it) => [it.sscc, it.gtin, articles.words(it)], value: sscc },
   );
-  const palletFilter = filter("SSCC or article", PALLETS_SHOWN, (fits, text) =>
-    pallets.show(status.pallets.filter((it) => fits(it) && `${it.sscc} ${it.gtin}`.includes(text))),
-  );
+  const key = without.includes("Shares") ? null : legend();
+  const chosen = under(() => lines.table.shown);
   return [
-    element("section", {}, element("h2", {}, "Order lines"), lineFilter, legend(), lines.element),
-    element("section", {}, element("h2", {}, "Pallets"), palletFilter, pallets.element),
+    element("section", {}, element("h2", {}, "Order lines"), lines.filter.element, key, lines.table.element, chosen),
+    element("section", {}, element("h2", {}, "Pallets"), pallets.filter.element, pallets.table.element),
     status.raw.length ? notUnderstood("The page does not understand these lines of the report:", status.raw.join("\n")) : null,
   ];
 }
 
-/**
- * @template Row
- * @param {string} label
- * @param {[string, string, (row: Row) => boolean][]} kinds
- * @param {(fits: (row: Row) => boolean, text: string) => void} show
- */
-function filter(label, kinds, show) {
-  const text = new Field({ label, type: "search" });
-  const id = newId("kind");
-  const options = kinds.map(([value, words]) => element("option", { value }, words));
-  const select = /** @type {HTMLSelectElement} */ (element("select", { id }, ...options));
-  const draw = () => show(kinds[select.selectedIndex][2], text.trimmed);
-  text.input.addEventListener("input", draw);
-  select.addEventListener("change", draw);
-  const choice = element("div", { class: "field" }, element("label", { for: id }, "Shown"), select);
-  return element("div", { class: "filter no-print" }, text.element, choice);
-}
-
-/** @param {(line: StatusLine) => Child} [action] @returns {import("../parts/table.js").Column<StatusLine>[]} */
-function lineColumns(action) {
+/** @param {Articles} articles @param {...string} without titles of columns that are left out
+ * @returns {import("../parts/table.js").Column<StatusLine>[]} */
+export function lineColumns(articles, ...without) {
   const quantity = (/** @type {string} */ title, /** @type {"ordered" | "despatched" | "open" | "refused" | "cancelled"} */ name) => ({
     title,
     cell: (/** @type {StatusLine} */ it) => figure(it[name]),
@@ -83,23 +74,25 @@ function lineColumns(action) {
     number: true,
     sum: true,
   });
-  return [
-    { title: "Order", cell: (it) => exact(it.order), value: (it) => it.order },
+  /** @type {import("../parts/table.js").Column<StatusLine>[]} */
+  const columns = [
+    { title: "Order", cell: orderNumber, value: (it) => it.order },
     { title: "Line", cell: (it) => it.line, value: (it) => it.line },
-    { title: "Article (GTIN)", cell: (it) => gtinAsPrinted(it.gtin), value: (it) => it.gtin, kind: "digits" },
+    { ...articleColumn((/** @type {StatusLine} */ it) => it.gtin, (it) => articleCell(it.gtin, articles.of(it))), value: (it) => it.gtin },
     { title: "Answer", cell: (it) => ANSWERS[it.answer], value: (it) => ANSWERS[it.answer] },
     quantity("Ordered", "ordered"),
     quantity("Despatched", "despatched"),
     quantity("Open", "open"),
     quantity("Refused", "refused"),
     quantity("Cancelled", "cancelled"),
-    { title: "Shares", cell: bar, kind: "bar-cell" },
-    ...(action ? [{ title: "", cell: action, kind: "action" }] : []),
+    { title: "Shares", cell: bar, kind: "bar-cell", csv: false },
   ];
+  return columns.filter((it) => !without.includes(it.title));
 }
 
-/** @returns {import("../parts/table.js").Column<StatusPallet>[]} */
-function palletColumns() {
+/** @param {Articles} articles @param {...string} without titles of columns that are left out
+ * @returns {import("../parts/table.js").Column<StatusPallet>[]} */
+export function palletColumns(articles, ...without) {
   const quantity = (/** @type {string} */ title, /** @type {"despatched" | "accepted" | "returned" | "destroyed"} */ name) => ({
     title,
     cell: (/** @type {StatusPallet} */ it) => figure(it[name]),
@@ -107,15 +100,20 @@ function palletColumns() {
     number: true,
     sum: true,
   });
-  const lack = (/** @type {StatusPallet} */ it) => (it.state === "A" ? "not received yet" : difference(it.difference));
-  return [
+  const article = articleColumn((/** @type {StatusPallet} */ it) => it.gtin, (it) => articleCell(it.gtin, articles.of(it)));
+  const none = "not received yet";
+  const lack = (/** @type {StatusPallet} */ it) => (it.state === "A" ? none : difference(it.difference));
+  const lackInFile = (/** @type {StatusPallet} */ it) => (it.state === "A" ? none : it.difference);
+  /** @type {import("../parts/table.js").Column<StatusPallet>[]} */
+  const columns = [
     { title: "Pallet (SSCC)", cell: (it) => it.sscc, value: (it) => it.sscc, kind: "digits" },
-    { title: "Article (GTIN)", cell: (it) => gtinAsPrinted(it.gtin), value: (it) => it.gtin, kind: "digits" },
+    { ...article, value: (it) => it.gtin },
     { title: "State", cell: (it) => PALLET_STATES[it.state], value: (it) => PALLET_STATES[it.state] },
     quantity("Despatched", "despatched"),
     quantity("Accepted", "accepted"),
     quantity("Returned", "returned"),
     quantity("Destroyed", "destroyed"),
-    { title: "Difference", cell: lack, value: (it) => it.difference, number: true },
+    { title: "Difference", cell: lack, value: (it) => it.difference, number: true, csv: lackInFile },
   ];
+  return columns.filter((it) => !without.includes(it.title));
 }

@@ -39,7 +39,7 @@ STRUCTURE = """const all = it => [...document.querySelectorAll(it)];
     const described = named.filter(it => !ids.includes(it));
     return { unlabelled, described, twice: ids.filter((it, place) => ids.indexOf(it) !== place), headings: all('h1').length,
         cut: all('main td').filter(it => it.scrollWidth > it.clientWidth + 1).map(it => it.textContent),
-        wide: document.documentElement.scrollWidth - innerWidth,
+        wide: document.documentElement.scrollWidth - document.documentElement.clientWidth,
         language: document.documentElement.lang, title: document.title }"""
 
 # of what has the focus: its name, and whether a ring is seen round it
@@ -107,10 +107,11 @@ def by_keyboard(browser, program):
         browser.go(stage.address)
         browser.one("form.sign-in")
         browser.keys(*ALPHA, "tab", *"alpha-key-1", "enter")
-        browser.until_says("new entries")
+        browser.until_says("Orders to answer (2)")
         pressed = 0
         steps = [("128590", "enter", "gate 3"), ("Answer", "enter", "Accept all 10 lines"), ("Accept all 10 lines", "space", "")]
-        for said, key, then in [*steps, ("Send answer", "enter", "1 ORDRSP accepted")]:
+        sends = [("Check answer", "enter", "10 lines accepted."), ("Send answer", "enter", "1 ORDRSP accepted")]
+        for said, key, then in [*steps, *sends]:
             for _ in range(60):
                 if browser.run("return document.activeElement.textContent.trim()") == said:
                     break

@@ -2,6 +2,7 @@
 nothing is done twice."""
 import time
 
+from tests.page.forms import check, send, send_files
 from tests.page.stage import ALPHA, BETA, RETAILER, Stage, interchange, order, sign_in
 
 SAFE = "Sending it again is safe"
@@ -55,7 +56,7 @@ def by_itself(browser, stage):
     for number, breaks, said in (("L1", lost, "repeated"), ("L2", half, "repeated"), ("L3", away, "accepted")):
         begun(browser, stage, number)
         stage.proxy.breaks[:] = [breaks]
-        browser.press("Send answer")
+        send(browser, "answer")
         browser.until_says("The connection broke. The page sends the very same again, by itself. " + SAFE)
         browser.until_says(f"1 ORDRSP {said}")
         alike(stage, 2)
@@ -65,7 +66,7 @@ def by_itself(browser, stage):
 def by_the_button(browser, stage):
     begun(browser, stage, "L4")
     stage.proxy.breaks[:] = [lost, lost, away]
-    browser.press("Send answer")
+    send(browser, "answer")
     browser.until_says("No answer from the hub")
     browser.until_says(SAFE)
     alike(stage, 2)
@@ -90,7 +91,7 @@ def a_hub_that_is_killed(browser, stage):
         return handler.passed(body)
 
     stage.proxy.breaks[:] = [killed]
-    browser.press("Send answer")
+    send(browser, "answer")
     browser.until_says("No answer from the hub")
     alike(stage, 2)
     stage.begin_hub()
@@ -104,7 +105,7 @@ def a_screen_that_is_left(browser, stage):
     """What has no answer is told on every screen, also where the screen was left before that, and can be sent again there."""
     begun(browser, stage, "L6")
     stage.proxy.breaks[:] = [late, lost]
-    browser.press("Send answer")
+    send(browser, "answer")
     browser.press("Status", "a")
     browser.until_says("Your answer to order L6 was sent, and no answer came.", "#banner")
     # nothing new is sent before that
@@ -116,7 +117,7 @@ def a_screen_that_is_left(browser, stage):
     browser.type(browser.labelled("SSCC"), "340123455000000012")
     browser.run("document.querySelector('.orders input').click()")
     browser.press("Put all that is open on it")
-    browser.press("Send despatch advice")
+    check(browser, "despatch advice")
     browser.until_says("Something that you sent before has no answer yet.")
     alike(stage, 2)
     browser.press("Send the same again")
@@ -131,7 +132,7 @@ def a_cancellation(browser, stage):
         browser.type(browser.labelled(label), text)
     stage.sent.clear()
     stage.proxy.breaks[:] = [lost, half]
-    browser.press("Send cancellation")
+    send(browser, "cancellation")
     browser.until_says("No answer from the hub")
     browser.press("Send the same again")
     browser.until_says("The hub had it already")
@@ -144,7 +145,7 @@ def a_cancellation(browser, stage):
     browser.press("Show status")
     browser.press("Cancel…", "a")
     browser.type(browser.labelled("Quantity to cancel"), "41")
-    browser.press("Send cancellation")
+    send(browser, "cancellation")
     browser.until_says("More is cancelled than is open.")
     assert browser.run("return document.activeElement.getAttribute('aria-invalid')") == "true"
     assert browser.run("return document.activeElement.labels[0].textContent") == "Quantity to cancel"
@@ -157,12 +158,14 @@ def an_upload(browser, stage):
     stage.proxy.breaks[:] = [away, away]
     text = interchange(RETAILER, "9001", order("U1", [5], supplier=BETA), order("U1", [6], supplier=BETA, reference=2))
     browser.drop("u.edi", text)
+    send_files(browser)
     browser.until_says("No answer from the hub")
     browser.press("Send the same again")
     browser.until_says("Accepted")
     alike(stage, 3)
     rows = browser.rows("table")
-    assert [it[:2] for it in rows] == [["1", "Order"], ["2", "Order"]] and rows[1][2].startswith("B04 "), rows
+    named = ["Order", "U1", BETA]
+    assert [it[:4] for it in rows] == [["1", *named], ["2", *named]] and rows[1][4].startswith("B04 "), rows
     stage.sent.clear()
     browser.drop("long.edi", "x" * 1_048_577)
     browser.until_says("Too large: an interchange has at most 1,048,576 bytes.")

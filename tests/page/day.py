@@ -7,6 +7,7 @@ import tempfile
 import time
 
 from tests.page.driver import wait
+from tests.page.forms import check, send, send_files
 from tests.page.stage import ALPHA, BETA, DAY, EXAMPLES, RETAILER, Stage, milliseconds, sign_in
 
 # by hand: the page's references are the moment in milliseconds, to the base of 36, and a counter
@@ -18,8 +19,8 @@ ANSWER_OF_A = (
 )
 ANSWER_OF_B = (
     "UNA:+.? 'UNB+UNOC:3+8712345000004:14+5412345000006:14+250603:0900+MBGAFMO0001'"
-    "UNH+1+ORDRSP:D:01B:UN:EAN009'BGM+231+ANSWER-B+29'DTM+137:20250603:102'RFF+ON:128577'NAD+BY+5412345000013::9'NAD+SU+8712345000004::9'"
-    "UNS+S'UNT+8+1'UNZ+1+MBGAFMO0001'"
+    "UNH+1+ORDRSP:D:01B:UN:EAN009'BGM+231+ANSWER-B+4'DTM+137:20250603:102'RFF+ON:128577'NAD+BY+5412345000013::9'NAD+SU+8712345000004::9'"
+    "LIN+1+5+8712345000011:SRV'RFF+ON:128577:1'UNS+S'CNT+2:1'UNT+11+1'UNZ+1+MBGAFMO0001'"
 )
 CANCELLATION = "8712345000004\nMBGASHMO001\n128577\n1\n10\n"
 DESPATCH_OF_A = (
@@ -34,6 +35,8 @@ DESPATCH_OF_B = (
     "CPS+1'PAC+1'PCI+33E'GIN+BJ+387123450000000012'LIN+1++8712345000011:SRV'QTY+12:40'RFF+ON:128577:1'CNT+2:1'UNT+14+1'UNZ+1+MBHPVHC0001'"
 )
 
+EACH_FILE = "return [...document.querySelectorAll('.upload')].map(it => it.textContent)"
+
 
 def file_of(*path):
     with open(os.path.join(DAY, *path), "rb") as file:
@@ -44,7 +47,9 @@ def upload(browser, stage, *files):
     """The retailer chooses files, and sees a line for each message."""
     sign_in(browser, stage, RETAILER)
     browser.choose_file(browser.one("input[type=file]"), *(os.path.join(DAY, *it) for it in files))
+    send_files(browser, len(files))
     browser.until_says("Accepted")
+    wait(lambda: all("Accepted" in it for it in browser.run(EACH_FILE)), "answer to each file", browser.text)
     wanted = [(f"/p/{RETAILER}/interchanges", file_of(*it)) for it in files]
     end = time.monotonic() + 10
     while len(stage.sent) < len(files) and time.monotonic() < end:
@@ -96,7 +101,7 @@ def answer_in_part(browser, stage):
     browser.until_says("QTY+113:20'")
     assert browser.text("details pre").replace("\n", "") == ANSWER_OF_A, browser.text("details pre")
     stage.sent.clear()
-    browser.press("Send answer")
+    send(browser, "answer")
     browser.until_says("Accepted: the hub has taken it")
     browser.until_says("1 ORDRSP accepted")
     sent_is(stage, ALPHA, "interchanges", ANSWER_OF_A)
@@ -110,7 +115,7 @@ def answer_whole_and_cancel(browser, stage):
     browser.press("Answer", "a")
     browser.press("Accept the line")
     browser.type(browser.labelled("Number of your answer"), "ANSWER-B")
-    browser.press("Send answer")
+    send(browser, "answer")
     browser.until_says("Accepted: the hub has taken it")
     sent_is(stage, BETA, "interchanges", ANSWER_OF_B)
     browser.stop_clock(milliseconds(2025, 6, 3, 9, 10))
@@ -121,7 +126,7 @@ def answer_whole_and_cancel(browser, stage):
     browser.press("Cancel…", "a")
     browser.until_says("60 are open")
     browser.type(browser.labelled("Quantity to cancel"), "10")
-    browser.press("Send cancellation")
+    send(browser, "cancellation")
     browser.until_says("Accepted: the hub has taken it")
     sent_is(stage, RETAILER, "cancellations", CANCELLATION)
 
@@ -142,16 +147,16 @@ def despatches(browser, stage):
     browser.type(browser.labelled("Quantity of order 128576, line 1"), "48")
     browser.press("Add a pallet")
     browser.type(browser.labelled("Quantity of order 128576, line 2", 1), "21")
-    browser.press("Send despatch advice")
+    check(browser, "despatch advice")
     browser.until_says("Only 20 are open, and 21 are on your pallets.")
     assert stage.sent == [], stage.sent
     browser.type(browser.labelled("Quantity of order 128576, line 2", 1), "20")
-    browser.press("Send despatch advice")
+    send(browser, "despatch advice")
     browser.until_says("Accepted: the hub has taken it")
     sent_is(stage, ALPHA, "interchanges", DESPATCH_OF_A)
     despatch(browser, stage, BETA, milliseconds(2025, 6, 4, 9, 0), "8712345", "ADVICE-B")
     browser.type(browser.labelled("Quantity of order 128577, line 1"), "40")
-    browser.press("Send despatch advice")
+    send(browser, "despatch advice")
     browser.until_says("Accepted: the hub has taken it")
     sent_is(stage, BETA, "interchanges", DESPATCH_OF_B)
 
@@ -168,6 +173,7 @@ def receipts(browser, stage):
     sign_in(browser, stage, RETAILER)
     browser.one(".drop")
     browser.drop("of-a.edi", file_of("8-correction", "of-a.edi").decode("latin-1"))
+    send_files(browser)
     browser.until_says("Accepted")
     sign_in(browser, stage, ALPHA)
     browser.press("W-3", "a")

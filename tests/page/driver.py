@@ -11,8 +11,11 @@ import time
 PATIENCE = 20
 # by which an element is named in JSON
 ELEMENT = "element-6066-11e4-a52e-4f735466cecf"
-KEYS = {"tab": "\ue004", "enter": "\ue007", "space": "\ue00d"}
+KEYS = {"tab": "\ue004", "enter": "\ue007", "space": "\ue00d", "escape": "\ue00c"}
 ARGUMENTS = ["--headless=new", "--no-sandbox", "--disable-gpu", "--disable-dev-shm-usage", "--hide-scrollbars", "--no-first-run"]
+# this machine by a name that no browser knows as its own
+ELSEWHERE = "hub.test"
+ARGUMENTS += [f"--host-resolver-rules=MAP {ELSEWHERE} 127.0.0.1", "--disable-features=HttpsUpgrades"]
 
 
 class DriverFault(Exception):
@@ -73,6 +76,22 @@ class Browser:
 
     def go(self, address):
         self.ask("POST", "/url", {"url": address})
+
+    def tab(self):
+        """The name of this tab."""
+        return self.ask("GET", "/window")
+
+    def new_tab(self):
+        """Opens another tab, and goes to it."""
+        self.to_tab(self.ask("POST", "/window/new", {"type": "tab"})["handle"])
+
+    def to_tab(self, name):
+        self.ask("POST", "/window", {"handle": name})
+
+    def close_tab(self, to):
+        """Closes this tab, and goes to another."""
+        self.ask("DELETE", "/window")
+        self.to_tab(to)
 
     def address(self):
         return self.ask("GET", "/url")

@@ -1,5 +1,6 @@
 """Texts in order numbers that would do harm where they were taken for markup, a part of an address or separators: each is shown as it is,
 answered and despatched."""
+from tests.page.forms import send
 from tests.page.stage import ALPHA, RETAILER, Stage, interchange, order, released, signed_in
 
 NUMBERS = [
@@ -35,7 +36,7 @@ def answered(browser, stage, place, number):
     browser.type(browser.labelled("Changed quantity of line 1"), "9")
     shown(browser, number)
     stage.sent.clear()
-    browser.press("Send answer")
+    send(browser, "answer")
     browser.until_says("1 ORDRSP accepted")
     sent = stage.sent[0][1].decode("latin-1")
     assert f"'RFF+ON:{released(number)}'NAD" in sent and f"'RFF+ON:{released(number)}:1'" in sent, sent
@@ -52,7 +53,7 @@ def despatched(browser, stage):
         shown(browser, number)
     browser.press("Put all that is open on it")
     stage.sent.clear()
-    browser.press("Send despatch advice")
+    send(browser, "despatch advice")
     browser.until_says("1 DESADV accepted")
     sent = stage.sent[0][1].decode("latin-1")
     for number in NUMBERS:
@@ -73,7 +74,7 @@ def cancelled(browser, stage):
         browser.until_says("7 are open")
         browser.type(browser.labelled("Quantity to cancel"), "2")
         stage.sent.clear()
-        browser.press("Send cancellation")
+        send(browser, "cancellation")
         browser.until_says("Accepted: the hub has taken it")
         assert stage.sent[0][1].decode("latin-1").split("\n")[2] == number, (number, stage.sent)
         browser.run("document.title = ''")

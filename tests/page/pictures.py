@@ -11,6 +11,9 @@ from tests.page.stage import Stage, milliseconds
 SIZES = {"wide": (1100, 800), "narrow": (360, 740)}
 LIGHTS = {"light": False, "dark": True}
 MOST_COLOURS = 256
+# to the summary or what the hub said, if they are there
+TO_WHAT_HAPPENED = """const said = [...document.querySelectorAll('.summary:not([hidden]), .delivery:not(:empty)')].pop();
+    if (said) said.scrollIntoView({ block: 'center' }); else scrollTo(0, 0)"""
 
 
 def chunk(kind, data):
@@ -85,7 +88,7 @@ def main(program, folder):
                 for size, measures in SIZES.items():
                     for light, dark in LIGHTS.items():
                         browser.look(*measures, dark=dark, narrow=size == "narrow")
-                        browser.run("document.querySelector('.delivery')?.scrollIntoView({ block: 'center' })")
+                        browser.run(TO_WHAT_HAPPENED)
                         file = os.path.join(folder, f"{name}-{size}-{light}.png")
                         browser.picture(file)
                         with open(file, "rb") as opened_file:

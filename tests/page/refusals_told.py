@@ -1,6 +1,7 @@
 """What the hub refuses is told at the field that its code speaks of: the form was right when it was opened, and something else came
 between."""
 from tests.page.driver import ELEMENT, wait
+from tests.page.forms import check, fresh, send
 from tests.page.stage import ALPHA, BETA, RETAILER, Stage, gtin, interchange, message, order, signed_in
 
 PALLET = "340123455000000012"
@@ -32,9 +33,7 @@ def focused(browser, label):
 
 
 def form(browser, sscc=PALLET, quantity="10", number="D-NEW"):
-    browser.run("location.hash = 'mailbox'")
-    browser.until_says("new entr")
-    browser.run("location.hash = 'despatch'")
+    fresh(browser, "despatch")
     browser.type(browser.labelled("SSCC"), sscc)
     browser.type(browser.labelled("Number of the despatch"), number)
     browser.type(browser.labelled("Quantity of order R1, line 1"), quantity)
@@ -43,23 +42,23 @@ def form(browser, sscc=PALLET, quantity="10", number="D-NEW"):
 def despatches(browser, stage):
     field = "Quantity of order R1, line 1"
     form(browser, sscc="387123450000000012")
-    browser.press("Send despatch advice")
+    send(browser, "despatch advice")
     told_at(browser, "SSCC", "B11", "under none of your prefixes")
     form(browser)
     despatch_by_another(stage, "X1", "D-1", PALLET, 1)
-    browser.press("Send despatch advice")
+    send(browser, "despatch advice")
     told_at(browser, "SSCC", "B12", "You have used this SSCC before.")
     form(browser, sscc="340123455000000029", number="D-2")
     despatch_by_another(stage, "X2", "D-2", "340123455000000036", 1)
-    browser.press("Send despatch advice")
+    send(browser, "despatch advice")
     told_at(browser, "Number of the despatch", "B13", "You have sent a despatch advice of this number before")
     form(browser, sscc="340123455000000029", quantity="46")
     cancelled(stage, "Y1", 6)
-    browser.press("Send despatch advice")
+    send(browser, "despatch advice")
     told_at(browser, field, "B10", "Only 40 are open, and 46 are on your pallets.")
     # mended, under the same form, it goes
     browser.type(browser.labelled(field), "5")
-    browser.press("Send despatch advice")
+    send(browser, "despatch advice")
     browser.until_says("1 DESADV accepted")
 
 
@@ -72,17 +71,17 @@ def checks_of_the_form(browser, stage):
     last, short, used = "The last digit should be 3", "An SSCC has 18 digits.", "You have used this SSCC before."
     for number, said in (("340123455000000044", last), ("3401234550", short), ("340123455000000012", used)):
         browser.type(browser.labelled("SSCC"), number)
-        browser.press("Send despatch advice")
+        check(browser, "despatch advice")
         browser.until_says(said)
     browser.type(browser.labelled("Your GS1 company prefix"), "9999")
     browser.type(browser.labelled("SSCC"), "340123455000000043")
-    browser.press("Send despatch advice")
+    check(browser, "despatch advice")
     browser.until_says("does not begin with your prefix 9999")
     browser.type(browser.labelled("Your GS1 company prefix"), "40123455")
     browser.press("Add a pallet")
     assert value(1) == "340123455000000050", value(1)
     browser.type(browser.labelled("SSCC", 1), "340123455000000043")
-    browser.press("Send despatch advice")
+    check(browser, "despatch advice")
     browser.until_says("Another pallet of this form has the same SSCC.")
     browser.until_says("Put something on this pallet, or remove it.")
     assert stage.sent == [], stage.sent
@@ -91,24 +90,24 @@ def checks_of_the_form(browser, stage):
 def answers(browser, stage):
     """A line that is despatched in part and one that is answered meanwhile."""
     stage.upload(RETAILER, interchange(RETAILER, "R2", order("R2", [30, 40])))
-    browser.run("location.hash = 'answer/2'")
+    fresh(browser, "answer/2")
     for line, quantity in ((1, "5"), (2, "20")):
         browser.type(browser.labelled(f"Changed quantity of line {line}"), quantity)
     browser.type(browser.labelled("Changed quantity of line 2"), "41")
-    browser.press("Send answer")
+    check(browser, "answer")
     browser.until_says("Give a whole number from 0 to 40.")
     browser.type(browser.labelled("Changed quantity of line 2"), "20")
     despatch_by_another(stage, "X3", "D-3", "340123455000000081", 10, of="R2")
-    browser.press("Send answer")
+    send(browser, "answer")
     told_at(browser, "Changed quantity of line 1", "B08", "Give a whole number from 10 to 30.")
     browser.type(browser.labelled("Changed quantity of line 1"), "12")
     parties = ("DTM+137:20250604:102", "RFF+ON:R2", f"NAD+BY+{RETAILER}::9", f"NAD+SU+{ALPHA}::9")
     answer = message("ORDRSP:D:01B:UN:EAN009", "BGM+231+A2+4", *parties, f"LIN+1+5+{gtin(2)}:SRV", "RFF+ON:R2:2", "UNS+S")
     stage.upload(ALPHA, interchange(ALPHA, "X4", answer))
-    browser.press("Send answer")
+    send(browser, "answer")
     told_at(browser, "Changed quantity of line 2", "B07", "This line waits no more: it is accepted.")
     # the line that still waits is answered by itself
-    browser.press("Send answer")
+    send(browser, "answer")
     browser.until_says("1 ORDRSP accepted")
     lines = [it.split()[4:8] for it in stage.ask(ALPHA, "status").splitlines() if it.startswith("L R2 ")]
     assert lines == [["C", "30", "2", "18"], ["A", "40", "40", "0"]], lines
@@ -119,12 +118,10 @@ def cancellations(browser, stage):
     right = {"The supplier's GLN": ALPHA, "Order number": "R2", "Line": "2", "Quantity to cancel": "1"}
     wrong = (("The supplier's GLN", "7612345000008", "B02"), ("Order number", "R9", "B05"), ("Line", "3", "B06"))
     for label, text, code in (*wrong, ("Quantity to cancel", "41", "B17")):
-        browser.run("location.hash = 'upload'")
-        browser.one(".drop")
-        browser.run("location.hash = 'cancel'")
+        fresh(browser, "cancel")
         for name, value in {**right, label: text}.items():
             browser.type(browser.labelled(name), value)
-        browser.press("Send cancellation")
+        send(browser, "cancellation")
         browser.until_says(f"refused {code}")
         focused(browser, label)
 

@@ -1,7 +1,9 @@
 """Each screen of the page as a person finds it: a hub with a day on it, and the way to each screen."""
 import os
 
+from tests.page.forms import check, fresh, send, send_files
 from tests.page.stage import ALPHA, BETA, DAY, RETAILER, gtin, interchange, message, order, released, signed_in
+from tests.page.stage import opened as tab_opened
 
 
 def furnished(stage):
@@ -44,6 +46,12 @@ def answer(browser):
     browser.run("document.activeElement.blur()")
 
 
+def reviewed(browser):
+    answer(browser)
+    check(browser, "answer")
+    browser.until_says("What is sent cannot be taken back.")
+
+
 def despatch(browser):
     browser.type(browser.labelled("Your GS1 company prefix"), "40123455")
     browser.keys("tab")
@@ -54,13 +62,13 @@ def despatch(browser):
 def sent(browser):
     """An answer that the hub refused: somebody answered meanwhile."""
     browser.press("Accept all 2 lines")
-    browser.press("Send answer")
+    send(browser, "answer")
     browser.until_says("The hub said")
 
 
 def no_answer(browser):
     browser.press("Accept all 10 lines")
-    browser.press("Send answer")
+    send(browser, "answer")
     browser.until_says("No answer from the hub")
 
 
@@ -68,13 +76,62 @@ def uploaded(browser):
     text = interchange(RETAILER, "4001", order("128600", [10], supplier=BETA), order("128577", [10], supplier=BETA, reference=2))
     browser.drop("orders-of-today.edi", text)
     browser.drop("letter.txt", "no EDIFACT")
+    send_files(browser, 2)
     browser.until_says("Refused, and nothing of it was taken.")
 
 
 def cancel(browser):
     browser.type(browser.labelled("Quantity to cancel"), "999")
-    browser.press("Send cancellation")
+    send(browser, "cancellation")
     browser.until_says("The hub said")
+
+
+def fetched(browser):
+    """The statuses of two suppliers and of one that the hub does not know, by a list that is dropped."""
+    if not browser.all("table.across"):
+        browser.run("location.hash = 'overview'")
+        browser.one(".drop")
+    if "Fetched 2 of 3 suppliers." not in browser.text():
+        browser.drop("suppliers.csv", f"GLN;Name\n{ALPHA};Alpha\n{BETA};Beta\n4000000000006;Gamma\n")
+        browser.press("Fetch the status of 3 suppliers")
+        browser.until_says("Fetched 2 of 3 suppliers.")
+
+
+def open_lines(browser):
+    fetched(browser)
+    browser.run("location.hash = 'open-lines'")
+    browser.until_says("lines of 2 fetched suppliers are open")
+    late = order("128591", [80], reference=2).replace("DTM+2:20250606", "DTM+2:20250604")
+    browser.drop("orders.edi", interchange(RETAILER, "2001", order("128590", [120]), late))
+    browser.until_says("2 orders name their days.")
+    browser.until_says("overdue", "table")
+
+
+def searched(browser):
+    fetched(browser)
+    browser.run("location.hash = 'search/34012345500000003'")
+    browser.until_says("of 2 fetched suppliers.")
+
+
+def lines_chosen(browser):
+    """Three lines of two orders, and the summary before they are sent."""
+    for number in ("Choose order 128590, line 2", "Choose order 128590, line 4", "Choose order 128591, line 1"):
+        browser.run("document.querySelector(`[aria-label='${arguments[0]}']`).click()", number)
+    browser.press("Cancel 3 lines…")
+    for label, quantity in (("128590, line 2", "12"), ("128590, line 4", "10"), ("128591, line 1", "30")):
+        browser.type(browser.labelled(f"Quantity to cancel of order {label}"), quantity)
+
+
+def lines_checked(browser):
+    lines_chosen(browser)
+    browser.press("Check cancellations")
+    browser.until_says("You cancel 3 lines of 2 orders, 52 pieces in all")
+
+
+def locked(browser):
+    """Ten minutes later, by the tab's clock, which goes on from there."""
+    browser.run("const [then, from] = [Date.now() + 600_000, performance.now()]; Date.now = () => then + performance.now() - from")
+    browser.until_says("it has forgotten your key")
 
 
 def nothing(_browser):
@@ -83,17 +140,25 @@ def nothing(_browser):
 
 # each screen: who sees it, its address, what it says when it is there, and what is done on it
 SCREENS = {
-    "sign-in": (None, "", "Your key stays in the memory of this tab", nothing),
+    "sign-in": (None, "", "This tab keeps GLN and key", nothing),
+    "locked": (ALPHA, "mailbox", "new entries", locked),
+    "today": (ALPHA, "today", "looks again every five minutes", nothing),
     "mailbox": (ALPHA, "mailbox", "new entries", mailbox),
     "order": (ALPHA, "entry/4", "gate 3", nothing),
     "answer": (ALPHA, "answer/4", "Accept all 10 lines", answer),
+    "check": (ALPHA, "answer/4", "Accept all 10 lines", reviewed),
     "despatch": (ALPHA, "despatch/4", "Pallet 1", despatch),
     "receipt": (ALPHA, "entry/2", "A later advice replaced", nothing),
     "status": (ALPHA, "status", "Sum of", nothing),
     "sent": (ALPHA, "answer/5", "Accept all 2 lines", sent),
     "no-answer": (ALPHA, "answer/4", "Accept all 10 lines", no_answer),
+    "sent-list": (ALPHA, "sent", "What this tab has sent", nothing),
     "upload": (RETAILER, "upload", "Choose .edi files", uploaded),
     "supplier": (RETAILER, f"supplier/{ALPHA}", "Cancel…", nothing),
+    "overview": (RETAILER, "overview", "Overview", fetched),
+    "open-lines": (RETAILER, "overview", "Overview", open_lines),
+    "search": (RETAILER, "overview", "Overview", searched),
+    "cancel-lines": (RETAILER, f"supplier/{ALPHA}", "Cancel…", lines_checked),
     "cancel": (RETAILER, f"cancel/{ALPHA}/128591/2", "25 are open", cancel),
 }
 
@@ -106,11 +171,11 @@ def opened(browser, stage, name):
     """This screen, as SCREENS says."""
     who, address, said, act = SCREENS[name]
     if who is None:
-        browser.go("about:blank")
-        browser.go(stage.address)
+        tab_opened(browser, stage)
     elif browser.run("return document.querySelector('.who .digits')?.textContent ?? ''") != who:
         signed_in(browser, stage, who)
-    browser.run("location.hash = arguments[0]", address)
+    if who is not None:
+        fresh(browser, address)
     browser.until_says(said)
     stage.proxy.breaks[:] = [lost, lost] if name == "no-answer" else []
     act(browser)

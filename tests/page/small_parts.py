@@ -1,8 +1,7 @@
 """Functions of the page that stand alone, called in Node (call.mjs): identifiers, references, replies, dates and the words of codes."""
-import os
 import re
 
-from tests.harness.tree import ROOT
+from tests.harness.code_list import read_codes
 from tests.page.agreement import by_node
 
 IDENTIFIERS = [
@@ -24,12 +23,30 @@ IDENTIFIERS = [
     (("gtinAsPrinted", "00036000291452"), "036000291452"),
     (("gtinAsPrinted", "04000862141404"), "4000862141404"),
     (("gtinAsPrinted", "10012345000017"), "10012345000017"),
+]
+SSCCS = [
+    *((("ssccOf", it), "340123455000000012") for it in ("340123455000000012", "00340123455000000012", "(00)340123455000000012")),
+    *((("ssccOf", it), "340123455000000012") for it in ("]C100340123455000000012", " (00) 3 4012345 500000001 2 ")),
+    (("ssccOf", "]C1 00 34012345500000001 2"), "340123455000000012"),
+    (("ssccOf", "3 4012345 500000001"), "340123455000000012"),
+    # 18 digits that begin with 00 are an SSCC already, and what is not 18 digits after the application identifier stays
+    (("ssccOf", "004012345500000000"), "004012345500000000"),
+    (("ssccOf", "(00)34012345500000001"), "(00)34012345500000001"),
+    (("ssccOf", "(01)340123455000000012"), "(01)340123455000000012"),
     (("nextSscc", "40123455", []), "340123455000000012"),
     (("nextSscc", "40123455", ["340123455000000012", "340123455000000029"]), "340123455000000036"),
-    # those of another prefix do not count, and none is taken from the next prefix where the last one is used
+    # those of another prefix do not count
     (("nextSscc", "8712345", ["340123455000000012"]), "387123450000000012"),
-    (("nextSscc", "40123455", ["340123455999999991"]), ""),
-    (("nextSscc", "401234551234", ["340123455123499991"]), ""),
+    # after the last serial number of an extension digit come those of the next one, and after 9 comes 0
+    (("nextSscc", "40123455", ["340123455999999991"]), "440123455000000002"),
+    (("nextSscc", "401234551234", ["340123455123499991"]), "440123455123400000"),
+    (("nextSscc", "40123455", ["940123455999999993"]), "040123455000000004"),
+    (("nextSscc", "40123455", ["940123455999999993", "040123455000000004"]), "040123455000000011"),
+    # the first serial number is the person's
+    (("nextSscc", "40123455", [], 500), "340123455000005000"),
+    (("nextSscc", "40123455", ["340123455000005000", "340123455000000012"], 500), "340123455000005017"),
+    (("nextSscc", "40123455", ["340123455000005000"], 1), "340123455000000012"),
+    (("nextSscc", "40123455", ["340123455999999991"], 99_999_999), "440123455000000002"),
     (("nextSscc", "", ["340123455000000029"]), "340123455000000036"),
     (("nextSscc", "", []), ""),
     (("nextSscc", "123", []), ""),
@@ -54,6 +71,54 @@ TEXTS = [
     (("canBeSent", "\xe4"), True),
     (("canBeSent", "\u20ac"), False),
 ]
+TAKEN = {"line": 1, "ordered": 48, "waits": True, "known": "waiting", "least": 8, "most": 48}
+DONE = {**TAKEN, "line": 2, "waits": False, "known": "accepted"}
+GIVEN = {"line": 1, "quantity": ""}
+FILES = [
+    *((("harmless", it), "'" + it) for it in ("=1+1", "+1", "-1", "@x", " =1", "\t=1", "'x")),
+    *((("harmless", it), "'" + it) for it in ("0012", "12-06", "1E5", "123456789012", "1,5")),
+    *((("harmless", it), it) for it in ("128590", "0", "A-1", "3 June 2025", "a=b", "")),
+    (("separatorOf", "en-GB"), ","),
+    (("separatorOf", "de-DE"), ";"),
+    (("csvText", [["a", 'b"c', "d,e"], ["f;g", " h", ""]], ","), 'a,"b""c","d,e"\r\nf;g," h",\r\n'),
+    (("csvText", [["d,e", "f;g"]], ";"), 'd,e;"f;g"\r\n'),
+    (("readRows", '\ufeffa,"b""c","d,\r\ne"\r\n\r\n\'=1, f ,'), [["a", 'b"c', "d,\r\ne"], [""], ["=1", "f", ""]]),
+    (("readRows", "1\ta;b,c\n2\t"), [["1", "a;b,c"], ["2", ""]]),
+    (("readRows", ""), [[""]]),
+]
+ANSWERS = [
+    (("readAnswers", "1,Accepted,\n\n2,accepted,", [TAKEN, DONE]), {"answers": [{**GIVEN, "answer": "accepted"}], "wrong": []}),
+    (("readAnswers", "Quantity,Line,Answer\n9,1,", [TAKEN]), {"answers": [{**GIVEN, "answer": "changed", "quantity": "9"}], "wrong": []}),
+    (("readAnswers", "1,,", [TAKEN]), {"answers": [], "wrong": []}),
+    (("readAnswers", "Line;Answer", [TAKEN]), {"answers": [], "wrong": ["Row 1: name the columns Line, Your answer and Changed to."]}),
+    (("readAnswers", "2;refused", [DONE]), {"answers": [], "wrong": ["Row 1: Line 2 waits no more: it is accepted."]}),
+    (("readAnswers", "1;changed;7", [TAKEN]), {"answers": [], "wrong": ["Row 1: Line 1: give a whole number from 8 to 48."]}),
+]
+GLNS = ("4012345500004", "8712345000004", "5412345000006")
+ALPHA, BETA = ({"gln": it, "name": name} for it, name in zip(GLNS, ("Alpha", "Beta")))
+SHORTENED = "Row 1: the spreadsheet shortened the GLN to 4,01E+12. Format its column as text."
+TWICE = f"Row 2: {GLNS[0]} is in an earlier row too."
+SUPPLIERS = [
+    (("readSuppliers", f"GLN;Name\r\n{GLNS[0]};Alpha\r\n'{GLNS[1]};Beta\r\n"), {"suppliers": [ALPHA, BETA], "wrong": []}),
+    (("readSuppliers", f"\ufeffTown,Supplier,gln\nBonn,Alpha,{GLNS[0]}\n\n"), {"suppliers": [ALPHA], "wrong": []}),
+    (("readSuppliers", f"4012345 50000 4\tAlpha\n{GLNS[0]}\tTwice"), {"suppliers": [ALPHA], "wrong": [TWICE]}),
+    (("readSuppliers", f"{GLNS[2]}"), {"suppliers": [{"gln": GLNS[2], "name": ""}], "wrong": []}),
+    (("readSuppliers", "4,01E+12;Alpha"), {"suppliers": [], "wrong": [SHORTENED]}),
+    (("readSuppliers", ";Alpha\n<html>"), {"suppliers": [], "wrong": ["Row 1: the GLN is missing.", "Row 2: “<html>” is not a GLN."]}),
+]
+CANONICAL = "UNA:+.? 'UNB+UNOC:3+A:14+B:14+250603:0915+7'UNH+1+ORDERS:D:01B:UN'BGM+220+a ?+?:?'+9'NAD+SU+4012345500004::9'UNT+4+1'UNZ+1+7'"
+OTHERS = "UNB*UNOC|3*A|14*B|14*250603|0915*7~UNH*1*ORDERS|D|01B|UN~BGM*220*a +:'*9~NAD*SU*4012345500004||9~UNT*4*1~UNZ*1*7~"
+NAMED = {"document": "a +:'", "supplier": "4012345500004"}
+SPELLED = {
+    "": CANONICAL,
+    "no service string": CANONICAL[9:],
+    "lines": "\n" + CANONICAL.replace("'U", "'\r\nU"),
+    "others": "UNA|*,! ~" + OTHERS,
+    "no release": "UNA|*,  ~" + OTHERS,
+    "empty ends": CANONICAL.replace("+9'NAD", "+9+:+'NAD").replace("::9'", "::9:+'"),
+}
+CUT = ("", "UNA:+.?", CANONICAL[:-1], CANONICAL + "x", "<html>", CANONICAL.replace("UNT+4", "UNT+5"))
+FILE_NAMES = [(("namesInFile", it), [["1", NAMED]]) for it in SPELLED.values()] + [(("namesInFile", it), []) for it in CUT]
 MESSAGE = {"reference": "1 2", "type": "ORDRSP", "outcome": "refused", "code": "B07"}
 ENTRY = {"number": 7, "type": "ORDERS", "document": " a end"}
 MOST = 999_999_999
@@ -63,6 +128,33 @@ LINE_READ |= {"ordered": MOST, "open": 0, "refused": 1, "cancelled": MOST, "desp
 PALLET = f"P 340123455000000012 04000862141404 C {48:>14} {40:>14} {1:>14} {2:>14} {-5:>+15}\n"
 PALLET_READ = {"sscc": "340123455000000012", "gtin": "04000862141404", "state": "C"}
 PALLET_READ |= {"despatched": 48, "accepted": 40, "returned": 1, "destroyed": 2, "difference": -5}
+FOUND = {"lines": [], "pallets": [], "isCut": False}
+REPORT = [["5412345000006", {"text": LINE + PALLET + "end\n"}], ["4012345500004", {"text": "end\n"}]]
+LINE_FOUND = {**FOUND, "lines": [{**LINE_READ, "gln": "5412345000006"}]}
+PALLET_FOUND = {**FOUND, "pallets": [{**PALLET_READ, "gln": "5412345000006"}]}
+SEARCHES = [
+    (("search", REPORT, "1  X"), LINE_FOUND),
+    (("search", REPORT, "4000862141404"), {**LINE_FOUND, **{"pallets": PALLET_FOUND["pallets"]}}),
+    (("search", REPORT, "]C100 340123455000000012"), PALLET_FOUND),
+    # quantities, answers and parts of two columns do not count
+    *((("search", REPORT, it), FOUND) for it in ("999999999", "48", "W", "000012 0400", "", " ")),
+]
+PLACES = [
+    (("isSafePlace", {"protocol": protocol, "hostname": name}), right)
+    for protocol, name, right in (
+        ("https:", "hub.example.com", True),
+        ("http:", "localhost", True),
+        ("http:", "127.0.0.1", True),
+        ("http:", "127.8.9.10", True),
+        ("http:", "[::1]", True),
+        ("http:", "hub.example.com", False),
+        ("http:", "127.0.0.1.example.com", False),
+        ("http:", "localhost.example.com", False),
+        ("http:", "10.0.0.1", False),
+        ("http:", "[::2]", False),
+        ("ftp:", "localhost", False),
+    )
+]
 REPLIES = [
     (("readUpload", "refused E12\n"), {"reference": "", "code": "E12", "messages": []}),
     (("readUpload", "interchange a b messages 1\n1 2 ORDRSP refused B07\n"), {"reference": "a b", "code": "", "messages": [MESSAGE]}),
@@ -80,7 +172,9 @@ REPLIES = [
 
 
 def called(_program):
-    tables = {"edi/identifiers.js": IDENTIFIERS, "edi/dates.js": DATES, "edi/segments.js": TEXTS, "hub/replies.js": REPLIES}
+    tables = {"edi/identifiers.js": IDENTIFIERS, "edi/sscc.js": SSCCS, "edi/dates.js": DATES, "edi/segments.js": TEXTS}
+    tables |= {"suppliers/file.js": SUPPLIERS, "suppliers/search.js": SEARCHES, "edi/document_names.js": FILE_NAMES}
+    tables |= {"hub/replies.js": REPLIES, "hub/place.js": PLACES, "parts/csv.js": FILES, "parts/answer_rows.js": ANSWERS}
     calls = [(module, *words) for module, table in tables.items() for words, _ in table]
     wanted = [it for table in tables.values() for _, it in table]
     for call, found, want in zip(calls, by_node("call.mjs", calls), wanted, strict=True):
@@ -99,15 +193,13 @@ def references(_program):
 
 
 def words_of_codes(_program):
-    """Each code that FORMATS and RULES define has its words in the page."""
-    codes = set()
-    for name in ("FORMATS.md", "RULES.md"):
-        with open(os.path.join(ROOT, "docs", name), encoding="utf-8") as file:
-            codes |= set(re.findall(r"^- \*\*([EMB]\d\d)\b", file.read(), re.MULTILINE))
-    codes = sorted(codes)
-    assert len(codes) == 18 + 12 + 20, codes
-    found = by_node("call.mjs", [("hub/codes.js", "meaningOf", it) for it in codes])
-    assert all("does not know" not in it for it in found) and len(set(found)) == len(found), found
+    """The page has the list's words for each code, and others for a code that it does not know."""
+    codes = read_codes()
+    assert len(codes) == 20 + 12 + 20, list(codes)
+    *found, unknown = by_node("call.mjs", [("hub/codes.js", "wordsOf", it) for it in (*codes, "B99")])
+    for (code, said), words in zip(codes.items(), found):
+        assert words == {it: said[it] for it in ("meaning", "cause", "remedy")}, f"{code}: {words}"
+    assert unknown["meaning"] == "The page does not know this code.", unknown
     return f"{len(codes)} codes"
 
 

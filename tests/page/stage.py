@@ -15,6 +15,8 @@ from tests.page.driver import free_port
 DAY = os.path.join(EXAMPLES, "day")
 
 HUB, RETAILER, ALPHA, BETA = "5412345000006", "5412345000013", "4012345500004", "8712345000004"
+# a screen that the retailer does not have, so it gets its first one
+MAILBOX = "#mailbox"
 KEYS = {RETAILER: "retail-key", ALPHA: "alpha-key-1", BETA: "beta-key-1"}
 
 
@@ -33,9 +35,12 @@ class Keeping(proxy.Handler):
     """The proxy's handler, which keeps each body that is sent, and whose way to the hub and back a trial can break."""
 
     def asked(self, body):
+        self.server.asked.append(self.path)
         if body is not None:
             self.server.sent.append((self.path, body))
-        breaks = self.server.breaks.pop(0) if body and self.server.breaks else None
+        breaks = self.server.instead.get(self.path)
+        if body and self.server.breaks:
+            breaks = self.server.breaks.pop(0)
         return breaks(self, body) if breaks else super().asked(body)
 
     def passed(self, body):
@@ -82,7 +87,9 @@ class Stage:
         self.command("init", "--register", os.path.join(EXAMPLES, "register.toml"))
         self.begin_hub()
         self.proxy = proxy.Proxy(0, self.hub_port, Keeping)
-        self.proxy.sent, self.proxy.breaks = [], []
+        self.proxy.sent, self.proxy.asked, self.proxy.breaks = [], [], []
+        # by path what is done each time in the place of asking the hub
+        self.proxy.instead = {}
         threading.Thread(target=self.proxy.serve_forever, daemon=True).start()
         self.address = self.proxy.address
 
@@ -99,6 +106,11 @@ class Stage:
     def sent(self):
         """The bodies that were sent, each with its path."""
         return self.proxy.sent
+
+    @property
+    def asked(self):
+        """The paths of the hub that the page asked for."""
+        return self.proxy.asked
 
     def command(self, name, *words):
         """What a command over the hub's file prints; the hub must not run."""
@@ -128,6 +140,12 @@ class Stage:
         hub.close()
         return answer
 
+    def beside(self, text):
+        """Puts a list of suppliers beside the page."""
+        self.proxy.suppliers = os.path.join(self.folder, "suppliers.csv")
+        with open(self.proxy.suppliers, "wb") as file:
+            file.write(text.encode() if isinstance(text, str) else text)
+
     def upload(self, who, text):
         """Uploads without the page, and sees that all of it is accepted."""
         answer = self.ask(who, "interchanges", text)
@@ -135,16 +153,25 @@ class Stage:
         return answer
 
 
-def signed_in(browser, stage, who):
-    """A tab that is loaded anew, and its first screen."""
-    sign_in(browser, stage, who)
+def signed_in(browser, stage, who, screen=MAILBOX):
+    """A tab that is loaded again, and its first screen: a supplier's mailbox, if no other is named."""
+    sign_in(browser, stage, who, screen=screen)
     browser.one("nav a[aria-current]")
 
 
-def sign_in(browser, stage, who, key=None):
-    """The button is pressed, whatever comes of it."""
+def opened(browser, stage, screen=""):
+    """A tab that is loaded again and has kept nothing of before."""
     browser.go("about:blank")
-    browser.go(stage.address)
+    browser.go(stage.address + screen)
+    if browser.run("return sessionStorage.length"):
+        browser.run("sessionStorage.clear()")
+        browser.go("about:blank")
+        browser.go(stage.address + screen)
+
+
+def sign_in(browser, stage, who, key=None, screen=MAILBOX):
+    """The button is pressed, whatever comes of it."""
+    opened(browser, stage, screen)
     browser.type(browser.labelled("GLN"), who)
     browser.type(browser.labelled("Key"), key or KEYS[who])
     browser.press("Sign in")

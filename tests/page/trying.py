@@ -17,6 +17,7 @@ ASKED = [
     ("/../Makefile", {}, None, 404, b"unknown"),
     ("/screens/../../examples/page/proxy.py", {}, None, 404, b"unknown"),
     ("/nothing.js", {}, None, 404, b"unknown"),
+    ("/suppliers.csv", {}, None, 200, b"4012345500004;Alpha"),
     (f"/p/{ALPHA}/mail/after/0", {"X-Hub-Key": KEYS[ALPHA]}, None, 200, b" 1 ORDERS 128576\nend\n"),
     (f"/p/{BETA}/mail/after/0", {"X-Hub-Key": KEYS[BETA]}, None, 200, b" 1 ORDERS 128577\nend\n"),
     (f"/p/{ALPHA}/mail/after/0", {}, None, 403, b"denied\n"),
@@ -47,6 +48,9 @@ def trying(program):
                 found, answer, headers = asked(port, path, fields, body)
                 assert found == status and part in answer, (path, found, answer[:200])
                 assert re.match("default-src 'none'; script-src 'self'; ", headers["Content-Security-Policy"]), headers
+                # nothing is kept for later, and no other site holds the window; without TLS nobody is told to use TLS
+                assert (headers["Cache-Control"], headers["Cross-Origin-Opener-Policy"]) == ("no-store", "same-origin"), headers
+                assert headers["Strict-Transport-Security"] is None, headers
         finally:
             # which ends the hub too
             child.send_signal(signal.SIGINT)

@@ -1,0 +1,60 @@
+// @ts-check
+// Reads what was typed into a form, and puts it back. Each field has a name made of the legends around it and its own label, so that what
+// was typed for one order line or pallet never comes to another.
+
+/** @typedef {Record<string, string | boolean>} FormContent */
+/** @typedef {HTMLInputElement | HTMLSelectElement} Input */
+
+/** @param {Element} root */
+const inputs = (root) => /** @type {Input[]} */ ([...root.querySelectorAll("input:not([type=file]), select:not(.sort-choice *)")]);
+
+/** @param {Input} input @returns {input is HTMLInputElement} */
+const isChoice = (input) => ["radio", "checkbox"].includes(input.type);
+
+// The fields with their names. Labels are looked up in the form, which need not be in the page yet.
+/** @param {Element} root @returns {[string, Input][]} */
+function named(root) {
+  const labels = new Map([...root.querySelectorAll("label[for]")].map((it) => [it.getAttribute("for"), it.textContent]));
+  const label = (/** @type {Input} */ it) => labels.get(it.id) ?? it.closest("label")?.textContent ?? "";
+  const own = (/** @type {Input} */ it) => (isChoice(it) && it.hasAttribute("value") ? it.value : label(it));
+  return inputs(root).map((it) => [[...legends(it, root), own(it)].join("\n"), it]);
+}
+
+/** @param {Input} input @param {Element} root */
+function legends(input, root) {
+  const names = [];
+  for (let at = input.closest("fieldset"); at && at !== root; at = at.parentElement?.closest("fieldset") ?? null) {
+    names.unshift(at.querySelector("legend")?.textContent ?? "");
+  }
+  return names;
+}
+
+/** What each field has now. @param {Element} root @returns {FormContent} */
+export const contentOf = (root) => Object.fromEntries(named(root).map(([name, it]) => [name, valueOf(it)]));
+
+/** @param {Input} input */
+const valueOf = (input) => (isChoice(input) ? input.checked : input.value);
+
+/** @param {Input} input @param {string | boolean} value */
+function give(input, value) {
+  if (isChoice(input)) input.checked = value === true;
+  else input.value = String(value);
+}
+
+/** Puts back what was typed, and returns the names of what found no field. What comes after a field (another order's lines, a check digit)
+ * hears of it as if a person had typed.
+ * @param {Element} root @param {FormContent} content */
+export function putBack(root, content) {
+  const tell = (/** @type {Input} */ it) => it.dispatchEvent(new Event("change", { bubbles: true }));
+  const differing = () => named(root).filter(([name, it]) => name in content && content[name] !== valueOf(it));
+  // first what decides which other fields there are
+  for (const [name, it] of differing().filter(([, it]) => it.type === "checkbox")) {
+    give(it, content[name]);
+    tell(it);
+  }
+  const others = differing();
+  others.forEach(([name, it]) => give(it, content[name]));
+  others.filter(([, it]) => !isChoice(it)).forEach(([, it]) => tell(it));
+  const known = new Set(named(root).map(([name]) => name));
+  return Object.keys(content).filter((name) => content[name] && !known.has(name));
+}

@@ -1,0 +1,38 @@
+// @ts-check
+// Sorts a table by a choice: on a narrow page its headings are not seen.
+
+import { element, newId } from "./dom.js";
+
+const LEAST_ROWS = 3;
+
+export class SortChoice {
+  /** @param {{ title: string, value?: unknown }[]} columns @param {(place: number, falls: boolean) => void} sort a place of -1 is none */
+  constructor(columns, sort) {
+    const id = newId("sort");
+    const ways = columns.flatMap(({ title, value }, place) => (value ? [false, true].map((falls) => ({ title, place, falls })) : []));
+    const options = ways.map(({ title, place, falls }) =>
+      element("option", { value: nameOf(place, falls) }, `${title}, ${falls ? "descending" : "ascending"}`),
+    );
+    this.select = /** @type {HTMLSelectElement} */ (element("select", { id }, element("option", { value: "" }, "As it comes"), ...options));
+    this.select.addEventListener("change", () => {
+      const { place, falls } = ways[this.select.selectedIndex - 1] ?? { place: -1, falls: false };
+      sort(place, falls);
+    });
+    const label = element("label", { for: id }, "Sort by");
+    this.isEmpty = !ways.length;
+    this.element = element("div", { class: "sort-choice field no-print" }, label, this.select);
+  }
+
+  /** Offers the choice if there are enough rows for one. @param {number} rows */
+  offer(rows) {
+    this.element.hidden = this.isEmpty || rows < LEAST_ROWS;
+  }
+
+  /** Shows how the table is sorted. @param {number} place @param {boolean} falls */
+  show(place, falls) {
+    this.select.value = nameOf(place, falls);
+  }
+}
+
+/** @param {number} place @param {boolean} falls */
+const nameOf = (place, falls) => (place < 0 ? "" : `${place} ${falls}`);

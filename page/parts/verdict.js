@@ -1,0 +1,50 @@
+// @ts-check
+// Says in few words what became of a document that was sent, as in a row of a table.
+
+import { namesInFile } from "../edi/document_names.js";
+import { inWords } from "../hub/answers.js";
+import { OUTCOMES, TYPES } from "../hub/codes.js";
+import { readUpload } from "../hub/replies.js";
+import { codeInWords } from "./code.js";
+import { element } from "./dom.js";
+import { againButton, denial, pauseInWords } from "./sending_panel.js";
+
+/** @typedef {import("../hub/sending.js").Sending} Sending */
+
+/** The verdict, which is drawn again when it changes. @param {Sending} sending @param {() => Node[]} [more] after an answer
+ * @param {string | null} [role] null if something else speaks of many at once */
+export function verdictPlace(sending, more, role = "status") {
+  const place = element("div", { class: "verdict", role, tabindex: "-1", "data-sending": sending.facts.id });
+  const draw = () => {
+    const focused = place.contains(document.activeElement);
+    place.replaceChildren(...verdictInWords(sending, more));
+    if (focused) place.focus();
+  };
+  sending.addEventListener("change", draw);
+  draw();
+  return place;
+}
+
+/** @param {Sending} sending @param {() => Node[]} [more] */
+export function verdictInWords(sending, more = () => []) {
+  const { state, reply, reason } = sending.facts;
+  if (state === "review") return [element("p", {}, "Waiting for its turn…")];
+  if (state === "sending" || state === "resending") return [element("p", {}, "Being sent…")];
+  if (state === "held" || state === "pausing") return [element("p", {}, pauseInWords(sending))];
+  if (state === "denied") return [element("p", { class: "result refused" }, denial(reply))];
+  if (state !== "unanswered") return [...answer(sending), element("p", { class: "said" }, element("code", {}, reply.trim())), ...more()];
+  const why = reason ? inWords(reason) : denial(reply);
+  return [element("p", {}, `No answer. It may have arrived or not. ${why}`), againButton(sending)];
+}
+
+/** @param {Sending} sending */
+function answer({ verdict, facts }) {
+  const result = (/** @type {string} */ outcome, /** @type {string} */ code, /** @type {string} */ before = "") =>
+    element("p", { class: `result ${outcome}` }, before, OUTCOMES[outcome], code ? " " : null, code ? codeInWords(code) : null);
+  const messages = facts.kind === "file" ? readUpload(facts.reply)?.messages ?? [] : [];
+  if (!messages.length) return verdict ? [result(verdict.outcome, verdict.code)] : [];
+  const names = namesInFile(facts.text);
+  const about = (/** @type {string} */ type, /** @type {import("../edi/document_names.js").Names | undefined} */ named) =>
+    named?.document ? ` (${TYPES[type] ?? type} ${named.document}, supplier ${named.supplier})` : "";
+  return messages.map((it) => result(it.outcome, it.code, `Message ${it.reference}${about(it.type, names.get(it.reference))}: `));
+}

@@ -1,0 +1,185 @@
+// @ts-check
+// Cancels several lines of a supplier: how many of each is typed and summed up, and a second press sends them one after another.
+
+import { Articles } from "../articles.js";
+import { cancelQueueOf } from "../hub/cancel_queue.js";
+import { cancellationInWords, severalInWords } from "../parts/cancellation_words.js";
+import { actions, button, counted, element, figure, heading, link, saying } from "../parts/dom.js";
+import { enterMoves } from "../parts/enter_moves.js";
+import { Field, check, focusFirstWrong, wholeNumber } from "../parts/field.js";
+import { wrongGln } from "../parts/gln.js";
+import { orderInWords } from "../parts/order_number.js";
+import { FIRST } from "../parts/sending_panel.js";
+import { Summary } from "../parts/summary.js";
+import { Table } from "../parts/table.js";
+import { ChosenLines } from "../suppliers/chosen_lines.js";
+import { plannerOf } from "../suppliers/planner.js";
+import { CancelResults } from "./cancel_results.js";
+import { lineColumns } from "./status.js";
+
+/** @typedef {import("../hub/replies.js").StatusLine} StatusLine */
+/** @typedef {import("../hub/cancel_queue.js").CancelQueue} CancelQueue */
+/** @typedef {StatusLine & { field: Field }} Row */
+
+const WITHOUT = ["Refused", "Cancelled", "Shares"];
+
+/** @param {import("../start.js").Context} context @param {string} [supplier] */
+export async function cancelLinesScreen({ session }, supplier = "") {
+  const title = "Cancel lines";
+  const wrong = wrongGln(supplier);
+  if (wrong) return { title, content: [heading(title), saying("bad", wrong)] };
+  const name = (await plannerOf(session)).list.nameOf(supplier);
+  const queue = cancelQueueOf(session.sent);
+  const chosen = new ChosenLines(session.hub.caller, supplier);
+  const results = new CancelResults(queue, supplier);
+  const lines = chosen.chosen.length ? (await session.status(supplier)).lines : [];
+  const form = new CancelForm({ supplier, name, queue, chosen, results, lines });
+  const back = element("p", { class: "back" }, link("‹ Status of this supplier", `supplier/${supplier}`));
+  const shown = form.rows.length ? form.element : null;
+  const none = noneChosen(form, queue.of(supplier).length);
+  const content = [back, heading(name ? `${title} of ${name}` : title), shown, none, results.element];
+  return { title, content, leave: results.follow() };
+}
+
+/** @param {CancelForm} form @param {number} sent */
+function noneChosen({ rows, gone }, sent) {
+  const left = gone.length ? `Nothing is open any more, so this is left out: ${gone.join("; ")}. ` : "";
+  const none = rows.length || sent ? "" : "No line is chosen. Tick lines in the status of this supplier.";
+  return left || none ? saying("plain", left, none) : null;
+}
+
+class CancelForm {
+  /** @param {{ supplier: string, name: string, queue: CancelQueue, chosen: ChosenLines, results: CancelResults,
+   *   lines: StatusLine[] }} words */
+  constructor({ supplier, name, queue, chosen, results, lines }) {
+    this.supplier = supplier;
+    this.named = name ? `${name} (${supplier})` : supplier;
+    this.queue = queue;
+    this.chosen = chosen;
+    this.results = results;
+    this.rows = this.#rowsOf(lines);
+    this.gone = this.#dropGone(lines);
+    this.first = element("div", { role: "alert" });
+    const checkButton = button("Check cancellations", () => this.review(), { class: "primary" });
+    const all = button("Fill in all that is open", () => this.fillAll(), { class: "quiet" });
+    const table = new Table({ caption: "Lines to cancel", kind: "lines answers", columns: columns(), rows: this.rows });
+    this.fields = /** @type {HTMLFieldSetElement} */ (
+      element("fieldset", { class: "bare" }, actions(all), table.element, actions(checkButton))
+    );
+    this.summary = new Summary("cancellations", () => this.send(), () => this.edit());
+    const parts = [this.fields, this.first, this.summary.element];
+    this.element = element("form", { novalidate: true, onsubmit: (event) => event.preventDefault() }, ...parts);
+    enterMoves(this.fields, checkButton);
+    this.note();
+  }
+
+  /** The chosen lines that are open, without those that wait for their turn already. @param {StatusLine[]} lines @returns {Row[]} */
+  #rowsOf(lines) {
+    const waiting = this.queue.of(this.supplier).filter((it) => it.sending.state === "review");
+    const isSent = (/** @type {StatusLine} */ it) => waiting.some(({ line }) => line.order === it.order && line.line === it.line);
+    const open = lines.filter((it) => it.open > 0 && !it.unsure && this.chosen.of(it) && !isSent(it));
+    return open.map((line) => ({ ...line, field: this.#field(line) }));
+  }
+
+  /** @param {StatusLine} line */
+  #field(line) {
+    const label = `Quantity to cancel of order ${orderInWords(line)}, line ${line.line}`;
+    const value = this.chosen.of(line)?.quantity ?? "";
+    const field = new Field({ label, hidden: true, value, inputmode: "numeric", maxlength: 9, class: "short" });
+    field.input.addEventListener("input", () => {
+      this.chosen.choose(line, field.trimmed);
+      this.note();
+    });
+    return field;
+  }
+
+  // What was chosen and has nothing open any more, in words.
+  /** @param {StatusLine[]} lines */
+  #dropGone(lines) {
+    const isOpen = (/** @type {{ order: string, line: number }} */ it) =>
+      lines.some(({ order, line, open }) => open > 0 && order === it.order && line === it.line);
+    const gone = this.chosen.chosen.filter((it) => !isOpen(it));
+    gone.forEach((it) => this.chosen.drop(it));
+    return gone.map((it) => `order ${orderInWords(it)}, line ${it.line}`);
+  }
+
+  /** Notes whether there is typed work. */
+  note() {
+    const count = this.given.length;
+    if (count) this.element.dataset.typed = `Your cancellation of ${counted(count, "line")}`;
+    else delete this.element.dataset.typed;
+  }
+
+  /** The lines of which something is to be cancelled. */
+  get given() {
+    const some = this.rows.filter((it) => it.field.trimmed !== "");
+    return some.map((line) => ({ line, order: line.order, quantity: wholeNumber(line.field.value) }));
+  }
+
+  fillAll() {
+    for (const { field, open, ...line } of this.rows) {
+      field.value = String(open);
+      field.say("");
+      this.chosen.choose(line, String(open));
+    }
+    this.note();
+    this.rows[0].field.input.focus();
+  }
+
+  review() {
+    const waits = this.queue.list.unsettled.length > 0;
+    const right = this.rows.map(({ field, open }) => check(field, wrongQuantity(field.trimmed, open))).every(Boolean);
+    const none = right && !this.given.length;
+    const wrong = waits ? saying("warn", FIRST) : none ? saying("bad", "Give a quantity for at least one line.") : null;
+    this.first.replaceChildren(...(wrong ? [wrong] : []));
+    if (!right) focusFirstWrong(this.rows.map((it) => it.field));
+    else if (none) this.rows[0].field.input.focus();
+    if (wrong || !right) return;
+    this.fields.disabled = true;
+    this.summary.show(this.inSummary());
+  }
+
+  inSummary() {
+    const { given } = this;
+    const rows = given.map(({ line, quantity }) => [
+      `Order ${orderInWords(line)}, line ${line.line}: ${figure(quantity)} of ${figure(line.open)} that are open`,
+    ]);
+    return { lead: [`You cancel ${severalInWords(given)}, of supplier ${this.named}.`], rows };
+  }
+
+  edit() {
+    this.summary.hide();
+    this.fields.disabled = false;
+    this.rows[0].field.input.focus();
+  }
+
+  send() {
+    if (!this.fields.disabled || this.element.hidden) return;
+    this.element.hidden = true;
+    delete this.element.dataset.typed;
+    // the draft keeps what waits for its turn, and nothing else
+    this.rows.filter((it) => it.field.trimmed === "").forEach((it) => this.chosen.drop(it));
+    const words = this.given.map(({ line, order, quantity }) => ({
+      line,
+      quantity,
+      what: cancellationInWords({ order, line: line.line, quantity }),
+      begun: () => this.chosen.drop(line),
+    }));
+    this.queue.cancel(this.supplier, words);
+    this.results.draw();
+    this.results.said.focus({ preventScroll: true });
+    this.results.said.scrollIntoView({ block: "center" });
+  }
+}
+
+/** @param {string} text @param {number} open */
+function wrongQuantity(text, open) {
+  const quantity = wholeNumber(text);
+  return text === "" || (quantity >= 1 && quantity <= open) ? "" : `Give a whole number from 1 to ${figure(open)}.`;
+}
+
+/** @returns {import("../parts/table.js").Column<Row>[]} */
+const columns = () => [
+  ...lineColumns(new Articles(), ...WITHOUT),
+  { title: "To cancel", cell: ({ field }) => field.element, csv: ({ field }) => field.trimmed },
+];

@@ -1,0 +1,84 @@
+// @ts-check
+// Says line by line what became of the cancellations of a supplier that were sent at once.
+
+import { Articles } from "../articles.js";
+import { isSettled } from "../hub/sending_states.js";
+import { actions, button, counted, element, figure, link, notice, saying } from "../parts/dom.js";
+import { orderNumber } from "../parts/order_number.js";
+import { Table } from "../parts/table.js";
+import { verdictPlace } from "../parts/verdict.js";
+import { lineColumns } from "./status.js";
+
+/** @typedef {import("../hub/cancel_queue.js").CancelQueue} CancelQueue */
+/** @typedef {import("../hub/cancel_queue.js").Item} Item */
+
+const PAUSED = "A cancellation got no answer, so those after it wait. Send it again first, or continue with the rest.";
+
+export class CancelResults {
+  /** @param {CancelQueue} queue @param {string} supplier */
+  constructor(queue, supplier) {
+    this.queue = queue;
+    this.supplier = supplier;
+    this.said = element("div", { class: "happened", role: "status", tabindex: "-1" });
+    this.table = new Table({ caption: "Cancellations", kind: "sent", columns: columns(), rows: queue.of(supplier) });
+    const next = actions(link("Status of this supplier", `supplier/${supplier}`, { class: "button" }));
+    this.body = element("div", { hidden: true }, element("h2", {}, "What became of them"), this.said, this.table.element, next);
+    this.element = element("section", {}, this.body);
+    this.drawn = "";
+    this.draw();
+  }
+
+  /** Follows the queue; returns what ends that. */
+  follow() {
+    const draw = () => this.draw();
+    this.queue.addEventListener("change", draw);
+    return () => this.queue.removeEventListener("change", draw);
+  }
+
+  draw() {
+    const items = this.queue.of(this.supplier);
+    const isOther = items.length !== this.table.rows.length || items.some((it, at) => it !== this.table.rows[at]);
+    if (isOther) this.table.show(items);
+    this.body.hidden = !items.length;
+    const drawn = `${this.queue.state} ${inWords(items)}`;
+    if (drawn === this.drawn) return;
+    this.drawn = drawn;
+    const focused = this.said.contains(document.activeElement);
+    this.said.replaceChildren(this.queue.state === "paused" ? this.paused() : saying(kindOf(items), inWords(items)));
+    if (focused) this.said.focus({ preventScroll: true });
+  }
+
+  paused() {
+    return notice("warn", element("p", {}, PAUSED), button("Continue with the rest", () => void this.queue.proceed()));
+  }
+}
+
+/** @param {Item[]} items */
+const isDone = (items) => items.every((it) => isSettled(it.sending.state));
+
+/** @param {Item[]} items */
+const accepted = (items) => items.filter((it) => it.sending.state === "accepted").length;
+
+/** @param {Item[]} items */
+const kindOf = (items) => (!isDone(items) ? "plain" : accepted(items) === items.length ? "good" : "bad");
+
+/** @param {Item[]} items */
+function inWords(items) {
+  const all = counted(items.length, "cancellation");
+  if (!isDone(items)) return `Sending ${all}, one after another…`;
+  const done = accepted(items);
+  const not = items.length - done;
+  return `${all}: ${[done ? `${figure(done)} accepted` : "", not ? `${figure(not)} not accepted` : ""].filter(Boolean).join(", ")}.`;
+}
+
+/** @returns {import("../parts/table.js").Column<Item>[]} */
+function columns() {
+  const [, , article] = lineColumns(new Articles());
+  return [
+    { title: "Order", cell: ({ line }) => orderNumber(line), value: ({ line }) => line.order },
+    { title: "Line", cell: ({ line }) => line.line, value: ({ line }) => line.line },
+    { title: article.title, kind: article.kind, cell: ({ line }) => article.cell(line), value: ({ line }) => line.gtin },
+    { title: "Cancelled", cell: ({ quantity }) => figure(quantity), value: ({ quantity }) => quantity, number: true },
+    { title: "What the hub said", cell: ({ sending }) => verdictPlace(sending, undefined, null) },
+  ];
+}

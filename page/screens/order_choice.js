@@ -1,0 +1,53 @@
+// @ts-check
+// The choice of the orders that a despatch is for, and what is wrong with it.
+
+import { element, figure, newId } from "../parts/dom.js";
+import { orderNumber } from "../parts/order_number.js";
+
+/** @typedef {import("../hub/replies.js").StatusLine} StatusLine */
+
+export class OrderChoice {
+  /** @param {StatusLine[]} lines those that are open @param {string | null} order to begin with @param {() => void} changed */
+  constructor(lines, order, changed) {
+    const orders = [...new Set(lines.map((it) => it.order))];
+    this.chosen = new Set(orders.filter((it) => it === order));
+    this.changed = changed;
+    const id = newId("orders");
+    this.wrong = element("p", { class: "wrong", id, role: "alert" });
+    const choices = orders.map((it) => this.#choice(it, lines.filter((line) => line.order === it), id));
+    this.input = choices[0].input;
+    const legend = element("legend", {}, "Orders that have something open");
+    this.element = element("fieldset", { class: "orders" }, legend, ...choices.map((it) => it.element), this.wrong);
+  }
+
+  /** @param {string} order @param {StatusLine[]} lines @param {string} wrong the identifier of what is wrong */
+  #choice(order, lines, wrong) {
+    const words = { type: "checkbox", id: newId("order"), value: order, "aria-describedby": wrong };
+    const input = /** @type {HTMLInputElement} */ (element("input", words));
+    input.checked = this.chosen.has(order);
+    input.addEventListener("change", () => {
+      if (input.checked) this.chosen.add(order);
+      else this.chosen.delete(order);
+      this.wrong.textContent = "";
+      this.changed();
+    });
+    const pieces = figure(lines.reduce((all, it) => all + it.open, 0));
+    const open = ` ${lines.length === 1 ? "1 line" : `${lines.length} lines`}, ${pieces} open`;
+    const said = element("span", {}, orderNumber(lines[0]), element("small", {}, open));
+    return { input, element: element("label", { class: "choice" }, input, said) };
+  }
+
+  /** @param {string} order */
+  has(order) {
+    return this.chosen.has(order);
+  }
+
+  get isWrong() {
+    return this.wrong.textContent !== "";
+  }
+
+  check() {
+    this.wrong.textContent = this.chosen.size ? "" : "Choose at least one order.";
+    return !this.isWrong;
+  }
+}

@@ -1,0 +1,77 @@
+// @ts-check
+// Knows the suppliers by name: from a list that the planner gave to this tab, or else from one that is beside the page.
+
+import { keepSuppliers, suppliersOf } from "../kept.js";
+import { readSuppliers, textOfFile } from "./file.js";
+
+/** @typedef {import("./file.js").Supplier} Supplier */
+
+/** Where an operator puts the list, beside `index.html`. */
+export const BESIDE = "suppliers.csv";
+const PATIENCE = 15_000;
+// a list of as many suppliers as a hub takes is much shorter
+const LONGEST = 1_048_576;
+/** @type {RequestInit} */
+const WORDS = { cache: "no-cache", credentials: "omit", redirect: "error", referrerPolicy: "no-referrer" };
+
+export class SupplierList extends EventTarget {
+  /** @param {string} caller the retailer's GLN */
+  constructor(caller) {
+    super();
+    this.caller = caller;
+    /** @type {Supplier[]} */
+    this.suppliers = [];
+    /** @type {string[]} the rows that were left out */
+    this.wrong = [];
+    /** The name of the file, or "" if there is no list. */
+    this.file = "";
+    this.isBeside = false;
+    /** @type {Promise<void> | null} */
+    this.loading = null;
+  }
+
+  /** Looks for a list, once. */
+  load() {
+    this.loading ??= this.#load();
+    return this.loading;
+  }
+
+  async #load() {
+    const kept = suppliersOf(this.caller);
+    if (kept) return this.#take(kept.file, kept.text);
+    try {
+      const response = await fetch(BESIDE, { ...WORDS, signal: AbortSignal.timeout(PATIENCE) });
+      if (response.ok) this.#take(BESIDE, textOfFile(await response.arrayBuffer()), true);
+    } catch {
+      // the next screen looks again
+      this.loading = null;
+    }
+  }
+
+  /** Takes a list from a file; if it names no supplier, the list stays as it was. @param {File} file */
+  async choose(file) {
+    const text = file.size > LONGEST ? "" : textOfFile(await file.arrayBuffer());
+    const { suppliers, wrong } = readSuppliers(text);
+    if (!suppliers.length) return this.#refuse(file.name, wrong);
+    keepSuppliers(this.caller, { file: file.name, text });
+    this.#take(file.name, text);
+  }
+
+  /** @param {string} file @param {string[]} wrong */
+  #refuse(file, wrong) {
+    this.wrong = [`${file} names no supplier.`, ...wrong];
+    this.dispatchEvent(new Event("change"));
+  }
+
+  /** @param {string} file @param {string} text @param {boolean} [isBeside] */
+  #take(file, text, isBeside = false) {
+    const { suppliers, wrong } = readSuppliers(text);
+    Object.assign(this, { suppliers, wrong, file, isBeside });
+    this.dispatchEvent(new Event("change"));
+  }
+
+  /** @param {string} gln */
+  nameOf(gln) {
+    return this.suppliers.find((it) => it.gln === gln)?.name ?? "";
+  }
+}
