@@ -1,7 +1,7 @@
-"""`make test`: whether each file of a crate is in the toolchain's layout (layout.py), each public function has a wrong body (untried.py),
-the tables in code are those of the definition (schema.py), and each code means the same everywhere (codes.py); the gate (rt ci), and what each crate took of the processors in it; and then, on the two
-programs that the gate built, the cases and the trials of the files that PROGRAMS and TRIALS name. The last line is `N passed, M failed`
-over all.
+"""`make test`: first what takes seconds: whether each file of a crate is in the toolchain's layout (layout.py), each public function has a
+wrong body (untried.py), the tables in code are those of the definition (schema.py), and each code means the same everywhere (codes.py);
+then the gate (rt ci), and what each crate took of the processors in it; and then, on the programs that the gate built, the cases and the
+trials of the files that PROGRAMS and TRIALS name. The last line is `N passed, M failed` over all.
 
 With `--alone`, all but the gate, on the programs that stand. With `--anew`, nothing that an earlier gate proved is taken over.
 
