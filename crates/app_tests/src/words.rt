@@ -1,5 +1,6 @@
 use hub_app::{
-    HubTask, HubWords, JoinByFile, KeyWord, Words, WordsFault, file_key_refused, read_words,
+    HubTask, HubWords, JoinByFile, KeyWord, RekeyWords, Words, WordsFault, file_key_refused,
+    read_words,
 };
 use hub_parties::SupplierRow;
 use std::alloc::{AllocError, Global};
@@ -12,7 +13,7 @@ struct Row {
     told: &'static str,
 }
 
-static ROWS: [Row; 35] = [
+static ROWS: [Row; 39] = [
     Row {
         words: "edihub check --register r.toml",
         told: "check r.toml",
@@ -157,6 +158,22 @@ static ROWS: [Row; 35] = [
         told: "status 2",
     },
     Row {
+        words: "edihub rekey --db h --supplier 4012345500004 --new-key-file k",
+        told: "rekey h of 4012345500004 file k",
+    },
+    Row {
+        words: "edihub rekey --db h --new-key-file k --retailer",
+        told: "rekey h of the retailer file k",
+    },
+    Row {
+        words: "edihub rekey --db h --supplier 4012345500004 --retailer --new-key-file k",
+        told: "status 2",
+    },
+    Row {
+        words: "edihub rekey --db h --new-key-file k",
+        told: "status 2",
+    },
+    Row {
         words: "edihub",
         told: "status 2",
     },
@@ -223,12 +240,24 @@ fn hub_words_told(alloc: Global, words: &HubWords<'_>) -> Result<String, AllocEr
     format!(in alloc; "{} {} {key} {when} {task}", words.db, words.caller)
 }
 
+// Whose key is changed.
+fn rekey_told(alloc: Global, words: &RekeyWords<'_>) -> Result<String, AllocError> {
+    match words.supplier {
+        Some(gln) => format!(in alloc; "rekey {} of {gln} file {}", words.db, words.key_file),
+        None => format!(in alloc;
+            "rekey {} of the retailer file {}",
+            words.db, words.key_file
+        ),
+    }
+}
+
 fn words_told(alloc: Global, words: &Words<'_>) -> Result<String, AllocError> {
     match words {
         Words::Check(words) => format!(in alloc; "check {}", words.register),
         Words::Relay(_) => String::from_str(alloc, "relay"),
         Words::Show => String::from_str(alloc, "show"),
         Words::Init(words) => format!(in alloc; "init {} {}", words.register, words.db),
+        Words::Rekey(words) => rekey_told(alloc, words),
         Words::Hub(words) => hub_words_told(alloc, words),
         Words::Serve(words) => format!(in alloc;
             "serve {} {} {}",

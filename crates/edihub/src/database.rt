@@ -35,8 +35,8 @@ fn db_of<'a>(work: &Work<'a>) -> &'a str {
     }
 }
 
-// Whether a file can be opened in the folder of a path, and none stands there. Opening it would make one.
-fn is_missing(rt: &HostRuntime, path: &str) -> bool {
+/// Whether a file can be opened in the folder of a path, and none stands there. Opening it would make one.
+pub(crate) fn is_missing(rt: &HostRuntime, path: &str) -> bool {
     let path = Path::new(path);
     let folder = match path.parent() {
         Some(folder) if folder.as_str() != "" => folder,

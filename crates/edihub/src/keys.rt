@@ -31,8 +31,8 @@ pub(crate) struct Asked<'a> {
     pub(crate) task: Task<'a>,
 }
 
-// The key in the file at a path.
-fn key_at(rt: &HostRuntime, path: &str) -> Result<Vec<u8>, BeginFault> {
+/// The key in the file at a path.
+pub(crate) fn key_at(rt: &HostRuntime, path: &str) -> Result<Vec<u8>, BeginFault> {
     let file = File::open(rt, path).map_err(|_| BeginFault::File)?;
     Ok(read_key(rt.alloc(), &mut OfRead::new(file))?)
 }

@@ -4,6 +4,8 @@
 mod database;
 mod fault;
 mod init;
+mod journal;
+mod key_change;
 mod keys;
 mod register;
 mod serve;
@@ -18,6 +20,7 @@ use fault::KeyFault;
 use hub_app::{HubWords, Words, WordsFault, file_key_refused, read_words};
 use hub_commands::{check_run, show_run};
 use init::init;
+use key_change::change_key;
 use keys::with_keys;
 use register::register_text;
 use std::fmt::Display;
@@ -86,6 +89,7 @@ fn run(rt: &HostRuntime, given: &[String]) -> u8 {
             &mut OfWrite::new(rt.stderr()),
         ),
         Ok(Words::Init(words)) => init(rt, &words),
+        Ok(Words::Rekey(words)) => change_key(rt, &words),
         Ok(Words::Hub(words)) => with_the_hub(rt, given, words),
         Ok(Words::Serve(words)) => over_a_hub(rt, Work::Serve(words)),
         Err(fault) => tell_refused(rt, &fault),

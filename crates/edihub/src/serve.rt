@@ -1,10 +1,15 @@
 //! Serving a hub over the network.
 use crate::fault::BeginFault;
+use crate::journal::FileJournal;
 use crate::tasks::written;
-use edi_base::OfWrite;
+use edi_base::{OfWrite, Sink};
 use hub_app::ServeWords;
 use hub_commands::Hub;
-use hub_serve::{ClockMoments, Listening, NamedOr, OnBroken, Paths, print_listening, serve_on};
+use hub_journal::Journaled;
+use hub_serve::{
+    ClockMoments, Connections, Listening, Moments, NamedOr, OnBroken, Paths, print_listening,
+    serve_on,
+};
 use hub_store::Store;
 
 // What is done once the store has failed for good.
@@ -16,6 +21,45 @@ fn on_broken(words: &ServeWords<'_>) -> OnBroken {
     }
 }
 
+// Serves connections, and gives them back with the exit status. If the words name a journal, each leaves a line in it.
+fn serve_journaled<L: Connections + Drop, S: Store, M: Moments, W: Sink>(
+    rt: &HostRuntime,
+    paths: &Paths,
+    mut connections: L,
+    hub: &mut Hub<S>,
+    moments: &mut M,
+    words: &ServeWords<'_>,
+    out: &mut W,
+) -> (u8, L) {
+    let alloc = rt.alloc();
+    let Some(path) = words.journal else {
+        let status = serve_on(
+            alloc,
+            paths,
+            &mut connections,
+            hub,
+            moments,
+            words.count,
+            on_broken(words),
+            out,
+        );
+        return (status, connections);
+    };
+    let times = NamedOr::new(words.moment, ClockMoments::new(rt));
+    let mut journaled = Journaled::new(connections, times, FileJournal::at(rt, path, words.db));
+    let status = serve_on(
+        alloc,
+        paths,
+        &mut journaled,
+        hub,
+        moments,
+        words.count,
+        on_broken(words),
+        out,
+    );
+    (status, journaled.into_connections())
+}
+
 /// Serves what comes over the network. A fault is told where it ends that.
 pub(crate) fn serve_over<S: Store>(
     rt: &HostRuntime,
@@ -23,20 +67,19 @@ pub(crate) fn serve_over<S: Store>(
     words: &ServeWords<'_>,
 ) -> Result<u8, BeginFault> {
     let paths = Paths::new(rt.alloc())?;
-    let mut connections = Listening::on(rt, words.port).map_err(|_| BeginFault::Listen)?;
+    let connections = Listening::on(rt, words.port).map_err(|_| BeginFault::Listen)?;
     let mut moments = NamedOr::new(words.moment, ClockMoments::new(rt));
     let mut out = OfWrite::new(rt.stdout());
     if print_listening(&mut out, words.port).is_err() {
         return Err(BeginFault::File);
     }
-    let status = serve_on(
-        rt.alloc(),
+    let (status, connections) = serve_journaled(
+        rt,
         &paths,
-        &mut connections,
+        connections,
         hub,
         &mut moments,
-        words.count,
-        on_broken(words),
+        words,
         &mut out,
     );
     if words.stop_when_broken {

@@ -69,6 +69,10 @@ join = over_a_hub (codes "join") (
     wanted (codes "supplier") ∷ offered (codes "supplier-key-file") ∷ offered (codes "supplier-key")
     ∷ wanted (codes "prefixes") ∷ [])
 
+abbrev pub rekey : Shape
+rekey = with_options (codes "rekey") (
+    wanted (codes "db") ∷ offered (codes "supplier") ∷ flagged (codes "retailer") ∷ wanted (codes "new-key-file") ∷ [])
+
 abbrev pub import : Shape
 import = over_a_hub (codes "import") (wanted (codes "folder") ∷ [])
 
@@ -86,7 +90,7 @@ cancel = over_a_hub (codes "cancel") (
 abbrev pub serve : Shape
 serve = with_options (codes "serve") (
     wanted (codes "db") ∷ wanted (codes "port") ∷ wanted (codes "count") ∷ offered (codes "moment")
-    ∷ flagged (codes "stop-when-broken") ∷ [])
+    ∷ flagged (codes "stop-when-broken") ∷ offered (codes "journal") ∷ [])
 
 -- the program before its commands, of which it wants one
 abbrev pub bare : App
@@ -99,7 +103,7 @@ bare = record {
 abbrev pub edihub : App
 edihub = record {
   top = record bare.top { is_leaf = false };
-  subs = check ∷ relay ∷ show ∷ init ∷ join ∷ import ∷ status ∷ mail ∷ cancel ∷ serve ∷ [];
+  subs = check ∷ relay ∷ show ∷ init ∷ join ∷ rekey ∷ import ∷ status ∷ mail ∷ cancel ∷ serve ∷ [];
 }
 
 -- a command of this shape, with no subcommand and no option for all levels

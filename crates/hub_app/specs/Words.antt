@@ -1,5 +1,5 @@
 -- What the words of the command line say, as `clap` parses them.
-use Rattle.std.specs.Prelude.{◌≡◌, ◌⊎◌, ℕ, true, List, [], ◌∷◌, Option, Some, None, option_and_then, option_map, codes}
+use Rattle.std.specs.Prelude.{◌≡◌, ◌⊎◌, ℕ, Bool, true, false, List, [], ◌∷◌, Option, Some, None, option_and_then, option_map, codes}
 use Rattle.std.specs.Prelude.{if◌then◌else◌, is_some}
 use Rattle.clap.specs.Words.{Row, Text, first_of, kind_of, subcommand_of, takes}
 use Rattle.clap.specs.declared.error.kind.ErrorKind.TheVariants.{ValueValidation}
@@ -15,9 +15,10 @@ use Rattle.hub_app.specs.declared.words.JoinByFile.{JoinByFile as FileJoin}
 use Rattle.hub_app.specs.declared.words.JoinTexts.{JoinTexts}
 use Rattle.hub_app.specs.declared.words.KeyWord.{KeyWord}
 use Rattle.hub_app.specs.declared.words.KeyWord.TheVariants as word
+use Rattle.hub_app.specs.declared.words.RekeyWords.{RekeyWords}
 use Rattle.hub_app.specs.declared.words.ServeWords.{ServeWords}
 use Rattle.hub_app.specs.declared.words.Words.{Words}
-use Rattle.hub_app.specs.declared.words.Words.TheVariants.{Check, Relay, Show, Init, Hub, Serve}
+use Rattle.hub_app.specs.declared.words.Words.TheVariants.{Check, Relay, Show, Init, Rekey, Hub, Serve}
 use Rattle.hub_app.specs.declared.words.WordsFault.{WordsFault}
 use Rattle.hub_app.specs.declared.words.WordsFault.TheVariants.{Told, Memory}
 use Rattle.edi_relay.specs.declared.relay.RelayWords.{RelayWords}
@@ -154,6 +155,22 @@ pub record IsInit (rows : List Row) (words : InitWords) : Type 0 where
   pub register : first_of (codes "register") rows ≡ Some words.register.now
   pub db : first_of (codes "db") rows ≡ Some words.db.now
 
+-- whose key is changed: a supplier's, by its GLN, or the retailer's, if exactly one of the two is named
+abbrev pub owner_by : Option Text → Bool → Option (Option Text)
+owner_by (Some digits) false = option_map Some (gln_of digits)
+owner_by None true = Some None
+owner_by (Some digits) true = None
+owner_by None false = None
+
+abbrev pub owner_given : List Row → Option (Option Text)
+owner_given rows = owner_by (first_of (codes "supplier") rows) (is_set (first_of (codes "retailer") rows))
+
+-- the options of `rekey`
+pub record IsRekey (rows : List Row) (words : RekeyWords) : Type 0 where
+  pub db : first_of (codes "db") rows ≡ Some words.db.now
+  pub owner : owner_given rows ≡ Some words.supplier
+  pub key_file : first_of (codes "new-key-file") rows ≡ Some words.key_file.now
+
 -- the options of `serve`
 pub record IsServe (rows : List Row) (words : ServeWords) : Type 0 where
   pub db : first_of (codes "db") rows ≡ Some words.db.now
@@ -161,6 +178,7 @@ pub record IsServe (rows : List Row) (words : ServeWords) : Type 0 where
   pub count : option_and_then connections_of (first_of (codes "count") rows) ≡ Some words.count
   pub moment : if_given moment_of (first_of (codes "moment") rows) ≡ Some words.moment
   pub stop_when_broken : words.stop_when_broken ≡ is_set (first_of (codes "stop-when-broken") rows)
+  pub journal : first_of (codes "journal") rows ≡ option_map (λ path. path.now) words.journal
 
 -- what a command with these options asks for
 abbrev pub Asks : Text → List Row → Words → Type 0
@@ -169,6 +187,7 @@ Asks command rows (Check words) =
 Asks command rows (Relay words) = (command ≡ codes "relay") × IsRelay rows words
 Asks command rows Show = command ≡ codes "show"
 Asks command rows (Init words) = (command ≡ codes "init") × IsInit rows words
+Asks command rows (Rekey words) = (command ≡ codes "rekey") × IsRekey rows words
 Asks command rows (Hub words) = IsTask command rows words.task × AreHubWords rows words
 Asks command rows (Serve words) = (command ≡ codes "serve") × IsServe rows words
 

@@ -3,7 +3,7 @@
 ghost use Rattle.std.specs.Prelude.{◌≡◌, [], false, IfOk};
 ghost use Rattle.clap.specs.Words.{App, Shape, app_of, rule_of, with_subcommand};
 ghost use Rattle.hub_app.specs.Program.{wanted, offered, flagged, rule_of_choice, with_choices, with_options, over_a_hub, IsCommand};
-ghost use Rattle.hub_app.specs.Program.{bare, check, relay, show, init, join, import, status, mail, cancel, serve, edihub};
+ghost use Rattle.hub_app.specs.Program.{bare, check, relay, show, init, join, rekey, import, status, mail, cancel, serve, edihub};
 
 use clap::{Arg, ArgAction, Command};
 use std::alloc::{AllocError, Global};
@@ -201,8 +201,8 @@ prints, once all of it is in the database:
 
   ok 2 suppliers
 
-From then on the database holds the register, and no command but 'join' changes it. A database that is
-founded is not founded again: that is 'store version'.
+From then on the database holds the register, and no command but 'join' and 'rekey' changes it. A database
+that is founded is not founded again: that is 'store version'.
 
 It prints the first fault of the register, as 'edihub check' does. Then no database is made.
 
@@ -306,6 +306,48 @@ fn join_command<'a>(alloc: Global) -> Result<Command<'a>, AllocError>
         hub_command(alloc, "join", JOIN, JOIN_HELP),
         alloc,
         &JOIN_OPTIONS,
+    )
+}
+
+const REKEY: &str = "Changes the key of the retailer or of a supplier";
+
+const REKEY_HELP: &str =
+    "Who may open the database may change any key; the old one is not asked for:
+
+  edihub rekey --db hub.db --supplier 4012345500004 --new-key-file alpha.key
+  edihub rekey --db hub.db --retailer --new-key-file retail.key
+
+It prints 'ok', and from then on the new key is accepted and the old one denied; or
+
+  unknown    the hub has no such supplier
+  fault key  the first line of the file is not 8 to 64 visible characters
+
+and then nothing is changed. A supplier who is to be shut out for a while gets a key that nobody is told.
+
+Exit status: 0 changed; 1 not changed; 2 usage error; 3 a file or the database failed, or out of memory";
+
+static REKEY_OPTIONS: [Choice; 4] = [
+    Choice::Wanted("db", "FILE", "The hub's database, which 'init' made"),
+    Choice::Offered(
+        "supplier",
+        "GLN",
+        "GLN of the supplier whose key is changed, 13 digits; required unless --retailer is given",
+    ),
+    Choice::Flag("retailer", "Change the retailer's key"),
+    Choice::Wanted(
+        "new-key-file",
+        "FILE",
+        "File whose first line is the new key, 8 to 64 visible characters",
+    ),
+];
+
+fn rekey_command<'a>(alloc: Global) -> Result<Command<'a>, AllocError>
+    ensures { IfOk result (IsCommand rekey) }
+{
+    choosing(
+        named(alloc, "rekey", REKEY, REKEY_HELP),
+        alloc,
+        &REKEY_OPTIONS,
     )
 }
 
@@ -471,6 +513,15 @@ After a read or write of the database has failed, as on a full disk, each reques
 the program is restarted. With --stop-when-broken it ends instead, after the connection at which that happened, and
 says why on standard error, as 'store disk', so that a supervisor can restart it.
 
+With --journal a line is added to a file for each connection: when it came, its number, the method and the path of its
+request, the status, and the reply to an upload or a cancellation:
+
+  2026-11-28T18:30:00Z 17 POST /p/4012345500004/interchanges 200 interchange A1 messages 1; 1 ORDRSP accepted
+
+A connection that failed has 'read', 'timeout' or 'write' in place of the status, and one whose client disconnected
+before it was taken has 'gone'. If the file cannot be written, 'journal' is printed on standard error once, and serving
+goes on.
+
 A request to the hub as it runs, and its answer:
 
   curl -H 'X-Hub-Key: alpha-key-1' http://127.0.0.1:8080/p/4012345500004/mail/after/0
@@ -479,7 +530,7 @@ Exit status: 0 all connections were answered 200; 1 one was not; 2 usage error; 
 3 a connection failed or was answered 503, a file or the database failed, the port cannot be listened on, \
 or out of memory";
 
-static SERVE_OPTIONS: [Choice; 5] = [
+static SERVE_OPTIONS: [Choice; 6] = [
     Choice::Wanted("db", "FILE", "The hub's database, which 'init' made"),
     Choice::Wanted("port", "N", "Port to listen on, 1 to 65535"),
     Choice::Wanted("count", "N", "How many connections to serve, 1 to 1000000"),
@@ -491,6 +542,11 @@ static SERVE_OPTIONS: [Choice; 5] = [
     Choice::Flag(
         "stop-when-broken",
         "End after the connection at which the database fails for good, with status 3",
+    ),
+    Choice::Offered(
+        "journal",
+        "FILE",
+        "File to which a line is added for each connection",
     ),
 ];
 
@@ -543,6 +599,7 @@ pub(crate) fn program<'a>(alloc: Global) -> Result<Command<'a>, AllocError>
     let program = commanding(program, show_command(alloc));
     let program = commanding(program, init_command(alloc));
     let program = commanding(program, join_command(alloc));
+    let program = commanding(program, rekey_command(alloc));
     let program = commanding(program, import_command(alloc));
     let program = commanding(program, status_command(alloc));
     let program = commanding(program, mail_command(alloc));

@@ -7,7 +7,8 @@ ghost use Rattle.hub_app.specs.Options.{Finds, if_given, moment_of, values_given
 ghost use Rattle.edi_relay.specs.Relay.{AreRelayWords};
 ghost use Rattle.hub_texts.specs.Cancel as body;
 ghost use Rattle.hub_app.specs.Words.{cancel_options, texts_of, AreWords, Asks, AreHubOptions, AreHubWords, IsOverHub};
-ghost use Rattle.hub_app.specs.Words.{IsInit, IsRelay, IsServe, IsTask, IsUsageError, Names, Refuses, Say, join_in, texts_of_join};
+ghost use Rattle.hub_app.specs.Words.{IsInit, IsRekey, IsRelay, IsServe, IsTask, owner_given};
+ghost use Rattle.hub_app.specs.Words.{IsUsageError, Names, Refuses, Say, join_in, texts_of_join};
 ghost use Rattle.hub_app.specs.Words.{join_by_file_given, join_by_file_in, join_given, join_values, key_given, given_as, parts_of_join};
 ghost use Rattle.hub_rules.specs.JoinRules as rules;
 ghost use Rattle.hub_app.specs.Program.{edihub};
@@ -129,6 +130,19 @@ pub struct ServeWords<'a> {
     pub moment: Option<Moment>,
     /// Whether no more connections are served once the database has failed for good.
     pub stop_when_broken: bool,
+    /// The path of the journal, if one is kept.
+    pub journal: Option<&'a str>,
+}
+
+/// What `rekey` is asked for.
+#[derive(Debug, Drop)]
+pub struct RekeyWords<'a> {
+    /// The path of the database's file.
+    pub db: &'a str,
+    /// The supplier whose key is changed; the retailer's is where there is none.
+    pub supplier: Option<Gln>,
+    /// The path of the file whose first line is the new key.
+    pub key_file: &'a str,
 }
 
 /// What the words ask for: a command with its options.
@@ -138,6 +152,7 @@ pub enum Words<'a> {
     Relay(RelayWords),
     Show,
     Init(InitWords<'a>),
+    Rekey(RekeyWords<'a>),
     Hub(HubWords<'a>),
     Serve(ServeWords<'a>),
 }
@@ -458,6 +473,28 @@ fn init_words<'a>(options: &ArgMatches<'a>) -> Option<InitWords<'a>>
     })
 }
 
+// Whose key is changed, if exactly one party is named: a supplier, or the retailer, told by `None`.
+fn key_owner(options: &ArgMatches<'_>) -> Option<Option<Gln>>
+    ensures { result ≡ owner_given (rows_of (found_of options.now)) }
+{
+    match (text(options, "supplier"), is_set(options, "retailer")) {
+        (Some(digits), false) => Some(Some(gln(digits)?)),
+        (None, true) => Some(None),
+        _ => None,
+    }
+}
+
+// The options of `rekey`, where each is within its limits.
+fn rekey_words<'a>(options: &ArgMatches<'a>) -> Option<RekeyWords<'a>>
+    ensures { Finds (IsRekey (rows_of (found_of options.now))) result }
+{
+    Some(RekeyWords {
+        db: text(options, "db")?,
+        supplier: key_owner(options)?,
+        key_file: text(options, "new-key-file")?,
+    })
+}
+
 // The options of `serve`, where each is within its limits.
 fn serve_words<'a>(options: &ArgMatches<'a>) -> Option<ServeWords<'a>>
     ensures { Finds (IsServe (rows_of (found_of options.now))) result }
@@ -468,6 +505,7 @@ fn serve_words<'a>(options: &ArgMatches<'a>) -> Option<ServeWords<'a>>
         count: count(text(options, "count")?)?,
         moment: named_moment(options)?,
         stop_when_broken: is_set(options, "stop-when-broken"),
+        journal: text(options, "journal"),
     })
 }
 
@@ -512,6 +550,10 @@ fn command_words<'a>(
             Some(words) => Ok(Some(Words::Init(words))),
             None => Ok(None),
         },
+        "rekey" => match rekey_words(options) {
+            Some(words) => Ok(Some(Words::Rekey(words))),
+            None => Ok(None),
+        },
         "serve" => match serve_words(options) {
             Some(words) => Ok(Some(Words::Serve(words))),
             None => Ok(None),
@@ -537,6 +579,9 @@ const JOIN_LIMITS: &str =
     "a GLN is 13 digits with a right check digit, --moment is 0 to 4102444799, --supplier-key is 8 to 64 visible \
         ASCII characters, and --prefixes are 1 to 8 different ones of 4 to 12 digits, with commas between them";
 
+const REKEY_LIMITS: &str =
+    "exactly one of --supplier and --retailer is given, and a GLN is 13 digits with a right check digit";
+
 const SERVE_LIMITS: &str =
     "--port is 1 to 65535, --count is 1 to 1000000, and --moment is 0 to 4102444799";
 
@@ -555,6 +600,7 @@ fn limits(command: &str) -> &'static str {
         "mail" => MAIL_LIMITS,
         "cancel" => CANCEL_LIMITS,
         "join" => JOIN_LIMITS,
+        "rekey" => REKEY_LIMITS,
         "serve" => SERVE_LIMITS,
         _ => HUB_LIMITS,
     }

@@ -6,10 +6,10 @@ use Rattle.std.proofs.lemmas.Bool.{and_parts, and_from}
 use Rattle.hub_tables.specs.Change.{apply, apply_all}
 use Rattle.hub_tables.specs.Rows.{hub_cmp, key_cmp, prefix_cmp}
 use Rattle.hub_tables.specs.Rows.{same, order_cmp, line_cmp, advice_cmp, pallet_cmp, content_cmp, receipt_cmp}
-use Rattle.hub_tables.specs.Rows.{remembered_cmp, mail_cmp, same_line, same_pallet, same_mail}
+use Rattle.hub_tables.specs.Rows.{remembered_cmp, mail_cmp, same_hub, same_key, same_line, same_pallet, same_mail}
 use Rattle.hub_tables.specs.Tables.{Tables, view, holds}
 use Rattle.hub_tables.specs.declared.change.Change.{Change}
-use Rattle.hub_tables.specs.declared.change.Change.TheVariants.{AddHub, AddKey, AddPrefix}
+use Rattle.hub_tables.specs.declared.change.Change.TheVariants.{AddHub, SetHub, AddKey, SetKey, AddPrefix}
 use Rattle.hub_tables.specs.declared.change.Change.TheVariants.{AddOrder, AddLine, SetLine, AddAdvice, AddPallet}
 use Rattle.hub_tables.specs.declared.change.Change.TheVariants.{SetPallet, AddContent, AddReceipt, ClearReceipts, Remember, AddMail}
 use Rattle.hub_tables.specs.declared.change.Change.TheVariants.{SetMail}
@@ -94,7 +94,9 @@ clean_view supplier t h = record {
 -- a change of a row of the kinds
 abbrev pub CleanChange : Change → Type 0
 CleanChange (AddHub row) = clean_hub row ≡ true
+CleanChange (SetHub row) = clean_hub row ≡ true
 CleanChange (AddKey row) = clean_key row ≡ true
+CleanChange (SetKey row) = clean_key row ≡ true
 CleanChange (AddPrefix row) = clean_prefix row ≡ true
 CleanChange (AddOrder row) = clean_order row ≡ true
 CleanChange (AddLine row) = clean_line row ≡ true
@@ -113,10 +115,12 @@ CleanChange (SetMail row) = clean_mail row ≡ true
 module _ (t : Tables) (h : CleanRows t) where
   hubs : (change : Change) → CleanChange change → AllByRecursion (λ row. clean_hub row ≡ true) (apply change t).hubs
   hubs (AddHub row) c = all_put hub_cmp _ t.hubs row h.hubs c
+  hubs (SetHub row) c = all_replace _ (same_hub row) row t.hubs h.hubs c
   hubs other c = h.hubs
 
   keys : (change : Change) → CleanChange change → AllByRecursion (λ row. clean_key row ≡ true) (apply change t).keys
   keys (AddKey row) c = all_put key_cmp _ t.keys row h.keys c
+  keys (SetKey row) c = all_replace _ (same_key row) row t.keys h.keys c
   keys other c = h.keys
 
   prefixes : (change : Change) → CleanChange change → AllByRecursion (λ row. clean_prefix row ≡ true) (apply change t).prefixes

@@ -24,7 +24,7 @@ use Rattle.hub_parties.specs.declared.row.SupplierRow.{SupplierRow}
 use Rattle.hub_tables.specs.Cases.{arrival_number, truth_number}
 use Rattle.hub_tables.specs.Change.{apply, apply_all}
 use Rattle.hub_tables.specs.Register.{prefix_changes, row_changes}
-use Rattle.hub_tables.specs.Rows.{same, same_line, same_pallet, same_mail}
+use Rattle.hub_tables.specs.Rows.{same, same_key, same_line, same_pallet, same_mail}
 use Rattle.hub_tables.specs.State.{knows_order, knows_advice, lines_of, line_of, despatched, waits, pallet_of}
 use Rattle.hub_tables.specs.State.{is_announced, remembered_of, entry_at, is_taken}
 use Rattle.hub_tables.specs.Tables.{Tables, has_pallet, view}
@@ -34,7 +34,7 @@ use Rattle.hub_tables.specs.declared.cases.Side.{Side}
 use Rattle.hub_tables.specs.declared.cases.Side.TheVariants as sides
 use Rattle.hub_tables.specs.declared.change.Change.{Change}
 use Rattle.hub_tables.specs.declared.change.Change.TheVariants.{AddOrder, SetLine, AddAdvice, AddPallet, SetPallet, AddContent}
-use Rattle.hub_tables.specs.declared.change.Change.TheVariants.{AddKey, AddPrefix, Remember, SetMail}
+use Rattle.hub_tables.specs.declared.change.Change.TheVariants.{SetHub, AddKey, SetKey, AddPrefix, Remember, SetMail}
 use Rattle.hub_tables.specs.declared.rows.LineRow.{LineRow}
 use Rattle.hub_tables.specs.declared.rows.MailRow.{MailRow}
 use Rattle.hub_tables.specs.declared.rows.PalletRow.{PalletRow}
@@ -349,6 +349,8 @@ any_filtered p q (x ∷ xs) h =
     ] h
 
 seen_there : (gln : List ℕ) (t : Tables) (change : Change) → has_place change (view gln t) ≡ true → has_place change t ≡ true
+seen_there gln t (SetHub row) h = absurd (cc (h))
+seen_there gln t (SetKey row) h = any_filtered (same_key row) (λ row. same row.supplier gln) t.keys h
 seen_there gln t (SetLine row) h = any_filtered (same_line row) (λ row. same row.supplier gln) t.lines h
 seen_there gln t (SetPallet row) h = any_filtered (same_pallet row) (λ row. same row.supplier gln) t.pallets h
 seen_there gln t (SetMail row) h = any_filtered (same_mail row) (λ row. same row.supplier gln) t.mail h

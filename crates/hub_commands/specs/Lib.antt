@@ -3,6 +3,7 @@ pub mod Files
 pub mod Folder
 pub mod Import
 pub mod Key
+pub mod KeyChange
 pub mod OneFile
 pub mod Output
 pub mod Replies

@@ -1,5 +1,5 @@
 //! What the commands of the program do: the check of a register, the lines of an interchange, an import of files, the key
-//! in a file, and the printing of one reply.
+//! in a file, and the printing of one reply and of what became of a key.
 #![tactic(auto)]
 
 mod check;
@@ -7,6 +7,7 @@ mod files;
 mod folder;
 mod import;
 mod key;
+mod key_change;
 mod print;
 mod reply;
 mod show;
@@ -17,5 +18,6 @@ pub use folder::Folder;
 pub use hub_core::{Hub, Input, Join, Reply, Request, Role};
 pub use import::import_run;
 pub use key::{key_in, read_key};
+pub use key_change::{KeyOutcome, key_change_run};
 pub use reply::reply_run;
 pub use show::show_run;

@@ -7,7 +7,8 @@ use Rattle.std.specs.Map.{lookup, remove_entry, set_value}
 use Rattle.hub_parties.specs.KeyOrder.{replace}
 use Rattle.hub_tables.specs.Rows.{same, same_line}
 use Rattle.hub_tables.specs.declared.change.Change.{Change}
-use Rattle.hub_tables.specs.declared.change.Change.TheVariants.{AddHub, AddKey, AddPrefix, AddOrder, AddLine, SetLine, AddAdvice}
+use Rattle.hub_tables.specs.declared.change.Change.TheVariants.{AddHub, SetHub, AddKey, SetKey, AddPrefix}
+use Rattle.hub_tables.specs.declared.change.Change.TheVariants.{AddOrder, AddLine, SetLine, AddAdvice}
 use Rattle.hub_tables.specs.declared.change.Change.TheVariants.{AddPallet, SetPallet, AddContent, AddReceipt, ClearReceipts}
 use Rattle.hub_tables.specs.declared.change.Change.TheVariants.{Remember, AddMail, SetMail}
 use Rattle.hub_tables.specs.declared.rows.LineRow.{LineRow}
@@ -148,7 +149,9 @@ pub in_turn : (change : Change) (changes : List Change) (given : List LineRow)
     → rows_after (change ∷ changes) given ≡ rows_after changes (rows_after (change ∷ []) given)
 in_turn (SetLine row) changes given = refl
 in_turn (AddHub row) changes given = refl
+in_turn (SetHub row) changes given = refl
 in_turn (AddKey row) changes given = refl
+in_turn (SetKey row) changes given = refl
 in_turn (AddPrefix row) changes given = refl
 in_turn (AddOrder row) changes given = refl
 in_turn (AddLine row) changes given = refl

@@ -5,7 +5,7 @@ use Rattle.hub_parties.specs.declared.row.SupplierRow.{SupplierRow}
 use Rattle.hub_tables.specs.Change.{apply, apply_all}
 use Rattle.hub_tables.specs.Tables.{Tables, has_pallet, view}
 use Rattle.hub_tables.specs.declared.change.Change.{Change}
-use Rattle.hub_tables.specs.declared.change.Change.TheVariants.{AddHub, AddKey, AddPrefix}
+use Rattle.hub_tables.specs.declared.change.Change.TheVariants.{AddHub, SetHub, AddKey, SetKey, AddPrefix}
 use Rattle.hub_tables.specs.declared.change.Change.TheVariants.{AddOrder, AddLine, SetLine, AddAdvice, AddPallet, SetPallet}
 use Rattle.hub_tables.specs.declared.change.Change.TheVariants.{AddContent, AddReceipt, ClearReceipts, Remember, AddMail, SetMail}
 use Rattle.hub_rules.specs.Laws.{PartiesStay}
@@ -16,7 +16,9 @@ use Rattle.hub_rules.specs.Sound.{IsOwn, Kept, Rooted}
 -- that are as they are to be.
 abbrev pub Belongs : SupplierRow → Tables → Change → Type 0
 Belongs s state (AddHub row) = ⊥
+Belongs s state (SetHub row) = ⊥
 Belongs s state (AddKey row) = ⊥
+Belongs s state (SetKey row) = ⊥
 Belongs s state (AddPrefix row) = ⊥
 Belongs s state (AddOrder row) = row.supplier ≡ s.gln
 Belongs s state (AddLine row) = row.supplier ≡ s.gln

@@ -13,7 +13,7 @@ use Rattle.hub_tables.specs.Rows.{remembered_cmp, mail_cmp, same_line, same_pall
 use Rattle.hub_tables.specs.Tables.{Tables, has_pallet, holds, view}
 use Rattle.hub_tables.specs.Change.{apply, apply_all}
 use Rattle.hub_tables.specs.declared.change.Change.{Change}
-use Rattle.hub_tables.specs.declared.change.Change.TheVariants.{AddHub, AddKey, AddPrefix}
+use Rattle.hub_tables.specs.declared.change.Change.TheVariants.{AddHub, SetHub, AddKey, SetKey, AddPrefix}
 use Rattle.hub_tables.specs.declared.change.Change.TheVariants.{AddOrder, AddLine, SetLine, AddAdvice, AddPallet, SetPallet}
 use Rattle.hub_tables.specs.declared.change.Change.TheVariants.{AddContent, AddReceipt, ClearReceipts, Remember, AddMail, SetMail}
 use Rattle.hub_tables.specs.declared.rows.PalletRow.{PalletRow}
@@ -119,7 +119,9 @@ module _ (suppliers : List SupplierRow) (free : PrefixFree (company_prefixes sup
   -- the supplier sees the change
   pub seen : (c : Change) → Belongs s (view s.gln t) c → view s.gln (apply c t) ≡ apply c (view s.gln t)
   seen (AddHub r) h = absurd h
+  seen (SetHub r) h = absurd h
   seen (AddKey r) h = absurd h
+  seen (SetKey r) h = absurd h
   seen (AddPrefix r) h = absurd h
   seen (AddOrder r) h =
       ap (λ xs. record (view s.gln t) { orders = xs })
@@ -174,7 +176,9 @@ module _ (suppliers : List SupplierRow) (free : PrefixFree (company_prefixes sup
   -- and no other supplier does
   pub unseen : (c : Change) → Belongs s (view s.gln t) c → (other : List ℕ) → other ≢ s.gln → view other (apply c t) ≡ view other t
   unseen (AddHub r) h other ne = absurd h
+  unseen (SetHub r) h other ne = absurd h
   unseen (AddKey r) h other ne = absurd h
+  unseen (SetKey r) h other ne = absurd h
   unseen (AddPrefix r) h other ne = absurd h
   unseen (AddOrder r) h other ne =
       ap (λ xs. record (view other t) { orders = xs })
@@ -258,7 +262,9 @@ module _ (suppliers : List SupplierRow) (free : PrefixFree (company_prefixes sup
 -- nothing of the register is changed
 pub parties_stay : (s : SupplierRow) (state t : Tables) (c : Change) → Belongs s state c → PartiesStay t (apply c t)
 parties_stay s state t (AddHub r) h = absurd h
+parties_stay s state t (SetHub r) h = absurd h
 parties_stay s state t (AddKey r) h = absurd h
+parties_stay s state t (SetKey r) h = absurd h
 parties_stay s state t (AddPrefix r) h = absurd h
 parties_stay s state t other h = record { hubs = refl; keys = refl; prefixes = refl }
 

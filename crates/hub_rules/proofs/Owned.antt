@@ -6,7 +6,7 @@ use Rattle.hub_tables.specs.Change.{apply}
 use Rattle.hub_tables.specs.Rows.{order_cmp, line_cmp, advice_cmp, pallet_cmp, remembered_cmp, mail_cmp, same_line, same_pallet, same_mail}
 use Rattle.hub_tables.specs.Tables.{Tables}
 use Rattle.hub_tables.specs.declared.change.Change.{Change}
-use Rattle.hub_tables.specs.declared.change.Change.TheVariants.{AddHub, AddKey, AddPrefix}
+use Rattle.hub_tables.specs.declared.change.Change.TheVariants.{AddHub, SetHub, AddKey, SetKey, AddPrefix}
 use Rattle.hub_tables.specs.declared.change.Change.TheVariants.{AddOrder, AddLine, SetLine, AddAdvice, AddPallet, SetPallet}
 use Rattle.hub_tables.specs.declared.change.Change.TheVariants.{AddContent, AddReceipt, Remember, AddMail, SetMail}
 use Rattle.hub_tables.proofs.KeyOrder.{all_put}
@@ -20,10 +20,12 @@ use Rattle.hub_rules.proofs.OnPallets.{OnPallet, contents_after, receipts_after}
 module _ (s : SupplierRow) (state : Tables) (own : IsOwn s.gln state) where
   no_hubs : (change : Change) → Belongs s state change → (apply change state).hubs ≡ []
   no_hubs (AddHub r) h = absurd h
+  no_hubs (SetHub r) h = absurd h
   no_hubs other h = own.hubs
 
   keys : (change : Change) → Belongs s state change → AllByRecursion (λ row. row.supplier ≡ s.gln) (apply change state).keys
   keys (AddKey r) h = absurd h
+  keys (SetKey r) h = absurd h
   keys other h = own.keys
 
   prefixes : (change : Change) → Belongs s state change → AllByRecursion (λ row. row.supplier ≡ s.gln) (apply change state).prefixes

@@ -9,11 +9,11 @@ use Rattle.std.specs.Option.{IfSome}
 use Rattle.hub_parties.specs.Rows.{RegisterRows}
 use Rattle.hub_tables.specs.Change.{apply, apply_all}
 use Rattle.hub_tables.specs.Register.{HoldsRegister, register_of}
-use Rattle.hub_tables.specs.Rows.{same_line, same_pallet, same_mail}
+use Rattle.hub_tables.specs.Rows.{same_hub, same_key, same_line, same_pallet, same_mail}
 pub use Rattle.hub_tables.specs.Sets.{Fit}
 use Rattle.hub_tables.specs.Tables.{Tables}
 use Rattle.hub_tables.specs.declared.change.Change.{Change}
-use Rattle.hub_tables.specs.declared.change.Change.TheVariants.{SetLine, SetPallet, SetMail}
+use Rattle.hub_tables.specs.declared.change.Change.TheVariants.{SetHub, SetKey, SetLine, SetPallet, SetMail}
 use Rattle.hub_store.specs.Clean.{are_clean}
 use Rattle.hub_store.specs.declared.fault.LastingFault.{LastingFault}
 use Rattle.hub_store.specs.declared.fault.LastingFault.TheVariants as lasting
@@ -70,6 +70,8 @@ pub record ReadsRegister {S : Type 0} (content : S → Tables) (honest : S → T
 
 -- a row that is set has one in its place
 abbrev pub has_place : Change → Tables → Bool
+has_place (SetHub row) t = list_any (same_hub row) t.hubs
+has_place (SetKey row) t = list_any (same_key row) t.keys
 has_place (SetLine row) t = list_any (same_line row) t.lines
 has_place (SetPallet row) t = list_any (same_pallet row) t.pallets
 has_place (SetMail row) t = list_any (same_mail row) t.mail

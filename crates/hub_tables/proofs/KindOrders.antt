@@ -9,13 +9,15 @@ use Rattle.std.proofs.lemmas.Cmp.{on_total, then_total, nat_cmp_total, nat_list_
 use Rattle.hub_parties.specs.KeyOrder.{bytes_cmp, InOrder, put, replace}
 use Rattle.hub_tables.specs.Rows.{hub_cmp, key_cmp, prefix_cmp}
 use Rattle.hub_tables.specs.Rows.{same, order_cmp, line_cmp, advice_cmp, pallet_cmp, content_cmp, receipt_cmp}
-use Rattle.hub_tables.specs.Rows.{remembered_cmp, mail_cmp, same_line, same_pallet, same_mail}
+use Rattle.hub_tables.specs.Rows.{remembered_cmp, mail_cmp, same_hub, same_key, same_line, same_pallet, same_mail}
 use Rattle.hub_tables.specs.Tables.{Tables, Ordered}
 use Rattle.hub_tables.specs.Change.{apply, apply_all}
 use Rattle.hub_tables.specs.declared.change.Change.{Change}
-use Rattle.hub_tables.specs.declared.change.Change.TheVariants.{AddHub, AddKey, AddPrefix}
+use Rattle.hub_tables.specs.declared.change.Change.TheVariants.{AddHub, SetHub, AddKey, SetKey, AddPrefix}
 use Rattle.hub_tables.specs.declared.change.Change.TheVariants.{AddOrder, AddLine, SetLine, AddAdvice, AddPallet, SetPallet}
 use Rattle.hub_tables.specs.declared.change.Change.TheVariants.{AddContent, AddReceipt, ClearReceipts, Remember, AddMail, SetMail}
+use Rattle.hub_tables.specs.declared.rows.HubRow.{HubRow}
+use Rattle.hub_tables.specs.declared.rows.KeyRow.{KeyRow}
 use Rattle.hub_tables.specs.declared.rows.LineRow.{LineRow}
 use Rattle.hub_tables.specs.declared.rows.PalletRow.{PalletRow}
 use Rattle.hub_tables.specs.declared.rows.MailRow.{MailRow}
@@ -79,6 +81,12 @@ mail_key r y e =
     let parts = and_parts (same y.supplier r.supplier) (y.number == r.number) e in
     (same_is y.supplier r.supplier parts.0, grind (arith, nat_tests, parts.1))
 
+pub hub_set : (r x y : HubRow) → hub_cmp (cond (same_hub r x) r x) (cond (same_hub r y) r y) ≡ hub_cmp x y
+hub_set r = replaced_alike (λ (h : HubRow). h.hub) bytes_cmp (same_hub r) r (λ y e. same_is y.hub r.hub e)
+
+pub key_set : (r x y : KeyRow) → key_cmp (cond (same_key r x) r x) (cond (same_key r y) r y) ≡ key_cmp x y
+key_set r = replaced_alike (λ (k : KeyRow). k.supplier) bytes_cmp (same_key r) r (λ y e. same_is y.supplier r.supplier e)
+
 pub line_set : (r x y : LineRow) → line_cmp (cond (same_line r x) r x) (cond (same_line r y) r y) ≡ line_cmp x y
 line_set r =
     replaced_alike {K = List ℕ × List ℕ × ℕ} (λ l. (l.supplier, l.number, l.line))
@@ -108,10 +116,12 @@ pub record Steps (R : (X : Type 0) → (X → X → Ordering) → List X → Lis
 module _ {R : (X : Type 0) → (X → X → Ordering) → List X → List X → Type 0} (steps : Steps R) where
   pub hubs_after : (c : Change) (t : Tables) → R _ hub_cmp t.hubs (apply c t).hubs
   hubs_after (AddHub r) t = steps.add hub_cmp hub_total t.hubs r
+  hubs_after (SetHub r) t = steps.set hub_cmp (same_hub r) r (hub_set r) t.hubs
   hubs_after _ t = steps.stay hub_cmp t.hubs
 
   pub keys_after : (c : Change) (t : Tables) → R _ key_cmp t.keys (apply c t).keys
   keys_after (AddKey r) t = steps.add key_cmp key_total t.keys r
+  keys_after (SetKey r) t = steps.set key_cmp (same_key r) r (key_set r) t.keys
   keys_after _ t = steps.stay key_cmp t.keys
 
   pub prefixes_after : (c : Change) (t : Tables) → R _ prefix_cmp t.prefixes (apply c t).prefixes

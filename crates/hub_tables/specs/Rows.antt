@@ -58,6 +58,12 @@ abbrev pub mail_cmp : MailRow → MailRow → Ordering
 mail_cmp a b = ordering_then (bytes_cmp a.supplier b.supplier) (nat_cmp a.number b.number)
 
 -- an old row has the key of a new one, for the kinds of which rows are set
+abbrev pub same_hub : HubRow → HubRow → Bool
+same_hub new old = same old.hub new.hub
+
+abbrev pub same_key : KeyRow → KeyRow → Bool
+same_key new old = same old.supplier new.supplier
+
 abbrev pub same_line : LineRow → LineRow → Bool
 same_line new old = same old.supplier new.supplier && (same old.number new.number && (old.line == new.line))
 

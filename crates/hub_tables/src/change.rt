@@ -10,8 +10,12 @@ use gs1_ids::Sscc;
 pub enum Change {
     /// The hub and its retailer.
     AddHub(HubRow),
+    /// The hub with a new key of its retailer.
+    SetHub(HubRow),
     /// A new supplier's key.
     AddKey(KeyRow),
+    /// A supplier's new key.
+    SetKey(KeyRow),
     /// A company prefix of a new supplier.
     AddPrefix(PrefixRow),
     /// A new order.

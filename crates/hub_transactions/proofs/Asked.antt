@@ -18,7 +18,8 @@ use Rattle.hub_tables.specs.Rows.{same, same_line}
 use Rattle.hub_tables.specs.State.{knows_order, knows_advice, lines_of, line_of, line_among, despatched, waits, remembered_of}
 use Rattle.hub_tables.specs.Tables.{Tables, has_pallet}
 use Rattle.hub_tables.specs.declared.change.Change.{Change}
-use Rattle.hub_tables.specs.declared.change.Change.TheVariants.{AddHub, AddKey, AddPrefix, AddOrder, AddLine, SetLine, AddAdvice}
+use Rattle.hub_tables.specs.declared.change.Change.TheVariants.{AddHub, SetHub, AddKey, SetKey, AddPrefix}
+use Rattle.hub_tables.specs.declared.change.Change.TheVariants.{AddOrder, AddLine, SetLine, AddAdvice}
 use Rattle.hub_tables.specs.declared.change.Change.TheVariants.{AddPallet, SetPallet, AddContent, AddReceipt, ClearReceipts}
 use Rattle.hub_tables.specs.declared.change.Change.TheVariants.{Remember, AddMail, SetMail}
 use Rattle.hub_tables.specs.declared.rows.AdviceRow.{AdviceRow}
@@ -149,7 +150,9 @@ module _ (asks : List ℕ → Option ℕ → Bool) where
       → AgreeOnLines asks (apply change a) (apply change b)
   change_agrees (SetLine row) a b none agree = set_agrees row a b agree
   change_agrees (AddHub row) a b none agree = record { rest = ap (apply (AddHub row)) agree.rest; one = agree.one; all = agree.all }
+  change_agrees (SetHub row) a b none agree = record { rest = ap (apply (SetHub row)) agree.rest; one = agree.one; all = agree.all }
   change_agrees (AddKey row) a b none agree = record { rest = ap (apply (AddKey row)) agree.rest; one = agree.one; all = agree.all }
+  change_agrees (SetKey row) a b none agree = record { rest = ap (apply (SetKey row)) agree.rest; one = agree.one; all = agree.all }
   change_agrees (AddPrefix row) a b none agree = record { rest = ap (apply (AddPrefix row)) agree.rest; one = agree.one; all = agree.all }
   change_agrees (AddOrder row) a b none agree = absurd (cc)
   change_agrees (AddLine row) a b none agree = absurd (cc)

@@ -6,7 +6,8 @@ use Rattle.hub_tables.specs.Rows.{same}
 use Rattle.hub_tables.specs.State.{knows_order, lines_of}
 use Rattle.hub_tables.specs.Tables.{Tables, view}
 use Rattle.hub_tables.specs.declared.change.Change.{Change}
-use Rattle.hub_tables.specs.declared.change.Change.TheVariants.{AddHub, AddKey, AddPrefix, AddOrder, AddLine, SetLine, AddAdvice}
+use Rattle.hub_tables.specs.declared.change.Change.TheVariants.{AddHub, SetHub, AddKey, SetKey, AddPrefix}
+use Rattle.hub_tables.specs.declared.change.Change.TheVariants.{AddOrder, AddLine, SetLine, AddAdvice}
 use Rattle.hub_tables.specs.declared.change.Change.TheVariants.{AddPallet, SetPallet, AddContent, AddReceipt, ClearReceipts}
 use Rattle.hub_tables.specs.declared.change.Change.TheVariants.{Remember, AddMail, SetMail}
 use Rattle.hub_order_lines.specs.Book.{Orders}
@@ -35,7 +36,9 @@ module _ (supplier order : List ℕ) where
       ap (filter (λ line. same line.number order)) (set_among_suppliers row supplier t.lines)
       ∙ set_among_order row order (view supplier t).lines
   lines_one (AddHub row) t none = refl
+  lines_one (SetHub row) t none = refl
   lines_one (AddKey row) t none = refl
+  lines_one (SetKey row) t none = refl
   lines_one (AddPrefix row) t none = refl
   lines_one (AddOrder row) t none = absurd (cc)
   lines_one (AddLine row) t none = absurd (cc)
@@ -52,7 +55,9 @@ module _ (supplier order : List ℕ) where
   orders_one : (change : Change) (t : Tables) → adds_lines change ≡ false → (apply change t).orders ≡ t.orders
   orders_one (SetLine row) t none = refl
   orders_one (AddHub row) t none = refl
+  orders_one (SetHub row) t none = refl
   orders_one (AddKey row) t none = refl
+  orders_one (SetKey row) t none = refl
   orders_one (AddPrefix row) t none = refl
   orders_one (AddOrder row) t none = absurd (cc)
   orders_one (AddLine row) t none = absurd (cc)

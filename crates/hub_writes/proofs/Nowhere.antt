@@ -3,10 +3,10 @@ use Rattle.std.proofs.Common.{◌&&◌, ◌||◌, ◌≡◌, Bool, cond, true, f
 use Rattle.std.specs.List.{list_any}
 use Rattle.hub_tables.specs.Change.{apply_all}
 use Rattle.hub_parties.specs.KeyOrder.{replace}
-use Rattle.hub_tables.specs.Rows.{same_line, same_pallet, same_mail}
+use Rattle.hub_tables.specs.Rows.{same_hub, same_key, same_line, same_pallet, same_mail}
 use Rattle.hub_tables.specs.Tables.{Tables}
 use Rattle.hub_tables.specs.declared.change.Change.{Change}
-use Rattle.hub_tables.specs.declared.change.Change.TheVariants.{SetLine, SetPallet, SetMail}
+use Rattle.hub_tables.specs.declared.change.Change.TheVariants.{SetHub, SetKey, SetLine, SetPallet, SetMail}
 use Rattle.hub_store.specs.Calls.{have_places}
 
 neither : (a b : Bool) → (a || b) ≡ false → (a ≡ false) × (b ≡ false)
@@ -24,6 +24,12 @@ first_none true h = h
 first_none false h = refl
 
 pub unplaced : (change : Change) (t : Tables) → have_places (change ∷ []) t ≡ false → apply_all (change ∷ []) t ≡ t
+unplaced (SetHub row) t none =
+    ap (λ rows. record t { hubs = rows })
+    (none_replaced (same_hub row) row t.hubs (first_none (list_any (same_hub row) t.hubs) none))
+unplaced (SetKey row) t none =
+    ap (λ rows. record t { keys = rows })
+    (none_replaced (same_key row) row t.keys (first_none (list_any (same_key row) t.keys) none))
 unplaced (SetLine row) t none =
     ap (λ rows. record t { lines = rows })
     (none_replaced (same_line row) row t.lines (first_none (list_any (same_line row) t.lines) none))

@@ -3,3 +3,4 @@ pub mod Faults
 pub mod Line
 pub mod Mail
 pub mod Pallet
+pub mod Party

@@ -11,7 +11,7 @@ use crate::line::{add_line, set_line};
 use crate::mail::{add_mail, set_mail};
 use crate::order::add_order;
 use crate::pallet::{add_pallet, set_pallet};
-use crate::party::{add_hub, add_key, add_prefix};
+use crate::party::{add_hub, add_key, add_prefix, set_hub, set_key};
 use crate::receipt::{add_receipt, clear_receipts};
 use crate::remembered::remember;
 use hub_store::StoreFault;
@@ -37,7 +37,9 @@ pub fn apply<S: Alter>(tx: &mut Transaction<'_, S>, change: &Change) -> Result<(
 {
     match change {
         Change::AddHub(row) => add_hub(tx, row),
+        Change::SetHub(row) => set_hub(tx, row),
         Change::AddKey(row) => add_key(tx, row),
+        Change::SetKey(row) => set_key(tx, row),
         Change::AddPrefix(row) => add_prefix(tx, row),
         Change::AddOrder(row) => add_order(tx, row),
         Change::AddLine(row) => add_line(tx, row),

@@ -1,14 +1,27 @@
 //! The hub's row, the keys of suppliers and their company prefixes.
 ghost use Rattle.std.specs.Prelude.{◌≡◌, ◌∷◌, []};
 ghost use Rattle.sqlite.specs.Held.{state};
-ghost use Rattle.hub_tables.specs.declared.change.Change.TheVariants.{AddHub, AddKey, AddPrefix};
+ghost use Rattle.hub_tables.specs.declared.change.Change.TheVariants.{AddHub, SetHub, AddKey, SetKey, AddPrefix};
 ghost use Rattle.hub_writes.specs.Acts.{Acts};
+ghost use Rattle.hub_writes.specs.Party as spec;
+ghost use Rattle.sqlite.specs.Values.{bound};
 
-use crate::faults::insert_ended;
+use crate::faults::{insert_ended, update_ended};
 use crate::values::{gln_value, key_value, prefix_value};
 use hub_store::StoreFault;
 use hub_tables::{HubRow, KeyRow, PrefixRow};
 use sqlite::{Alter, Transaction};
+use sqlite_value::value::ValueRef;
+
+// The values of the hub's row.
+fn hub_cells(row: &HubRow) -> [ValueRef<'_>; 3]
+    ensures { bound result ≡ spec.hub_cells row.now }
+{
+    let hub = gln_value(&row.hub);
+    let retailer = gln_value(&row.retailer);
+    let key = key_value(&row.key);
+    [hub, retailer, key]
+}
 
 /// Adds the hub's row.
 pub fn add_hub<S: Alter>(tx: &mut Transaction<'_, S>, row: &HubRow) -> Result<(), StoreFault>
@@ -16,13 +29,31 @@ pub fn add_hub<S: Alter>(tx: &mut Transaction<'_, S>, row: &HubRow) -> Result<()
     ensures acts { Acts (AddHub row.now ∷ [])
         (state S.Store tx.old.conn.now) (state S.Store tx.new.conn.now) result }
 {
-    let hub = gln_value(&row.hub);
-    let retailer = gln_value(&row.retailer);
-    let key = key_value(&row.key);
     insert_ended(tx.execute(
         "INSERT INTO hub (hub, retailer, \"key\") VALUES (?1, ?2, ?3)",
-        &[hub, retailer, key],
+        &hub_cells(row),
     ))
+}
+
+/// Sets what stands under the hub's GLN.
+pub fn set_hub<S: Alter>(tx: &mut Transaction<'_, S>, row: &HubRow) -> Result<(), StoreFault>
+    ensures same_reference { tx.new.conn.ghost_name ≡ tx.old.conn.ghost_name }
+    ensures acts { Acts (SetHub row.now ∷ [])
+        (state S.Store tx.old.conn.now) (state S.Store tx.new.conn.now) result }
+{
+    update_ended(tx.execute(
+        "UPDATE hub SET retailer = ?2, \"key\" = ?3 WHERE hub = ?1",
+        &hub_cells(row),
+    ))
+}
+
+// The values of a supplier's key.
+fn key_cells(row: &KeyRow) -> [ValueRef<'_>; 2]
+    ensures { bound result ≡ spec.key_cells row.now }
+{
+    let supplier = gln_value(&row.supplier);
+    let key = key_value(&row.key);
+    [supplier, key]
 }
 
 /// Adds the key of a supplier.
@@ -31,11 +62,21 @@ pub fn add_key<S: Alter>(tx: &mut Transaction<'_, S>, row: &KeyRow) -> Result<()
     ensures acts { Acts (AddKey row.now ∷ [])
         (state S.Store tx.old.conn.now) (state S.Store tx.new.conn.now) result }
 {
-    let supplier = gln_value(&row.supplier);
-    let key = key_value(&row.key);
     insert_ended(tx.execute(
         "INSERT INTO supplier (supplier, \"key\") VALUES (?1, ?2)",
-        &[supplier, key],
+        &key_cells(row),
+    ))
+}
+
+/// Sets the key of a supplier.
+pub fn set_key<S: Alter>(tx: &mut Transaction<'_, S>, row: &KeyRow) -> Result<(), StoreFault>
+    ensures same_reference { tx.new.conn.ghost_name ≡ tx.old.conn.ghost_name }
+    ensures acts { Acts (SetKey row.now ∷ [])
+        (state S.Store tx.old.conn.now) (state S.Store tx.new.conn.now) result }
+{
+    update_ended(tx.execute(
+        "UPDATE supplier SET \"key\" = ?2 WHERE supplier = ?1",
+        &key_cells(row),
     ))
 }
 

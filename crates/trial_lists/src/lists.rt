@@ -61,7 +61,9 @@ pub(crate) fn copy_of(alloc: Global, change: &Change) -> Result<Change, MemoryFa
 {
     Ok(match change {
         Change::AddHub(row) => Change::AddHub(row.copy(alloc)?),
+        Change::SetHub(row) => Change::SetHub(row.copy(alloc)?),
         Change::AddKey(row) => Change::AddKey(row.copy(alloc)?),
+        Change::SetKey(row) => Change::SetKey(row.copy(alloc)?),
         Change::AddPrefix(row) => Change::AddPrefix(row.copy(alloc)?),
         Change::AddOrder(row) => Change::AddOrder(row.copy(alloc)?),
         Change::AddLine(row) => Change::AddLine(row.copy(alloc)?),
@@ -89,7 +91,9 @@ pub(crate) fn apply_one(lists: &mut Lists, change: Change)
 {
     match change {
         Change::AddHub(row) => put_row(&mut lists.hubs, row),
+        Change::SetHub(row) => set_row(&mut lists.hubs, row),
         Change::AddKey(row) => put_row(&mut lists.keys, row),
+        Change::SetKey(row) => set_row(&mut lists.keys, row),
         Change::AddPrefix(row) => put_row(&mut lists.prefixes, row),
         Change::AddOrder(row) => put_row(&mut lists.orders, row),
         Change::AddLine(row) => put_row(&mut lists.lines, row),

@@ -307,6 +307,32 @@ pub trait Settable: Row {
     ghost same_key: { (new old : Self) → is_eq (Self.compared old new) ≡ alike new old };
 }
 
+impl Settable for HubRow {
+    ghost use Rattle.hub_tables.specs.Rows.{same_hub};
+    ghost use Rattle.trial_rows.specs.Alike.{same_bytes};
+
+    ghost alike = { same_hub };
+
+    fn is_alike(&self, old: &Self) -> bool {
+        old.hub == self.hub
+    }
+
+    ghost same_key = { λ new old. same_bytes old.hub new.hub };
+}
+
+impl Settable for KeyRow {
+    ghost use Rattle.hub_tables.specs.Rows.{same_key};
+    ghost use Rattle.trial_rows.specs.Alike.{same_bytes};
+
+    ghost alike = { same_key };
+
+    fn is_alike(&self, old: &Self) -> bool {
+        old.supplier == self.supplier
+    }
+
+    ghost same_key = { λ new old. same_bytes old.supplier new.supplier };
+}
+
 impl Settable for LineRow {
     ghost use Rattle.hub_parties.specs.KeyOrder.{bytes_cmp};
     ghost use Rattle.hub_tables.specs.Rows.{same_line};

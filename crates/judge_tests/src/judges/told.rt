@@ -98,9 +98,13 @@ fn tell_change(out: &mut String, change: &Change) -> Result<(), AllocError> {
         Change::AddReceipt(row) => tell_receipt(out, row),
         Change::ClearReceipts(sscc) => write!(out, "clear {sscc}"),
         Change::AddContent(row) => tell_content(out, row),
-        // No message and no cancellation sets a mail or adds a party, so that none is wanted.
+        // No message and no cancellation sets a mail, adds a party or changes a key, so that none is wanted.
         Change::SetMail(_) => out.push_str("set mail"),
-        Change::AddHub(_) | Change::AddKey(_) | Change::AddPrefix(_) => out.push_str("party"),
+        Change::AddHub(_)
+        | Change::SetHub(_)
+        | Change::AddKey(_)
+        | Change::SetKey(_)
+        | Change::AddPrefix(_) => out.push_str("party"),
     }
 }
 

@@ -3,8 +3,14 @@ use Rattle.hub_writes.proofs.changes.apply.Goals as goal
 pub returns-in-AddHub-clause-acts : goal.returns-in-AddHub-clause-acts
 returns-in-AddHub-clause-acts g c = rw c.in-AddHub.is c.add_hub.ensures.acts
 
+pub returns-in-SetHub-clause-acts : goal.returns-in-SetHub-clause-acts
+returns-in-SetHub-clause-acts g c = rw c.in-SetHub.is c.set_hub.ensures.acts
+
 pub returns-in-AddKey-clause-acts : goal.returns-in-AddKey-clause-acts
 returns-in-AddKey-clause-acts g c = rw c.in-AddKey.is c.add_key.ensures.acts
+
+pub returns-in-SetKey-clause-acts : goal.returns-in-SetKey-clause-acts
+returns-in-SetKey-clause-acts g c = rw c.in-SetKey.is c.set_key.ensures.acts
 
 pub returns-in-AddPrefix-clause-acts : goal.returns-in-AddPrefix-clause-acts
 returns-in-AddPrefix-clause-acts g c = rw c.in-AddPrefix.is c.add_prefix.ensures.acts

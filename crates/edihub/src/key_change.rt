@@ -1,0 +1,73 @@
+//! Changing the key of one party.
+use crate::database::is_missing;
+use crate::fault::BeginFault;
+use crate::keys::key_at;
+use crate::tasks::written;
+use crate::tell;
+use edi_base::OfWrite;
+use edi_base::exit::FAILED;
+use hub_app::RekeyWords;
+use hub_commands::{KeyOutcome, key_change_run};
+use hub_parties::Key;
+use hub_rekey::{KeyOwner, Rekeyed, rekey};
+use hub_sql::SqliteStore;
+use hub_store::StoreFault;
+use sqlite_disk::{Start, Unknown};
+use sqlite_std_file::FileFrom;
+use sqlite_store::FileStore;
+
+// Changes the key in the database file, and closes it, with all that stands in the log beside it. No file is made.
+fn rekey_file<S: Start>(
+    rt: &HostRuntime,
+    path: &str,
+    owner: &KeyOwner,
+    key: Key,
+    start: S,
+) -> Result<Rekeyed, StoreFault> {
+    if is_missing(rt, path) {
+        return Err(StoreFault::Version);
+    }
+    let mut tables = SqliteStore::<FileStore<FileFrom<S>>>::at_path(rt, path, start).map_err(|(
+        fault,
+        _left,
+    )| fault)?;
+    let told = rekey(&mut tables, owner, key);
+    let _ = tables.into_connection().close();
+    told
+}
+
+// Whose key the words name.
+fn owner_of(words: &RekeyWords<'_>) -> KeyOwner {
+    match words.supplier {
+        Some(gln) => KeyOwner::Supplier(gln),
+        None => KeyOwner::Retailer,
+    }
+}
+
+// Does what the words ask. The file with the key is read first: the database is opened for a key alone.
+fn outcome_of(rt: &HostRuntime, words: &RekeyWords<'_>) -> Result<KeyOutcome, BeginFault> {
+    let text = key_at(rt, words.key_file)?;
+    let Some(key) = Key::parse(text.as_slice()) else {
+        return Ok(KeyOutcome::NoKey);
+    };
+    match rekey_file(rt, words.db, &owner_of(words), key, Unknown)? {
+        Rekeyed::Done => Ok(KeyOutcome::Done),
+        Rekeyed::Unknown => Ok(KeyOutcome::Unknown),
+    }
+}
+
+// Does it and prints what became of it.
+fn print_outcome(rt: &HostRuntime, words: &RekeyWords<'_>) -> Result<u8, BeginFault> {
+    let outcome = outcome_of(rt, words)?;
+    let mut out = OfWrite::new(rt.stdout());
+    let status = key_change_run(outcome, &mut out);
+    written(&out, status)
+}
+
+/// Changes the key of the party and in the database file that the words name, and answers the exit status.
+pub(crate) fn change_key(rt: &HostRuntime, words: &RekeyWords<'_>) -> u8 {
+    match print_outcome(rt, words) {
+        Ok(status) => status,
+        Err(fault) => tell(rt, fault, FAILED),
+    }
+}

@@ -1,0 +1,49 @@
+-- The method and the target of a request, by the bytes that a client sent.
+use Rattle.std.specs.Prelude.{ℕ, ◌+◌, Bool, ◌==◌, ◌||◌, ◌&&◌, not, nat_le, nat_eq, if◌then◌else◌, List, codes, length, drop}
+use Rattle.std.specs.Prelude.{Option, Some, None}
+use Rattle.std.specs.List.{list_all, prefix_len, take_while, ends_with}
+use Rattle.std.specs.Str.{bytes_eq}
+use Rattle.hub_journal.specs.declared.request.Request.{Request}
+
+-- a capital letter
+abbrev pub is_capital : ℕ → Bool
+is_capital byte = nat_le 0x41 byte && nat_le byte 0x5A
+
+-- CR or LF
+abbrev pub ends_line : ℕ → Bool
+ends_line byte = byte == 0x0D || byte == 0x0A
+
+-- the bytes before the first of these, or all
+abbrev pub until : ℕ → List ℕ → List ℕ
+until end bytes = take_while (λ byte. not (byte == end)) bytes
+
+-- the first line; empty lines before it do not count (RFC 9112, section 2.2)
+abbrev pub first_line : List ℕ → List ℕ
+first_line bytes = until 0x0D (until 0x0A (drop (prefix_len ends_line bytes) bytes))
+
+-- a method, and a target
+abbrev pub Words : Type 0
+Words = List ℕ × List ℕ
+
+abbrev pub words_of : Request → Words
+words_of request = (request.method.now, request.target.now)
+
+-- The first two words of a request line. A first word with another byte than a capital letter, such as the colon of a
+-- header field, is not a method.
+abbrev pub if_request : Words → Option Words
+if_request (method, target) =
+    if length method == 0 || (length target == 0 || not (list_all is_capital method)) then None else Some (method, target)
+
+-- the first two words of a line, parted by a space
+abbrev pub two_words : List ℕ → Words
+two_words line = let first = until 0x20 line in (first, until 0x20 (drop (length first + 1) line))
+
+-- the method and the target of the request that a client sent, if its first line has both
+unfoldable pub request_in : List ℕ → Option Words
+request_in sent = if_request (two_words (first_line sent))
+
+-- an upload, or a cancellation
+unfoldable pub is_told : Words → Bool
+is_told (method, target) =
+    bytes_eq method (codes "POST")
+    && (ends_with nat_eq target (codes "/interchanges") || ends_with nat_eq target (codes "/cancellations"))

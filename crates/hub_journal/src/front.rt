@@ -1,0 +1,69 @@
+//! Keeps the first bytes of a text, within a fixed room.
+ghost use Rattle.std.specs.Prelude.{◌≡◌, ◌+◌, ◌≤◌, ◌==◌, [], ◌++◌, length, take};
+ghost use Rattle.hub_journal.specs.Front.{kept};
+
+use std::marker::Model;
+
+/// How many bytes are kept at most.
+const ROOM: usize = 2_400;
+
+/// The first bytes of a text, at most 2,400. Contracts see them as a list. It takes no memory of an allocator.
+#[derive(Drop)]
+pub struct Front {
+    bytes: [u8; ROOM],
+    filled: usize,
+}
+
+impl Model for Front {
+    ghost use Rattle.std.specs.Prelude.{ℕ, List, take, ◌≤◌};
+
+    ghost Value = { List ℕ };
+
+    ghost view = { λ f. take f.filled f.bytes };
+
+    ghost invariant = { λ f. f.filled ≤ 2400 };
+}
+
+impl Front {
+    /// Nothing is kept yet.
+    pub fn new() -> Self
+        ensures { result ≡ [] }
+    {
+        Front {
+            bytes: [0; ROOM],
+            filled: 0,
+        }
+    }
+
+    /// Keeps these bytes too, as many as there is room for.
+    pub fn keep(&mut self, bytes: &[u8])
+        ensures { self.new ≡ kept self.old bytes.now }
+    {
+        let count = bytes.len().min(ROOM - self.filled);
+        self.append(&bytes[..count]);
+    }
+
+    fn append(&mut self, bytes: &[u8])
+        requires { length self.old + length bytes.now ≤ 2400 }
+        ensures { self.new ≡ self.old ++ bytes.now }
+    {
+        let end = self.filled + bytes.len();
+        self.bytes[self.filled..end].copy_from_slice(bytes);
+        self.filled = end;
+    }
+
+    /// Keeps no more than so many of the bytes.
+    pub(crate) fn cut(&mut self, most: usize)
+        ensures { self.new ≡ take most self.old }
+    {
+        self.filled = self.filled.min(most);
+    }
+
+    /// The bytes that are kept.
+    pub fn as_slice(&self) -> &[u8]
+        ensures value { result.now ≡ self.now }
+        ensures within { length result.now ≤ 2400 }
+    {
+        &self.bytes[..self.filled]
+    }
+}

@@ -1,0 +1,10 @@
+use Rattle.hub_writes.proofs.KeyRows.{set_key, cells, sets_key}
+use Rattle.hub_writes.proofs.Outcomes.{executed, set_acts}
+use Rattle.hub_writes.proofs.party.set_key.Goals as goal
+
+pub returns-clause-acts : goal.returns-clause-acts
+returns-clause-acts g c =
+    let row = c.args.row.now in
+    let did = executed g.S.Store set_key (cells row) _ _ _ c.execute.result c.execute.ensures.ended
+    c.execute.ensures.runs c.execute.ensures.survives c.key_cells.ensures in
+    set_acts g.S.Store _ _ _ _ c.execute.result did _ (sets_key row) c.update_ended.result c.update_ended.ensures
