@@ -3,36 +3,57 @@ EXAMPLE = 5412345000006 4012345500004 1748942400 1
 PROVED = crates/edihub/out/edihub
 SCRIPT = crates/trial_script/out/trial_script
 
-.PHONY: run day serve page page-test page-pictures try case test wrong split-commit hostile fuzz year crowd front-test worst hubs bench
+.PHONY: run runnable day serve page page-test page-pictures try case test wrong split-commit hostile fuzz year crowd front-test worst
+.PHONY: hubs bench
 .PHONY: join-test edihub trial_script tests_of_calls install uninstall deb deb-test clean
 
-# The main job, proved: the example's ORDERS interchange becomes the supplier's mailbox interchange. The program that does this
-# alone, as `edihub relay` does it, stands on six crates.
+# The main job: the example's ORDERS interchange becomes the supplier's mailbox interchange; first from a build without any proof, then
+# proved. The program that does this alone, as `edihub relay` does it, stands on six crates.
 run:
-	python3 -m tests.prove edirelay $(EXAMPLE)
-	crates/edirelay/out/edirelay $(EXAMPLE) < examples/orders.edi
+	python3 -m tests.relay_first $(EXAMPLE)
+
+# The program that `make day`, `make serve` and `make page` run: the proved one, or with UNPROVED=1 a build without any proof, which takes
+# some minutes, is slower, and is kept until a crate changes.
+ifeq ($(UNPROVED),1)
+RUNNABLE = crates/edihub/out/try/edihub
+LABEL = "Nothing of this program is proved: it is a build for trying, which checks each access as it runs, and is slower."
+runnable:
+	@echo $(LABEL)
+	@python3 -m tests.unproved_build edihub
+else
+RUNNABLE = ./edihub
+LABEL =
+runnable: edihub
+endif
+
+# A hub with the orders of the example day, and its page, without any proof: the address and the keys are printed, ^C ends it, and nothing
+# is left behind. On a fresh clone it takes some minutes to build, with two processors.
+try:
+	@$(MAKE) --no-print-directory page UNPROVED=1
 
 # Some days of one retailer with two suppliers and a third that joins, over a database file in a temporary folder.
-day: edihub
-	sh examples/day/day.sh ./edihub
+day: runnable
+	sh examples/day/day.sh $(RUNNABLE)
+	$(if $(LABEL),@echo $(LABEL))
 
 # A hub founded with the example register, on port 8080 of 127.0.0.1, over a database file in a temporary folder, for 1,000
 # connections; ^C ends it. `make serve PORT=8081 COUNT=10` takes another port, and as many connections.
 PORT = 8080
 COUNT = 1000
 
-serve: edihub
+serve: runnable
 	folder=$$(mktemp -d) && trap 'rm -rf "$$folder"' EXIT && \
-		./edihub init --register examples/register.toml --db "$$folder/hub.db" && trap : INT && \
-		{ ./edihub serve --db "$$folder/hub.db" --port $(PORT) --count $(COUNT) || case $$? in 1|3|130) ;; *) exit 1 ;; esac; }
+		$(RUNNABLE) init --register examples/register.toml --db "$$folder/hub.db" && trap : INT && \
+		{ $(RUNNABLE) serve --db "$$folder/hub.db" --port $(PORT) --count $(COUNT) || case $$? in 1|3|130) ;; *) exit 1 ;; esac; }
+	$(if $(LABEL),@echo $(LABEL))
 
 # The page for people, for trying alone: a hub of the example register with the orders of the example day, and a proxy
 # before it that serves the page.
 # ^C ends it. `make page PAGE_PORT=8001` takes another port.
 PAGE_PORT = 8000
 
-page: edihub
-	python3 examples/page/try.py ./edihub $(PAGE_PORT)
+page: runnable
+	@python3 examples/page/try.py $(RUNNABLE) $(PAGE_PORT) $(LABEL)
 
 # The page in headless Chromium and its readers in Node, some minutes, no part of the gate; and its pictures, made anew.
 page-test: edihub
@@ -57,11 +78,6 @@ tests_of_calls:
 	for crate in $(TESTS); do \
 		(mkdir -p crates/$$crate/out && cd crates/$$crate && rt test > out/log 2>&1 || { cat out/log; exit 1; }) || exit 1; \
 	done
-
-# The same job without any proof, in some seconds.
-try:
-	@echo "make try: this run proves nothing" >&2
-	cd crates/edirelay && rt try -- $(EXAMPLE) < ../../examples/orders.edi
 
 # Cases of `edihub` or `trial_script` without any proof, of one group or those with some words in their names: make case OF=orders WORDS=QTY
 case:

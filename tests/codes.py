@@ -18,7 +18,7 @@ from tests.harness.tree import ROOT
 HELP = os.path.join("crates", "hub_app", "src", "program.rt")
 CODE = re.compile(r"\b[EMB]\d\d\b")
 # a code that the documents name, as an example of a new one
-EXAMPLES = {os.path.join("docs", "CONTRIBUTING.md"): {"M13"}}
+EXAMPLES = {os.path.join("docs", "CONTRIBUTING.md"): {"M13", "B21"}}
 # faults of an upload, which `show` does not know
 NEVER_SHOWN = ("E08", "E09")
 SENTENCES = ("meaning", "cause", "remedy")

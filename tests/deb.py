@@ -160,7 +160,7 @@ def installed(told, tree, program):
     told.check("no configuration file that an upgrade could ask about", (status, said.strip()) == (0, ""), said)
     named = {it for unit in units(tree) for it in re.findall(rb"/usr/(?:local/)?(?:lib|bin)/edihub[\w./-]*", tree.read(unit))}
     lacking = [it for it in named if not tree.has(it.decode().lstrip("/"))]
-    told.check(f"{len(named)} files that units name are there", len(named) == 3 and not lacking, (named, lacking))
+    told.check(f"{len(named)} files that units name are there", len(named) == 4 and not lacking, (named, lacking))
     status, said = tree.sh("systemd-analyze verify edihub.service edihub-restart.timer edihub-backup.timer 2>&1")
     told.check("systemd reads the units", status == 0 and "edihub" not in said, said)
 

@@ -3,6 +3,7 @@ folder writes it so.
 
     python3 -m tests.layout"""
 import os
+import shutil
 import subprocess
 import sys
 
@@ -30,6 +31,10 @@ def main(words):
     if words:
         print("usage: python3 -m tests.layout")
         return 2
+    if not shutil.which("rattle"):
+        # the gate looks at it all the same
+        print("no rattle here, so the layout is not looked at")
+        return 0
     lines = out_of_layout()
     print(*lines, "these files need `rt fmt`" if lines else "each file is in the layout", sep="\n", flush=True)
     return 1 if lines else 0

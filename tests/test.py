@@ -19,9 +19,9 @@ from tests.cases import connections, corrections, hub_commands, hub_files, hub_r
 from tests.harness import processor_time
 from tests.harness.case import SECONDS
 from tests.harness.tree import ROOT
-from tests.trials import disturbed_commands, documents, failing_openings, files_brought_over, folder_feeding, held_file, kept_orders
-from tests.trials import lines_of_status_3, random_runs
-from tests.trials import refused_in_scripts, served_limits, serving, stopped_machine, stopped_program, units
+from tests.trials import changed_keys, disturbed_commands, documents, failing_openings, files_brought_over, folder_feeding, held_file
+from tests.trials import journal, kept_orders, lines_of_status_3, random_runs, refused_in_scripts, served_limits, serving, stopped_machine
+from tests.trials import stopped_program, units
 
 
 def built(crate):
@@ -40,6 +40,7 @@ PROGRAMS = [
 ]
 
 OF_EDIHUB = (
+    changed_keys,
     disturbed_commands,
     failing_openings,
     files_brought_over,
@@ -47,6 +48,7 @@ OF_EDIHUB = (
     documents,
     serving,
     served_limits,
+    journal,
     folder_feeding,
     units,
 )

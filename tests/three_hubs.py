@@ -134,7 +134,7 @@ def compared(program, parties, folders, draw, number):
     for place, folder in enumerate(folders, 1):
         with open(FILES[place - 1], encoding="ascii") as file:
             found(program, folder, file.read())
-        ports[f"127.0.0.1:808{place}"] = Supervised(program, folder, 1_000_000)
+        ports[f"127.0.0.1:88{place}"] = Supervised(program, folder, 1_000_000)
     whole = tempfile.mkdtemp()
     found(program, whole, register(*parties.entries, key=parties.keys[RETAILER]))
     try:

@@ -2,7 +2,7 @@
 import os
 import re
 
-from tests.cases import hub_files, key_files
+from tests.cases import hub_files, key_files, rekey
 from tests.cases.corrections import CORRECTED, CORRECTION, FOURTH_MAIL, TWELVE, corrected
 from tests.cases.registers import REGISTERS
 from tests.harness import database_files, hub_scripts
@@ -483,4 +483,5 @@ COMMANDS = [
     broken_output(),
     *map(key_files.by_files, (in_turn(), corrections(), folder_in_order(), denied(), joined(), *refused_joins(), broken_output())),
     *key_files.CASES,
+    *rekey.CASES,
 ]

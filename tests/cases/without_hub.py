@@ -439,7 +439,12 @@ WRONG_TO_SERVE = {
     "moment": WRONG["moment"],
 }
 # values at the limits, after which the database is looked for
-RIGHT_TO_SERVE = {"port": ("1", "65535", "00000000000080"), "count": ("1", "1000000", "00000001000000"), "moment": ("0", "4102444799")}
+RIGHT_TO_SERVE = {
+    "port": ("1", "65535", "00000000000080"),
+    "count": ("1", "1000000", "00000001000000"),
+    "moment": ("0", "4102444799"),
+    "journal": ("journal", "none/journal", ""),
+}
 SERVE_WORDS = [
     wrong_words("no words for serve", ["serve"]),
     *(wrong_words(f"serve without --{name}", serve_words(**{name: None})) for name in ("db", "port", "count")),
@@ -459,14 +464,16 @@ SERVE_WORDS = [
         for name, values in RIGHT_TO_SERVE.items()
         for value in values
     ),
-    *(wrong_words(f"serve with --{name} twice", [*serve_words(), f"--{name}", "1"]) for name in ("port", "count")),
+    *(wrong_words(f"serve with --{name} twice", [*serve_words(journal="1"), f"--{name}", "1"]) for name in ("port", "count", "journal")),
     wrong_words("serve with a word too many", [*serve_words(), "more"]),
     wrong_words("serve for a caller", [*serve_words(), "--as", RETAILER]),
     wrong_words("serve with a register", [*serve_words(), "--register", "register.toml"]),
     Case(
         "the help of serve",
         ["serve", "--help"],
-        output=lambda it: b"Usage: edihub serve" in it and b"--port" in it and b"connection 3 fault" in it and b"Exit status: 0" in it,
+        output=lambda it: all(
+            has in it for has in (b"Usage: edihub serve", b"--port", b"--journal", b"connection 3 fault", b"Exit status: 0")
+        ),
     ),
     Case("the help of the program names serve", ["--help"], output=lambda it: b"serve" in it),
 ]

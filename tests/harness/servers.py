@@ -3,6 +3,7 @@ import errno
 import os
 import resource
 import shutil
+import signal
 import socket
 import subprocess
 import tempfile
@@ -27,7 +28,8 @@ def free_port():
 
 def limit(room, seconds):
     """Before a program begins: so many bytes of address space, where that is not 0, and so much processor time, past which a signal ends
-    it."""
+    it. A write past the size that a file may have is a fault, and does not end it."""
+    signal.signal(signal.SIGXFSZ, signal.SIG_IGN)
     for what, much in ((resource.RLIMIT_AS, room), (resource.RLIMIT_CPU, seconds)):
         if much:
             resource.setrlimit(what, (much, much))

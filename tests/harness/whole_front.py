@@ -33,7 +33,7 @@ class WholeFront(Served):
     late = b""
 
     def __init__(self, hub_port):
-        self.queue = Queue("front/haproxy-behind-nginx.cfg", {"127.0.0.1:8080": hub_port})
+        self.queue = Queue("front/haproxy-behind-nginx.cfg", {"127.0.0.1:880": hub_port})
         super().__init__()
         self.plain = free_port()
         path = os.path.join(self.folder, "nginx.conf")

@@ -13,6 +13,7 @@ from tests.trials.refused_in_calls import calls_refused
 TRIALS = (
     damaged_files.files_damaged,
     full_disks.disks_full,
+    full_disks.served_on_full_disks,
     full_disks.migrations_on_full_disks,
     refused_memory.founding_refused,
     refused_memory.migration_refused,

@@ -2,13 +2,19 @@
 
 Each command, a founding too, ends with its named fault or `stopped`, status 3; nothing is done in part, and the same command with room
 goes through."""
+import os
 import resource
 import shutil
 import signal
+import time
 from collections import Counter
 
-from tests.harness.database_files import is_whole
-from tests.harness.hub_steps import init
+from tests.harness.database_files import is_whole, rows_in
+from tests.harness.http_texts import response
+from tests.harness.hub_scripts import interchange, order
+from tests.harness.hub_steps import init, told
+from tests.harness.register_texts import RETAILER
+from tests.harness.servers import Server, accepted
 from tests.hostile.shared import FOUNDED, IMPORT, KNOWN, folder_with_file, folder_with_orders, folder_without_hub, in_words, kept_of
 from tests.hostile.shared import old_file_of, rows_of, run
 
@@ -16,6 +22,8 @@ from tests.hostile.shared import old_file_of, rows_of, run
 ORDERS, OLD_ORDERS = 60, 300
 # the sizes, in bytes, past which no file may grow while a hub is founded or orders are imported: the last is ample
 MOST = 3_000_000
+# so many orders, sent one by one, do not fit into the room of twenty
+FEWER_ON_A_FULL_DISK = 900
 SIZES = range(0, MOST, MOST // 120)
 DISK = (3, b"", b"store disk\n")
 # how foundings and imports end, at one size or another
@@ -105,6 +113,77 @@ def disks_full(program, top):
     ends = [f"{imports[end]} imports ended {end}" for end in IMPORT_ENDS] + [f"{foundings[end]} foundings {end}" for end in FOUNDING_ENDS]
     print(f"a disk that is full: {', '.join(ends)}")
     return None
+
+
+def upload_of(number):
+    """The order of this number, as the retailer uploads it."""
+    return accepted(RETAILER, f"U{number}", "ORDERS", interchange(RETAILER, f"U{number}", order(str(number))))
+
+
+class Supervised:
+    """A hub that is served with `--stop-when-broken`, to which orders are sent one after another. Once it has ended it is begun again, as
+    a supervisor does."""
+
+    def __init__(self, program, folder):
+        self.program, self.folder, self.orders, self.room = program, folder, 0, resource.RLIM_INFINITY
+        self.begin()
+
+    def begin(self):
+        self.server = Server(self.program, 1000, folder=self.folder, more=["--stop-when-broken"])
+        self.allow(self.room)
+
+    def allow(self, room):
+        """From now on no file of the program may grow past this size."""
+        self.room = room
+        resource.prlimit(self.server.child.pid, resource.RLIMIT_FSIZE, (room, resource.RLIM_INFINITY))
+
+    def fill(self):
+        self.allow(max(os.path.getsize(os.path.join(self.folder, it)) for it in os.listdir(self.folder)))
+
+    def send(self):
+        """Sends the next order. Whether it was accepted; else the hub has ended by itself, and the order is to be sent again."""
+        _, request, status, body = upload_of(self.orders)
+        answer = self.server.ask(request)
+        if answer == response(status, body):
+            self.orders += 1
+            return True
+        stopped = told(f"interchange U{self.orders} messages 1", "stopped")
+        ended = (answer == response(503, stopped), *self.server.end()[::2])
+        if ended != (True, 3, b"store disk\n"):
+            raise OSError(f"order {self.orders}: {answer!r:.100}, then {ended}")
+        return False
+
+    def send_until_full(self):
+        while self.orders < FEWER_ON_A_FULL_DISK and self.send():
+            pass
+
+
+def served_on_full_disks(program, top):
+    """A hub under a supervisor whose disk fills, and has room again. What was accepted is kept, and the rest accepted then."""
+    hub = Supervised(program, folder_without_hub(top))
+    try:
+        kept = [hub.send() for _ in range(20)]
+        hub.fill()
+        hub.send_until_full()
+        full = hub.orders
+        for _ in range(3):
+            hub.begin()
+            hub.send_until_full()
+        begun = time.monotonic()
+        hub.room = resource.RLIM_INFINITY
+        hub.begin()
+        kept.append(hub.send())
+        seconds = time.monotonic() - begun
+    finally:
+        hub.server.child.kill()
+        hub.server.child.communicate()
+    if not all(kept) or hub.orders >= FEWER_ON_A_FULL_DISK:
+        return f"{hub.orders} orders were accepted, {full} of them before the disk was full"
+    numbers = {number for _, number in rows_in(hub.folder)[1]['"order"']}
+    if numbers != {str(it).encode() for it in range(hub.orders)}:
+        return f"{hub.orders} orders were accepted, and {len(numbers)} are kept"
+    print(f"a served hub ended itself on a full disk after {full} orders, and took the next one {seconds:.1f} s after a start with room")
+    return is_whole(hub.folder)
 
 
 def migrations_on_full_disks(program, top):

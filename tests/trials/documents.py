@@ -1,10 +1,11 @@
-"""Each command in README.md and docs/*.md has a trial here. Those of a block are run as they stand, in the order of the document; those in
-backticks are looked up. A block without a line of the table below is a failure, and so is a line without a block."""
+"""Each command in README.md, CHANGELOG.md and docs/*.md has a trial here. Those of a block are run as they stand, in the order of the
+document; those in backticks are looked up. A block without a line of the table below is a failure, and so is a line without a block."""
 import os
 import re
 import socket
 import struct
 import subprocess
+import sys
 import textwrap
 from concurrent.futures import ThreadPoolExecutor
 from contextlib import ExitStack
@@ -21,6 +22,11 @@ from tests.harness.register_texts import ALPHA, RETAILER
 from tests.harness.servers import listed
 from tests.harness.tree import EXAMPLES, OLDER_FILES, ROOT
 
+sys.path.insert(0, os.path.join(ROOT, "install"))
+import place  # noqa: E402
+
+# units of systemd itself that documents name
+SYSTEMS = {"systemd-time-wait-sync.service"}
 OLD_FILE = os.path.join(OLDER_FILES, "schema1_received.db")
 # lines between fences, or indented by four blanks, with empty lines between
 BLOCK = re.compile(r"^```[^\n]*\n(.*?)^```$|((?:^    [^\n]*\n(?:\n+(?=    ))?)+)", re.MULTILINE | re.DOTALL)
@@ -72,7 +78,7 @@ class Run:
         if not self.served:
             return self.run(reader, block, folder, self.instead)
         with reader.serving(SERVE, folder) as (port, child):
-            return self.run(reader, block, folder, {"8080": str(port), "PID": str(child.pid), **self.instead})
+            return self.run(reader, block, folder, {"8080": str(port), ":880 ": f":{port} ", "PID": str(child.pid), **self.instead})
 
     def run(self, reader, block, folder, instead):
         lines = lines_of(block)
@@ -125,6 +131,47 @@ def in_examples(folder):
         for line in lines_of(block):
             script(reader, line.replace("python3 ", f"python3 examples/{folder}/"))
             reader.looked_up += 1
+
+    return trial
+
+
+def of_the_package(_reader, line):
+    """A command that needs root and an installed package: the files of the package and the units that it names are there."""
+    files = [f"/usr/{it.target}" for it in place.parts()]
+    units = {os.path.basename(it) for it in files if f"/{place.UNITS}/" in it} | SYSTEMS
+    for path in re.findall(r"/usr/(?:bin|lib|share)/[\w./-]+", line):
+        hold(any(it == path or it.startswith(f"{path.rstrip('/')}/") for it in files), f"the package has no {path}")
+    named = {re.sub("@[^.]+", "@", it) for it in re.findall(r"(?<![\w/])[\w@.-]+\.(?:service|timer|path)\b", line)}
+    hold(named <= units, f"there is no unit {named - units}")
+
+
+def each_of_the_package(reader, block, _section):
+    for line in lines_of(block):
+        of_the_package(reader, line)
+        reader.looked_up += 1
+
+
+def made_for_the_front(reader, block, _section):
+    """The first two commands make the front's files, here of the examples; the others need root."""
+    folder, (made, copied, *_) = reader.new(), lines_of(block)
+    for line in (made, copied):
+        reader.run(re.sub(r" /etc/(nginx|haproxy)/", " ", line.replace("/usr/share/doc/edihub/", "")), folder)
+        reader.ran += 1
+    text = text_of(folder, "nginx.conf")
+    hold("root /usr/share/edihub/page;" in text and text.count("edi.example.com") == 3 and "hub.example.com" not in text, f"{text:.200}")
+    hold(text_of(folder, "haproxy.cfg") == text_of(EXAMPLES, "front", "haproxy-behind-nginx.cfg"), "another haproxy.cfg")
+
+
+def quoted(*path):
+    """How a block is tried that quotes a file: it has all lines, in this order, though perhaps with others between."""
+
+    def trial(reader, block, _section):
+        lines = iter([it.strip() for it in text_of(ROOT, *path).splitlines()])
+        # as `text_of` reads a file
+        latin = block.encode().decode("latin-1")
+        wrong = [it for it in map(str.strip, latin.splitlines()) if it not in lines]
+        hold(not wrong, f"{os.path.join(*path)} does not say {wrong[:1]}")
+        reader.looked_up += 1
 
     return trial
 
@@ -213,7 +260,10 @@ def script(_reader, span):
 
 def helped(reader, span):
     """A command of the program, or each where COMMAND stands for it, and options that its help names."""
-    every = re.findall(r"^  ([a-z]+) ", asked(reader.program, "--help")[1], re.MULTILINE)
+    whole = asked(reader.program, "--help")[1]
+    if span.split()[1].startswith("--"):
+        return hold(all(f"{it}\n" in whole or f"{it} " in whole for it in span.split()[1:]), f"no such option: {whole:.200}")
+    every = re.findall(r"^  ([a-z]+) ", whole, re.MULTILINE)
     every.remove("help")
     for word in every if span.split()[1] == "COMMAND" else span.split()[1:2]:
         status, printed = asked(reader.program, word, "--help")
@@ -250,13 +300,14 @@ def of_the_front(reader, span):
     reader.run(span, folder)
 
 
-NO_TRIAL = "systemctl apt-get nginx crontab node openssl journalctl sudo cat tail find cd rm mv mkdir tar rsync docker pip ./edihub"
+NO_TRIAL = "apt-get nginx crontab node openssl sudo cat tail find cd rm mv mkdir tar rsync docker pip ./edihub"
 # the words with which commands in backticks begin, and how those are looked up; without a trial they are failures where they come
 WORDS = {
     **dict.fromkeys(NO_TRIAL.split()),
     **dict.fromkeys(("ls", "chmod", "ps", "cp", "kill", "sqlite3"), beside_a_hub),
     **{"make": target, "edihub": helped, "rt": named("rt", "help"), "curl": named("curl", "--help", "all"), "haproxy": of_the_front},
     **{"grep": finds, "git": finds, "python3": script, "sh": script},
+    **dict.fromkeys(("systemctl", "journalctl"), of_the_package),
 }
 
 
@@ -282,26 +333,45 @@ FED = [told(f"interchange S{k} messages 1", f"1 {kind} repeated") for k, kind in
 FED = {f"in/alpha/done/{k}.edi.reply": reply for k, reply in enumerate(FED, 1)}
 # whose key is in which file
 KEPT = {"retail": RETAILER, "alpha": ALPHA}
-PICTURE, NGINX, PACKAGE = "a picture", "a configuration of nginx", "what installs the package, and begins the hub"
+PICTURE, NGINX = "a picture", "a configuration of nginx"
+# lines of a journal, and those of them that a search finds
+TIMED_OUT = f"2026-11-28T18:30:13Z 19 POST /p/{ALPHA}/interchanges timeout"
+REFUSED = f"2026-11-27T09:01:44Z 4 POST /p/{ALPHA}/interchanges 200 interchange A1 messages 1; 1 ORDRSP refused B02"
+LISTED = f"2026-11-27T09:01:45Z 5 GET /p/{ALPHA}/mail/after/400 200"
+JOURNAL = {"before": f"printf '%s\\n' '{REFUSED}' '{LISTED}' '{TIMED_OUT}' > journal", "instead": {"/var/lib/edihub/journal": "journal"}}
 # of each document with blocks, how each begins, and how it is tried; or what it is, where it has no command
 BLOCKS = {
-    "README.md": {"make run": looked_up},
+    "README.md": {"UNH+1": "an order", "UNB+UNOC:3": "its mail", "make try": looked_up},
     "docs/ARCHITECTURE.md": {"doors ": PICTURE},
-    "docs/CONTRIBUTING.md": {"grep -rn 'WithoutLines'": looked_up},
+    "docs/CONTRIBUTING.md": {"grep -rn 'MailboxFull'": looked_up, "grep -rn 'WithoutLines'": looked_up},
     "docs/FORMATS.md": {"UNA:": "the form of mail", "service component": shown_lines, "HTTP/1.1 200 OK": head_of_a_list},
+    "docs/INSTALL.md": {
+        "make edihub": looked_up,
+        "apt-get update": each_of_the_package,
+        "cp /usr/share": Run(instead={"/usr/share/doc/edihub/": ""}, says=(TWO,)),
+        "install -o edihub -m 600": each_of_the_package,
+        "install -d -o edihub": each_of_the_package,
+        "install -m 600 /dev/null": each_of_the_package,
+        "sed -e": made_for_the_front,
+        "curl https": each_of_the_package,
+        "systemctl start edihub-backup.service": each_of_the_package,
+        "systemctl show": each_of_the_package,
+    },
     "docs/OPERATING.md": {
-        "make deb": looked_up,
-        "apt-get install": PACKAGE,
-        "install -o edihub -m 600": PACKAGE,
-        "install -d -o root": PACKAGE,
+        "[Service]\nExecStart=": "a drop-in for systemd",
+        "install -d -o root": each_of_the_package,
         "python3 add_supplier.py": in_examples("front"),
         "join: accepted": "what the script prints",
         "edihub check": Run(prints=told(TWO, TWO), says=(TWO,)),
         "cp -p hub.db": Run(**OLD, prints=told(TWO, TWO), says=(TWO,), leaves={"hub.db.before": text_of(OLD_FILE)}),
         "sqlite3 hub.db 'SELECT": Run(**OLD, prints=told(ALPHA, f"{ALPHA}|{PALLET}", f"{ALPHA}|{OTHER_PALLET}")),
         "umask 077\ncat": Run(instead={f"cat > {it}.key": f"echo {KEYS[gln]} > {it}.key" for it, gln in KEPT.items()}),
-        "umask 077\nhead": Run(prints=told("accepted"), says=("accepted",)),
+        "umask 077\nhead -c 18 /dev/urandom | base64 > gamma.key": Run(prints=told("accepted"), says=("accepted",)),
+        "umask 077\nhead -c 18 /dev/urandom | base64 > alpha-new.key": Run(FOUND, True, prints=told("ok"), says=("ok",)),
         "edihub import": Run(prints=IMPORTED, leaves={"order.edi": FIRST_MAIL.partition("+250603")[0]}),
+        "grep '^2026": Run(**JOURNAL, prints=told(REFUSED)),
+        "grep -E '^[^ ]+": Run(**JOURNAL, prints=told(TIMED_OUT)),
+        "/var/lib/edihub/journal {": "a configuration of logrotate",
         "python3 feed.py": Run(served=True, prints=told("done 1.edi", "done 2.edi"), says=("done 1.edi",), leaves=FED),
         "python3 apart.py": Run(prints=told(HUBS), says=(HUBS,)),
         "kill -STOP PID": Run("mkdir backup", served=True, prints="", then="cmp hub.db backup/hub.db; cmp hub.db-wal backup/hub.db-wal"),
@@ -310,8 +380,17 @@ BLOCKS = {
         "sqlite3 hub.db 'PRAGMA": Run(prints=told("ok", "128576|1|48|14|C")),
     },
     "docs/PAGE.md": {"root /srv": NGINX, "GLN;Name": "a list of suppliers", "location = /suppliers.csv": NGINX},
+    "docs/PROMISES.md": {
+        "pub fn step": quoted("crates", "hub_core", "src", "hub.rt"),
+        "StepsFrom left": quoted("crates", "hub_core", "specs", "Hub.antt"),
+        "pub record Stepped": quoted("crates", "hub_core", "specs", "Steps.antt"),
+        "ghost content": quoted("crates", "hub_store", "src", "store.rt"),
+        "fn pallet": quoted("crates", "hub_store", "src", "store.rt"),
+        "fn commit": quoted("crates", "hub_store", "src", "store.rt"),
+        "pub done": quoted("crates", "hub_store", "specs", "Calls.antt"),
+    },
     "docs/REGISTER.md": {"hub = ": a_register, "edihub check": Run(prints=told(TWO))},
-    "docs/SERVING.md": {"edihub init": served, "listening 8080": printed_before, "server {": NGINX},
+    "docs/SERVING.md": {"edihub init": served, "listening 8080": printed_before, "2026-11-28T": "a journal", "server {": NGINX},
     "docs/SUPPLIER.md": {
         "X-Hub-Key: ": a_header,
         f"HUB=http://127.0.0.1:8080/p/{ALPHA}": Run(ORDERED, served=True, prints=MAIL + ANSWERED, leaves={"order.edi": FIRST_MAIL}),
@@ -361,7 +440,7 @@ def tried(document, program):
 
 def each_command(program):
     """What is wrong with a command of a document, if anything."""
-    names = ["README.md", *sorted(os.path.relpath(it, ROOT) for it in glob(os.path.join(ROOT, "docs", "*.md")))]
+    names = ["README.md", "CHANGELOG.md", *sorted(os.path.relpath(it, ROOT) for it in glob(os.path.join(ROOT, "docs", "*.md")))]
     with ThreadPoolExecutor() as pool:
         found = list(pool.map(lambda it: tried(it, program), names))
     counts = [sum(getattr(reader, it) for _, reader in found) for it in ("ran", "looked_up")]

@@ -1,4 +1,4 @@
-"""Each line of the list of docs/OPERATING.md that says what stands behind a status 3 has a trial here, which shows that it comes as the
+"""Each line of the list of docs/OPERATING.md that has the reasons for a status 3 has a trial here, which shows that it comes as the
 list says, and where. A line without a trial is a failure, and so is a trial without a line. Where the list names more than one cause of a
 line, the others are tried elsewhere: a standard output that is full, a database file that another command has."""
 import os
@@ -24,7 +24,7 @@ NOTHING = "nothing"
 def lines_of_the_list():
     """The lines of the list, with where each stands."""
     with open(GUIDE, encoding="utf-8") as file:
-        listed = file.read().partition("What stands behind a status 3:")[2].partition("\n\n**")[0]
+        listed = file.read().partition("Reasons for a status 3:")[2].partition("\n\n**")[0]
     for line, where in re.findall(r"^- (.+?)(?: \((.+?)\))?:", listed, re.MULTILINE):
         for word in [NOTHING] if line == NOTHING else re.findall("`([^`]+)`", line):
             yield word, where
@@ -105,7 +105,7 @@ def nothing(tried):
 # each line, where the list says that it stands, and whether it comes so
 LINES = {
     "stopped": ("standard output, last", stopped),
-    "fault": ("standard output, behind `file NAME`", fault),
+    "fault": ("standard output, after `file NAME`", fault),
     "file": ("standard error", file),
     "store disk": ("standard error", store_disk),
     "store version": ("standard error", store_version),

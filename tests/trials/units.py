@@ -2,6 +2,7 @@
 of one. Where systemd's tools are not installed only the last is tried."""
 import os
 import re
+import shlex
 import shutil
 import subprocess
 import tempfile
@@ -46,7 +47,7 @@ def why_not(unit):
 def is_as_one(number):
     """Whether the unit of the hub of this number says the same as that of a hub alone, but for number, port and file."""
     one, text = (text_of(EXAMPLES, *it).partition("\n")[2] for it in (("front", "edihub.service"), ("hubs", f"edihub-{number}.service")))
-    instead = {f"/edihub/{number}": "/edihub", f"hub {number}": "hub", f"--port 808{number}": "--port 8080"}
+    instead = {f"/edihub/{number}": "/edihub", f"hub {number}": "hub", f"--port 88{number}": "--port 880"}
     for place, words in instead.items():
         text = text.replace(place, words)
     return text == one
@@ -65,6 +66,27 @@ def hubs_alike():
     return f"{others} say something else than the units of one hub" if others else None
 
 
+def asked_of_systemctl(result, status):
+    """What the hub's unit asks of `systemctl` after the hub has ended so, in systemd's words."""
+    unit = text_of(EXAMPLES, "front", "edihub.service").replace("\\\n", "")
+    command = re.search(r"^ExecStopPost=\+/bin/(.*)$", unit, re.MULTILINE)[1].replace("$$", "$").replace("%n", "edihub.service")
+    with tempfile.TemporaryDirectory() as folder:
+        with open(os.path.join(folder, "systemctl"), "w", encoding="ascii") as file:
+            file.write('#!/bin/sh\necho "$@"\n')
+        os.chmod(file.name, 0o755)
+        variables = {"PATH": f"{folder}:/bin:/usr/bin", "SERVICE_RESULT": result, "EXIT_STATUS": status}
+        return subprocess.run(shlex.split(command), env=variables, stdout=subprocess.PIPE, text=True, timeout=SECONDS).stdout
+
+
+def alerts(_program):
+    """What is wrong with the alert. It comes if the hub has ended by itself, but not at the end of its connections or if it was stopped."""
+    alert = "start --no-block edihub-alert@edihub.service.service\n"
+    silent = [("success", "0"), ("success", "TERM"), ("exit-code", "1")]
+    told = [("exit-code", "3"), ("exit-code", "2"), ("signal", "KILL"), ("signal", "SEGV"), ("core-dump", "ABRT"), ("oom-kill", "KILL")]
+    asked = {it: asked_of_systemctl(*it) for it in (*silent, *told)}
+    return None if asked == {**dict.fromkeys(silent, ""), **dict.fromkeys(told, alert)} else f"after each end: {asked}"
+
+
 def read_by_systemd(_program):
     """What is wrong with a unit, if anything."""
     if not shutil.which("systemd-analyze"):
@@ -74,4 +96,4 @@ def read_by_systemd(_program):
         return hubs_alike() or next((why for why in map(why_not, instances(folder)) if why), None)
 
 
-TRIALS = [("units for systemd", read_by_systemd)]
+TRIALS = [("units for systemd", read_by_systemd), ("the alert of a hub that ended by itself", alerts)]
