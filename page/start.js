@@ -17,6 +17,7 @@ import { cancelScreen } from "./screens/cancel.js";
 import { cancelLinesScreen } from "./screens/cancel_lines.js";
 import { despatchScreen } from "./screens/despatch.js";
 import { entryScreen } from "./screens/entry.js";
+import { explainScreen } from "./screens/explain.js";
 import { labelsScreen } from "./screens/labels.js";
 import { mailboxScreen } from "./screens/mailbox.js";
 import { openLinesScreen } from "./screens/open_lines.js";
@@ -44,6 +45,7 @@ const SCREENS = {
     status: statusScreen,
     sent: sentScreen,
     labels: labelsScreen,
+    explain: explainScreen,
   },
   retailer: {
     upload: uploadScreen,
@@ -54,6 +56,7 @@ const SCREENS = {
     cancel: cancelScreen,
     "cancel-lines": cancelLinesScreen,
     sent: sentScreen,
+    explain: explainScreen,
   },
 };
 // the menu's item for a screen that is none itself
@@ -62,6 +65,7 @@ const BELONGS = {
   entry: "mailbox",
   answer: "mailbox",
   labels: "sent",
+  explain: "sent",
   "open-lines": "overview",
   search: "overview",
   "cancel-lines": "supplier",

@@ -7,6 +7,7 @@
 const SERVICE = /^UNA:\+[.,]\? '/;
 const TAG = /^[A-Z][A-Z0-9]{2}$/;
 const NO_DATA = /[^\x20-\x7e\xa0-\xff]/;
+const SPECIAL = /[?'+:]/;
 const LONGEST_TEXT = 1_048_576;
 const LONGEST_SEGMENT = 8_192;
 
@@ -22,7 +23,7 @@ export function canBeSent(text) {
 /** Data with a release character before each character that would else be special.
  * @param {string} data */
 export function released(data) {
-  return data.replace(/[?'+:]/g, "?$&");
+  return SPECIAL.test(data) ? data.replace(/[?'+:]/g, "?$&") : data;
 }
 
 /** The list without the empty texts at its end.
@@ -36,7 +37,7 @@ function withoutEmptyEnd(texts) {
  * @param {string} tag
  * @param {(string | string[])[]} elements */
 export function segmentText(tag, ...elements) {
-  const written = elements.map((it) => withoutEmptyEnd([it].flat()).map(released).join(":"));
+  const written = elements.map((it) => (typeof it === "string" ? released(it) : withoutEmptyEnd(it).map(released).join(":")));
   return [tag, ...withoutEmptyEnd(written)].join("+") + "'";
 }
 

@@ -1,12 +1,26 @@
 // @ts-check
 // Reads what was typed into a form, and puts it back. Each field has a name made of the legends around it and its own label, so that what
-// was typed for one order line or pallet never comes to another.
+// was typed for one order line or pallet never comes to another. Fields within `data-apart` are left out: the form itself keeps what they
+// say.
 
 /** @typedef {Record<string, string | boolean>} FormContent */
 /** @typedef {HTMLInputElement | HTMLSelectElement} Input */
 
+// All elements that match, but for those within `data-apart`, of which there can be very many.
+/** @param {Element} root @param {string} selector */
+function all(root, selector) {
+  const { FILTER_ACCEPT, FILTER_REJECT, FILTER_SKIP } = NodeFilter;
+  const found = [];
+  const walker = document.createTreeWalker(root, NodeFilter.SHOW_ELEMENT, (it) => {
+    const element = /** @type {HTMLElement} */ (it);
+    return element.dataset.apart !== undefined ? FILTER_REJECT : element.matches(selector) ? FILTER_ACCEPT : FILTER_SKIP;
+  });
+  while (walker.nextNode()) found.push(/** @type {HTMLElement} */ (walker.currentNode));
+  return found;
+}
+
 /** @param {Element} root */
-const inputs = (root) => /** @type {Input[]} */ ([...root.querySelectorAll("input:not([type=file]), select:not(.sort-choice *)")]);
+const inputs = (root) => /** @type {Input[]} */ (all(root, "input:not([type=file]), select:not(.sort-choice *)"));
 
 /** @param {Input} input @returns {input is HTMLInputElement} */
 const isChoice = (input) => ["radio", "checkbox"].includes(input.type);
@@ -14,7 +28,7 @@ const isChoice = (input) => ["radio", "checkbox"].includes(input.type);
 // The fields with their names. Labels are looked up in the form, which need not be in the page yet.
 /** @param {Element} root @returns {[string, Input][]} */
 function named(root) {
-  const labels = new Map([...root.querySelectorAll("label[for]")].map((it) => [it.getAttribute("for"), it.textContent]));
+  const labels = new Map(all(root, "label[for]").map((it) => [it.getAttribute("for"), it.textContent]));
   const label = (/** @type {Input} */ it) => labels.get(it.id) ?? it.closest("label")?.textContent ?? "";
   const own = (/** @type {Input} */ it) => (isChoice(it) && it.hasAttribute("value") ? it.value : label(it));
   return inputs(root).map((it) => [[...legends(it, root), own(it)].join("\n"), it]);

@@ -23,13 +23,17 @@ import { Summary } from "./summary.js";
  *   draft: string,
  *   content: Node[],
  *   prepare?: (draft: FormContent) => Promise<void>,
+ *   apart?: { content: () => string, putBack: (content: string) => Promise<string[]> },
  *   check: () => boolean,
  *   summary: () => import("./summary.js").SummaryWords,
  *   write: (stamp: Stamp) => string | null,
  *   settled: (verdict: Verdict) => void,
- * }} FormWords `draft` names the form's draft; `prepare` makes room in the form for a draft
+ * }} FormWords `draft` names the form's draft; `prepare` makes room in the form for a draft; `apart` is what was typed that is in no field,
+ *   and `putBack` returns what found no place in the form
  */
 
+// the name of what is in no field, which no field has
+const APART = "apart";
 const BACK = "What you typed here before is back. It was not sent. ";
 
 /** The form, with the draft that the tab keeps of it. @param {FormWords} words */
@@ -58,8 +62,9 @@ class SendingForm {
     const parts = [this.restored, this.fields, this.first, this.summary.element, this.region];
     this.element = element("form", { novalidate: true, onsubmit: (event) => event.preventDefault() }, ...parts);
     enterMoves(this.fields, checkButton);
-    this.pristine = JSON.stringify(contentOf(this.fields));
-    for (const it of ["input", "change", "click"]) this.fields.addEventListener(it, () => setTimeout(() => this.note()));
+    this.pristine = JSON.stringify(this.content);
+    this.isNoting = false;
+    for (const it of ["input", "change", "click"]) this.fields.addEventListener(it, () => this.noteSoon());
   }
 
   /** A new document, with a reference of its own. */
@@ -67,6 +72,12 @@ class SendingForm {
     const sending = this.list.begin(this.words.kind, "");
     sending.addEventListener("change", () => this.draw(sending));
     return sending;
+  }
+
+  /** What was typed. @returns {FormContent} */
+  get content() {
+    const { apart } = this.words;
+    return { ...contentOf(this.fields), ...(apart && { [APART]: apart.content() }) };
   }
 
   stamp() {
@@ -77,7 +88,9 @@ class SendingForm {
     const draft = draftOf(this.caller, this.words.draft);
     if (!draft) return;
     await this.words.prepare?.(draft);
-    const missing = putBack(this.fields, draft).map((it) => it.replaceAll("\n", ": "));
+    const { [APART]: apart, ...typed } = draft;
+    const missing = putBack(this.fields, typed).map((it) => it.replaceAll("\n", ": "));
+    if (apart) missing.push(...((await this.words.apart?.putBack(apart)) ?? []));
     const scratch = button("Start from scratch", () => this.discard(), { class: "quiet" });
     const lost = missing.length ? `It had something that is not in the form any more: ${missing.join(", ")}. ` : "";
     this.restored.replaceChildren(notice("plain", element("p", {}, BACK, lost, scratch)));
@@ -90,10 +103,18 @@ class SendingForm {
     this.words.context.go(location.hash.slice(1));
   }
 
+  /** Notes once for all that happens now. */
+  noteSoon() {
+    if (this.isNoting) return;
+    this.isNoting = true;
+    setTimeout(() => this.note());
+  }
+
   /** Notes whether there is typed work, and keeps it. */
   note() {
+    this.isNoting = false;
     if (this.fields.disabled || !["empty", "typed"].includes(this.sending.state)) return;
-    const content = contentOf(this.fields);
+    const { content } = this;
     const typed = JSON.stringify(content) !== this.pristine;
     this.sending.happen(typed ? "type" : "clear");
     if (typed) keepDraft(this.caller, this.words.draft, content);
@@ -120,7 +141,7 @@ class SendingForm {
   send() {
     const text = this.words.write(this.stamp());
     if (text === null || this.sending.state !== "review") return;
-    const draft = { name: this.words.draft, content: contentOf(this.fields) };
+    const draft = { name: this.words.draft, content: this.content };
     dropDraft(this.caller, draft.name);
     this.restored.replaceChildren();
     this.sending.send(text, { what: this.words.what(), draft });

@@ -2,6 +2,7 @@
 // A despatch advice (DESADV): pallets, and on each the lines of one or more orders, with no more than is open.
 
 import { articlesOf } from "../articles.js";
+import { Ledger, nameOf } from "../despatch/ledger.js";
 import { interchangeText } from "../edi/envelope.js";
 import { day } from "../edi/dates.js";
 import { despatchText } from "../edi/despatch.js";
@@ -10,36 +11,40 @@ import { actions, button, element, heading, link, saying } from "../parts/dom.js
 import { proposedNumber, wrongNumber } from "../parts/document_number.js";
 import { Field, check, focusFirstWrong } from "../parts/field.js";
 import { sendingForm } from "../parts/sending_form.js";
-import { SsccFields } from "../parts/sscc_fields.js";
-import { despatchSummary, palletsIn } from "./despatch_summary.js";
+import { palletsIn, putOnPallets, quantitiesOn } from "./despatch_draft.js";
+import { despatchSummary } from "./despatch_summary.js";
 import { labelsAddress } from "./labels.js";
+import { LeftLines } from "./left_lines.js";
 import { OrderChoice } from "./order_choice.js";
-import { Pallet, nameOf } from "./pallet.js";
+import { Pallets } from "./pallets.js";
+import { pastePallets } from "./paste_pallets.js";
 
 /** @typedef {import("../hub/replies.js").StatusLine} StatusLine */
+/** @typedef {import("./pallet.js").Pallet} Pallet */
 /** @typedef {{ lines: StatusLine[], pallets: import("../hub/replies.js").StatusPallet[] }} Status */
 
 class DespatchForm {
   /** @param {import("../session.js").Session} session @param {Status} status @param {string | null} order to begin with */
   constructor(session, status, order) {
     this.session = session;
-    this.articles = articlesOf(session);
+    const articles = articlesOf(session);
+    this.ledger = new Ledger();
     /** @type {StatusLine[]} */
     this.open = [];
     this.know(status);
-    this.orders = new OrderChoice(this.open, order, () => this.pallets.forEach((it) => it.offer(this.lines)));
-    /** @type {Pallet[]} */
-    this.pallets = [];
+    this.orders = new OrderChoice(this.open, order, () => this.offer());
     const hint = "Your delivery note's. Each is used once.";
     this.document = new Field({ label: "Number of the despatch", hint, value: proposedNumber(), maxlength: 35 });
-    this.sscc = new SsccFields(session, () => [...this.used, ...this.pallets.map((it) => it.number)]);
-    this.sscc.prefix.input.addEventListener("change", () => this.propose((it) => !isSscc(it.number)));
-    this.sscc.first.input.addEventListener("change", () => this.propose((it) => !isSscc(it.number) || it.number === it.proposed));
-    this.list = element("div", { class: "pallets", onchange: () => this.hold() });
+    this.pallets = new Pallets({ session, ledger: this.ledger, articles, used: () => this.used });
+    this.left = new LeftLines(this.ledger, articles);
+    this.ledger.addEventListener("change", () => this.left.draw());
     this.wrong = element("div", { role: "alert" });
     this.renumbered = element("span", { class: "said", role: "status" });
-    /** @type {Promise<unknown>} */
-    this.numbering = Promise.resolve();
+    this.offer();
+  }
+
+  get sscc() {
+    return this.pallets.sscc;
   }
 
   /** What the hub's status says now; a line that was offered stays, though nothing of it may be open any more. @param {Status} status */
@@ -47,60 +52,19 @@ class DespatchForm {
     const offered = new Set(this.open.map(nameOf));
     this.open = status.lines.filter((it) => !it.unsure && (it.open > 0 || offered.has(nameOf(it))));
     this.used = new Set(status.pallets.map((it) => it.sscc));
+    this.ledger.know(this.open);
   }
 
-  get lines() {
-    return this.open.filter((it) => this.orders.has(it.order));
-  }
-
-  /** @param {StatusLine} line @returns {import("./pallet.js").Tally} */
-  tally(line) {
-    const open = this.open.find((it) => nameOf(it) === nameOf(line))?.open ?? 0;
-    return { open, placed: this.pallets.reduce((all, it) => all + it.quantityOf(line), 0) };
-  }
-
-  /** Does what takes SSCCs in turn, so that two actions never take the same.
-   * @template T
-   * @param {() => Promise<T>} action
-   * @returns {Promise<T>} */
-  inTurn(action) {
-    const done = this.numbering.then(action);
-    this.numbering = done.catch(() => {});
-    return done;
-  }
-
-  /** Proposes SSCCs for the pallets that need one now, but not for those that are labelled; returns how many got one.
-   * @param {(pallet: Pallet) => boolean} needs */
-  async propose(needs) {
-    if (!this.sscc.take()) return 0;
-    const found = this.pallets.filter((it) => !it.isLabelled && needs(it)).map((pallet) => ({ pallet, value: pallet.sscc.value }));
-    return this.inTurn(async () => {
-      let count = 0;
-      for (const { pallet, value } of found) {
-        const sscc = await this.sscc.next();
-        // what the person types meanwhile stays
-        if (!sscc || pallet.sscc.value !== value) continue;
-        pallet.propose(sscc);
-        count += 1;
-      }
-      this.hold();
-      return count;
-    });
+  /** Offers the lines of the chosen orders on each pallet. */
+  offer() {
+    this.ledger.lines = this.open.filter((it) => this.orders.has(it.order));
+    this.pallets.offer();
+    this.left.draw();
   }
 
   /** New SSCCs for all pallets that are not labelled. */
   async renumber() {
-    const count = await this.propose(() => true);
-    const kept = this.pallets.length - count;
-    const words = [`${count} ${count === 1 ? "pallet has a new SSCC" : "pallets have new SSCCs"}.`, kept ? `${kept} unchanged.` : ""];
-    this.renumbered.textContent = words.join(" ").trim();
-    if (!count && this.pallets.some((it) => !it.isLabelled)) this.sscc.askForPrefix();
-  }
-
-  /** Holds the SSCCs of the form, so that another tab does not propose them; and says where another tab was earlier. */
-  hold() {
-    this.sscc.held.keepOnly(this.pallets.map((it) => it.number));
-    for (const pallet of this.pallets) if (isSscc(pallet.number)) this.holdOne(pallet);
+    this.renumbered.textContent = await this.pallets.renumber();
   }
 
   /** Frees its SSCCs for other forms, unless what was sent has no answer yet. */
@@ -108,68 +72,49 @@ class DespatchForm {
     if (!this.session.sent.unsettled.length) this.sscc.held.end();
   }
 
-  /** @param {Pallet} pallet */
-  async holdOne(pallet) {
-    if (!(await this.sscc.held.hold(pallet.number))) pallet.sscc.say("A form in another tab of this browser has the same SSCC.");
+  /** Puts pasted rows on the pallets, and chooses the orders that they name. @param {import("./paste_pallets.js").Placing[]} rows */
+  place(rows) {
+    this.orders.choose(rows.map((it) => it.line.order));
+    return this.pallets.place(rows);
   }
 
-  add() {
-    return this.inTurn(() => this.addNext());
-  }
-
-  async addNext() {
-    const sscc = await this.sscc.next();
-    const { lines, articles } = this;
-    const pallet = new Pallet({ sscc, lines, articles, tally: (it) => this.tally(it), remove: (it) => this.remove(it) });
-    this.pallets.push(pallet);
-    this.list.append(pallet.element);
-    this.number();
-    this.hold();
-    return pallet;
-  }
-
-  /** Has as many pallets as a draft, whose SSCCs are the person's. @param {number} count */
-  async makeRoom(count) {
-    while (this.pallets.length < count) await this.add();
-    for (const pallet of this.pallets) pallet.proposed = "";
-  }
-
-  /** @param {Pallet} pallet */
-  async remove(pallet) {
-    this.pallets.splice(this.pallets.indexOf(pallet), 1);
-    pallet.element.remove();
-    this.hold();
-    if (!this.pallets.length) await this.add();
-    this.number();
-    this.pallets[this.pallets.length - 1].sscc.input.focus();
-  }
-
-  number() {
-    this.pallets.forEach((it, place) => (it.legend.textContent = `Pallet ${place + 1}`));
+  /** What was typed of lines that pallets need not list. */
+  get apart() {
+    return {
+      content: () => quantitiesOn(this.pallets.all),
+      putBack: async (/** @type {string} */ quantities) => {
+        const lost = putOnPallets(quantities, this.pallets.all, this.ledger);
+        await this.pallets.drawRestored();
+        return lost;
+      },
+    };
   }
 
   get fields() {
-    return [this.document, ...this.sscc.fields, this.orders, ...this.pallets.flatMap((it) => it.fields)];
+    return [this.document, ...this.sscc.fields, this.orders, ...this.pallets.all.flatMap((it) => it.fields)];
   }
 
   check() {
     const prefix = this.sscc.prefix.trimmed;
-    const others = (/** @type {Pallet} */ pallet) => this.pallets.slice(0, this.pallets.indexOf(pallet));
+    const pallets = this.pallets.all;
     const right = [
       check(this.document, wrongNumber(this.document.value)),
       this.sscc.check(),
       this.orders.check(),
-      ...this.pallets.map((it) => it.check({ prefix, used: this.used, others: others(it) })),
+      ...pallets.map((it, place) => it.check({ prefix, used: this.used, others: pallets.slice(0, place) })),
     ].every(Boolean);
     this.wrong.replaceChildren();
-    if (!right) focusFirstWrong(this.fields);
-    return right;
+    if (right) return true;
+    pallets.find((it) => it.isWrong)?.reveal();
+    focusFirstWrong(this.fields);
+    return false;
   }
 
   /** The message, or null while a pallet is not complete. @param {Date} moment @param {string} buyer */
   message(moment, buyer) {
-    if (this.pallets.some((it) => !it.contents.length || !isSscc(it.number))) return null;
-    const units = this.pallets.map((pallet) => ({
+    const pallets = this.pallets.all;
+    if (pallets.some((it) => !it.load.size || !isSscc(it.number))) return null;
+    const units = pallets.map((pallet) => ({
       sscc: pallet.number,
       lines: pallet.contents.map(({ line: { order, line, gtin }, quantity }) => ({ order, line, gtin, quantity })),
     }));
@@ -179,7 +124,7 @@ class DespatchForm {
   /** Says what the hub refused at the fields that its code speaks of, by the status as it is now. @param {string} code */
   async showRefusal(code) {
     this.know(await this.session.status());
-    this.pallets.forEach((it) => it.offer(this.lines));
+    this.offer();
     if (this.check()) {
       if (code === "B13") this.document.say("You have sent a despatch advice of this number before. Take another one.");
       if (code === "M02") this.document.say("The hub does not take this number.");
@@ -193,7 +138,7 @@ class DespatchForm {
 
   /** @param {string} wrong */
   sayAtPallets(wrong) {
-    for (const pallet of this.pallets) pallet.sscc.say(wrong);
+    for (const pallet of this.pallets.all) pallet.sscc.say(wrong);
   }
 }
 
@@ -211,7 +156,7 @@ export async function despatchScreen(context, word) {
     return { title, content: [heading(title), ...(unsure.length ? unsure : [nothing])] };
   }
   const form = new DespatchForm(session, status, entry?.order?.document ?? (orders.length === 1 ? orders[0] : null));
-  await form.add();
+  await form.pallets.add();
   const next = element("div", {});
   let sent = "";
   const sending = await sendingForm({
@@ -221,9 +166,10 @@ export async function despatchScreen(context, word) {
     noun: "despatch advice",
     draft: `despatch/${word ?? ""}`,
     content: contentOf(form, unsure),
-    prepare: (draft) => form.makeRoom(palletsIn(draft)),
+    prepare: (draft) => form.pallets.makeRoom(palletsIn(draft)),
+    apart: form.apart,
     check: () => form.check(),
-    summary: () => despatchSummary(form.document.value, form.pallets),
+    summary: () => despatchSummary(form.document.value, form.pallets.all),
     write: ({ reference, moment }) => {
       const message = form.message(moment, parties.buyer);
       sent = reference;
@@ -232,7 +178,7 @@ export async function despatchScreen(context, word) {
     settled: ({ outcome, code }) => {
       if (outcome === "refused") form.showRefusal(code);
       else {
-        form.sscc.held.announce(form.pallets.map((it) => it.number));
+        form.sscc.held.announce(form.pallets.all.map((it) => it.number));
         next.replaceChildren(nextSteps(go, sent));
       }
     },
@@ -250,11 +196,27 @@ function unsureNotice({ lines }) {
 
 /** @param {DespatchForm} form @param {HTMLElement[]} unsure */
 function contentOf(form, unsure) {
-  const add = async () => (await form.add()).sscc.input.focus();
-  const renumber = button("Renumber the pallets without a label", () => form.renumber(), { class: "renumber" });
-  const tools = actions(button("Add a pallet", add, { class: "add" }), renumber, form.renumbered);
+  const { pallets } = form;
   const fields = [form.document, ...form.sscc.fields].map((it) => it.element);
-  return [element("div", { class: "columns" }, ...fields), ...unsure, form.orders.element, form.list, tools, form.wrong];
+  const ssccs = () => pallets.all.map((it) => it.number);
+  const paste = pastePallets({ lines: () => form.open, pallets: ssccs, place: (rows) => form.place(rows) });
+  const seen = actions(
+    button("Collapse all pallets", () => pallets.collapseAll(true), { class: "quiet collapse" }),
+    button("Expand all pallets", () => pallets.collapseAll(false), { class: "quiet expand" }),
+  );
+  const overall = [form.orders.element, paste, form.left.element, seen];
+  return [element("div", { class: "columns" }, ...fields), ...unsure, ...overall, pallets.element, tools(form), form.wrong];
+}
+
+/** @param {DespatchForm} form */
+function tools(form) {
+  const add = async () => {
+    const pallet = await form.pallets.add();
+    pallet.sscc.input.focus();
+    form.pallets.tools.changed();
+  };
+  const renumber = button("Renumber the pallets without a label", () => form.renumber(), { class: "renumber" });
+  return actions(button("Add a pallet", add, { class: "add" }), renumber, form.renumbered);
 }
 
 /** @param {(to: string) => void} go @param {string} sent the reference of what was sent */

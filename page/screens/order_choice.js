@@ -15,7 +15,8 @@ export class OrderChoice {
     const id = newId("orders");
     this.wrong = element("p", { class: "wrong", id, role: "alert" });
     const choices = orders.map((it) => this.#choice(it, lines.filter((line) => line.order === it), id));
-    this.input = choices[0].input;
+    this.inputs = choices.map((it) => it.input);
+    this.input = this.inputs[0];
     const legend = element("legend", {}, "Orders that have something open");
     this.element = element("fieldset", { class: "orders" }, legend, ...choices.map((it) => it.element), this.wrong);
   }
@@ -35,6 +36,15 @@ export class OrderChoice {
     const open = ` ${lines.length === 1 ? "1 line" : `${lines.length} lines`}, ${pieces} open`;
     const said = element("span", {}, orderNumber(lines[0]), element("small", {}, open));
     return { input, element: element("label", { class: "choice" }, input, said) };
+  }
+
+  /** Chooses these orders too. @param {string[]} orders */
+  choose(orders) {
+    const missing = new Set(orders.filter((it) => !this.chosen.has(it)));
+    for (const input of this.inputs) if (missing.has(input.value)) input.checked = true;
+    missing.forEach((it) => this.chosen.add(it));
+    this.wrong.textContent = "";
+    if (missing.size) this.changed();
   }
 
   /** @param {string} order */

@@ -1,49 +1,51 @@
 // @ts-check
-// A pallet in the form of a despatch: its SSCC, and how much of each open order line is on it.
+// A pallet in the form of a despatch: its SSCC, and how much of each open order line is on it. Collapsed it shows how much alone.
 
+import { Load } from "../despatch/ledger.js";
 import { isPrefix, isSscc, isUnder, withCheckDigit } from "../edi/identifiers.js";
 import { ssccOf } from "../edi/sscc.js";
-import { articleCell, articleColumn } from "../parts/article.js";
-import { actions, button, element, figure, newId } from "../parts/dom.js";
-import { Field, check, wholeNumber } from "../parts/field.js";
-import { orderInWords, orderNumber } from "../parts/order_number.js";
-import { Table } from "../parts/table.js";
+import { button, counted, element, newId } from "../parts/dom.js";
+import { Field, check } from "../parts/field.js";
+import { PalletLines } from "./pallet_lines.js";
+import { PalletTools } from "./pallet_tools.js";
 
-/** @typedef {import("../hub/replies.js").StatusLine} StatusLine */
-/** @typedef {{ line: StatusLine, field: Field }} Row */
-/** @typedef {{ open: number, placed: number }} Tally what of a line is open, and what of it is on the pallets of the form */
+/** @typedef {import("../despatch/ledger.js").Ledger} Ledger */
 
-/** A line of an order, as one name. @param {StatusLine} line */
-export const nameOf = (line) => `${line.order}\n${line.line}`;
+// so many lines are all listed, if nobody asked for anything else
+const FEW = 12;
+const NOTHING = "Put something on this pallet, or remove it.";
 
 export class Pallet {
-  /** @param {{ sscc: string, lines: StatusLine[], articles: import("../articles.js").Articles,
-   *   tally: (line: StatusLine) => Tally, remove: (pallet: Pallet) => void }} words */
-  constructor({ sscc, lines, articles, tally, remove }) {
-    this.articles = articles;
-    this.tally = tally;
+  /** @param {{ sscc: string, ledger: Ledger, articles: import("../articles.js").Articles, form: import("./pallet_tools.js").Form,
+   *   isCollapsed?: boolean, wantsAll?: boolean | null }} words `wantsAll`: whether the person asked for all lines, null if for nothing */
+  constructor({ sscc, ledger, articles, form, isCollapsed = false, wantsAll = null }) {
+    this.ledger = ledger;
+    this.load = new Load(ledger);
     this.proposed = sscc;
+    this.isCollapsed = isCollapsed;
+    this.wantsAll = wantsAll;
+    this.isStale = true;
+    this.isEmptyWrong = false;
     const hint = "18 digits, typed or scanned. Type 17, and the page adds the check digit.";
     this.sscc = new Field({ label: "SSCC", hint, value: sscc, inputmode: "numeric", maxlength: 48 });
     this.sscc.input.addEventListener("change", () => (this.sscc.value = this.number));
     this.labelled = /** @type {HTMLInputElement} */ (element("input", { type: "checkbox", id: newId("labelled"), class: "labelled" }));
-    /** @type {Row[]} */
-    this.rows = [];
     this.legend = element("legend", {});
-    this.list = element("div", {});
+    this.lines = new PalletLines(ledger, this.load, articles);
+    this.tools = new PalletTools(this, form);
+    const id = newId("on-pallet");
+    this.toggle = button("", () => this.collapse(!this.isCollapsed), { class: "quiet toggle", "aria-controls": id });
+    this.body = element("div", { class: "on-pallet", id }, element("div", { "data-apart": true }, this.lines.element), this.tools.element);
     this.element = element(
       "fieldset",
       { class: "pallet card" },
       this.legend,
       this.sscc.element,
       element("label", { class: "choice label-tick" }, this.labelled, element("span", {}, "Labelled: its label is printed")),
-      this.list,
-      actions(
-        button("Put all that is open on it", () => this.fill(), { class: "fill" }),
-        button("Remove this pallet", () => remove(this), { class: "quiet remove" }),
-      ),
+      this.toggle,
+      this.body,
     );
-    this.offer(lines);
+    this.drawHead();
   }
 
   /** The digits of the SSCC, however they are grouped or scanned. */
@@ -63,61 +65,83 @@ export class Pallet {
     this.sscc.say("");
   }
 
-  /** Offers these order lines; what was typed stays. @param {StatusLine[]} lines */
-  offer(lines) {
-    const typed = new Map(this.rows.map((it) => [nameOf(it.line), it.field.value]));
-    this.rows = lines.map((line) => ({ line, field: quantityField(line, typed.get(nameOf(line)) ?? "") }));
-    const words = { caption: "What is on this pallet", kind: "contents", empty: "Choose an order above." };
-    this.list.replaceChildren(new Table({ ...words, columns: columns(this.articles), rows: this.rows }).element);
+  /** @param {boolean} isCollapsed */
+  collapse(isCollapsed) {
+    if (this.isCollapsed === isCollapsed) return;
+    this.isCollapsed = isCollapsed;
+    this.draw();
   }
 
-  /** @param {StatusLine} line */
-  quantityOf(line) {
-    return wholeNumber(this.rows.find((it) => nameOf(it.line) === nameOf(line))?.field.value ?? "") || 0;
+  get listsAll() {
+    return this.wantsAll ?? this.ledger.lines.length <= FEW;
   }
 
-  fill() {
-    for (const { line, field } of this.rows) {
-      const { open, placed } = this.tally(line);
-      const quantity = this.quantityOf(line) + open - placed;
-      field.value = quantity > 0 ? String(quantity) : "";
-      field.input.dispatchEvent(new Event("input", { bubbles: true }));
+  /** Lists all lines, or only those that are on it. @param {boolean} wantsAll */
+  listAll(wantsAll) {
+    this.wantsAll = wantsAll;
+    this.draw();
+  }
+
+  draw() {
+    this.isStale = false;
+    this.body.hidden = this.isCollapsed;
+    const listed = this.listsAll ? this.ledger.lines : this.load.typed;
+    this.lines.draw(this.isCollapsed ? [] : listed);
+    this.body.classList.toggle("long", listed.length > FEW);
+    this.tools.draw();
+    this.drawHead();
+  }
+
+  drawHead() {
+    const { size, pieces } = this.load;
+    const wrongs = this.lines.wrongs.size;
+    const on = size ? `${counted(size, "line")}, ${counted(pieces, "piece")}` : "Nothing on it yet";
+    const words = wrongs ? `${on}, ${wrongs} to correct` : on;
+    if (this.toggle.textContent !== words) this.toggle.textContent = words;
+    this.element.classList.toggle("collapsed", this.isCollapsed);
+    this.toggle.setAttribute("aria-expanded", String(!this.isCollapsed));
+    this.toggle.classList.toggle("has-wrong", this.isWrong);
+  }
+
+  /** Shows what changed of the lines of these names. @param {Set<string>} names */
+  refresh(names) {
+    this.lines.refresh(names);
+    if (this.isEmptyWrong && this.load.size) {
+      this.isEmptyWrong = false;
+      this.lines.rows[0]?.field.say("");
     }
+    this.drawHead();
   }
 
   /** The lines that are on it. */
   get contents() {
-    return this.rows.filter(({ line }) => this.quantityOf(line) > 0).map(({ line }) => ({ line, quantity: this.quantityOf(line) }));
+    return this.load.contents;
   }
 
   get fields() {
-    return [this.sscc, ...this.rows.map((it) => it.field)];
+    return [this.sscc, ...this.lines.rows.map((it) => it.field)];
+  }
+
+  get isWrong() {
+    return this.lines.wrongs.size > 0 || this.isEmptyWrong;
   }
 
   /** @param {{ prefix: string, used: Set<string>, others: Pallet[] }} known */
   check({ prefix, used, others }) {
     const right = check(this.sscc, wrongSscc(this.number, prefix, used, others));
-    const quantities = this.rows.map(({ line, field }) => check(field, wrongQuantity(field.trimmed, this.tally(line))));
-    if (!this.contents.length && quantities.every(Boolean)) this.rows[0]?.field.say("Put something on this pallet, or remove it.");
-    return right && quantities.every(Boolean) && this.contents.length > 0;
+    this.lines.check();
+    this.isEmptyWrong = !this.lines.wrongs.size && !this.load.size && this.ledger.lines.length > 0;
+    this.drawHead();
+    return right && this.load.size > 0 && !this.isWrong;
   }
-}
 
-/** @param {StatusLine} line @param {string} value */
-function quantityField(line, value) {
-  const label = `Quantity of order ${orderInWords(line)}, line ${line.line}`;
-  return new Field({ label, hidden: true, value, inputmode: "numeric", maxlength: 9, class: "short" });
-}
-
-/** @param {import("../articles.js").Articles} articles @returns {import("../parts/table.js").Column<Row>[]} */
-function columns(articles) {
-  return [
-    { title: "Order", cell: (it) => orderNumber(it.line) },
-    { title: "Line", cell: (it) => it.line.line },
-    articleColumn((/** @type {Row} */ it) => it.line.gtin, ({ line }) => articleCell(line.gtin, articles.of(line))),
-    { title: "Open", cell: (it) => figure(it.line.open), number: true },
-    { title: "On this pallet", cell: (it) => it.field.element, csv: (it) => it.field.trimmed },
-  ];
+  /** Brings the fields into the page that say what is wrong with what is on it. */
+  reveal() {
+    if (this.isEmptyWrong && !this.load.typed.length) this.wantsAll = true;
+    this.isCollapsed = false;
+    this.draw();
+    if (this.isEmptyWrong) this.lines.rows[0]?.field.say(NOTHING);
+  }
 }
 
 /** @param {string} sscc @param {string} prefix @param {Set<string>} used @param {Pallet[]} others */
@@ -127,11 +151,4 @@ function wrongSscc(sscc, prefix, used, others) {
   if (isPrefix(prefix) && !isUnder(sscc, prefix)) return `After its first digit it does not begin with your prefix ${prefix}.`;
   if (others.some((it) => it.number === sscc)) return "Another pallet of this form has the same SSCC.";
   return used.has(sscc) ? "You have used this SSCC before. Take a new one: an SSCC is used once, for ever." : "";
-}
-
-/** @param {string} text @param {Tally} tally */
-function wrongQuantity(text, { open, placed }) {
-  if (text === "") return "";
-  if (Number.isNaN(wholeNumber(text))) return "Give a whole number.";
-  return placed > open && wholeNumber(text) > 0 ? `Only ${figure(open)} are open, and ${figure(placed)} are on your pallets.` : "";
 }

@@ -15,7 +15,8 @@ const KEPT = "What this tab has sent since you signed in, the latest first. It i
 export async function sentScreen({ session }) {
   const rows = [...session.sent.sendings];
   const table = new Table({ caption: "What was sent", kind: "sent", columns: columns(), rows, empty: "Nothing was sent yet." });
-  return { title: "Sent", content: [heading("Sent"), element("p", { class: "lead" }, KEPT), table.element] };
+  const check = element("p", {}, link("Check a file", "explain"), " without sending it.");
+  return { title: "Sent", content: [heading("Sent"), element("p", { class: "lead" }, KEPT), table.element, check] };
 }
 
 /** @returns {import("../parts/table.js").Column<Sending>[]} */

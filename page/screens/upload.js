@@ -43,7 +43,8 @@ export async function uploadScreen({ session }) {
   // names are wanted only once the hub has answered
   const { list } = plannerAtOnce(session);
   const zone = dropZone(CHOICE, (files) => queue.choose(files));
-  return { title: "Upload", content: [heading("Upload"), zone, ...queueView(queue, (gln) => list.nameOf(gln))] };
+  const check = element("p", {}, link("Check a file", "explain"), " without sending it.");
+  return { title: "Upload", content: [heading("Upload"), zone, check, ...queueView(queue, (gln) => list.nameOf(gln))] };
 }
 
 /** @param {UploadQueue} queue @param {(gln: string) => string} nameOf */

@@ -11,7 +11,7 @@ from tests.page.screens import furnished, opened
 from tests.page.stage import ALPHA, RETAILER, Stage, gtin, interchange, order, signed_in
 
 # what a spreadsheet would run or change, in the numbers of orders
-SCREENS_WITH_TABLES = ("today", "mailbox", "order", "answer", "despatch", "receipt", "status", "upload", "supplier")
+SCREENS_WITH_TABLES = ("today", "mailbox", "order", "answer", "despatch", "pallets", "receipt", "status", "upload", "supplier")
 SCREENS_WITH_TABLES += ("overview", "open-lines", "search")
 NUMBERS = ["=1+1", "+1", "-1", "@SUM(A1)", "0012", "12-06", "1E5", 'a;b,"c', "'x", "1234567890123456", " =2"]
 FORMULAS = ("=", "+", "-", "@", "\t", "\r")
@@ -28,7 +28,7 @@ SHOWN = """const text = it => [...it.querySelectorAll('input')].find(one => one.
 
 def file_of(browser, caption, separator=","):
     """The rows of the table's file; its form is that of RFC 4180, in UTF-8 with its mark."""
-    its_button = "return [...document.querySelectorAll('button.csv')].find(it => it.ariaLabel === arguments[0])"
+    its_button = "return [...document.querySelectorAll('button.csv')].find(it => it.ariaLabel === arguments[0] && it.checkVisibility())"
     browser.click(browser.run(its_button, f"Download CSV: {caption}")[ELEMENT])
     data = bytes(browser.run(BYTES))
     assert data.startswith(b"\xef\xbb\xbf") and data.endswith(b"\r\n"), data[:80]

@@ -12,7 +12,7 @@ SIZES = {"wide": (1100, 800), "narrow": (360, 740)}
 LIGHTS = {"light": False, "dark": True}
 MOST_COLOURS = 256
 # to the summary or what the hub said, if they are there
-TO_WHAT_HAPPENED = """const said = [...document.querySelectorAll('.summary:not([hidden]), .delivery:not(:empty)')].pop();
+TO_WHAT_HAPPENED = """const said = [...document.querySelectorAll('.summary:not([hidden]), .delivery:not(:empty), .left[open], mark')].pop();
     if (said) said.scrollIntoView({ block: 'center' }); else scrollTo(0, 0)"""
 
 

@@ -59,6 +59,19 @@ def despatch(browser):
     browser.run("scrollTo(0, 0); document.activeElement.blur()")
 
 
+def pallets(browser):
+    """All that is open, split over three pallets, and less on one of them, so that something is left."""
+    despatch(browser)
+    browser.type(browser.labelled("Split evenly over how many pallets"), "3")
+    browser.press("Split")
+    browser.until_says("Split over this pallet and pallets 2 to 3.")
+    browser.press("Collapse all pallets")
+    browser.run("document.querySelectorAll('.toggle')[2].click()")
+    browser.type(browser.labelled("Quantity of order 128590, line 2"), "8")
+    browser.press("Left: 12 pieces of 1 of 10 lines", "summary")
+    browser.run("document.querySelector('details.left').scrollIntoView(); document.activeElement.blur()")
+
+
 def sent(browser):
     """An answer that the hub refused: somebody answered meanwhile."""
     browser.press("Accept all 2 lines")
@@ -128,6 +141,13 @@ def lines_checked(browser):
     browser.until_says("You cancel 3 lines of 2 orders, 52 pieces in all")
 
 
+def explained(browser):
+    """A file with two messages, one of which has a fault."""
+    wrong = order("128601", [10, 20], reference=2).replace("QTY+21:20", "QTY+21:2O")
+    browser.drop("orders-of-today.edi", interchange(RETAILER, "4002", order("128600", [10]), wrong))
+    browser.until_says("1 of 2 messages would be refused")
+
+
 def locked(browser):
     """Ten minutes later, by the tab's clock, which goes on from there."""
     browser.run("const [then, from] = [Date.now() + 600_000, performance.now()]; Date.now = () => then + performance.now() - from")
@@ -148,11 +168,13 @@ SCREENS = {
     "answer": (ALPHA, "answer/4", "Accept all 10 lines", answer),
     "check": (ALPHA, "answer/4", "Accept all 10 lines", reviewed),
     "despatch": (ALPHA, "despatch/4", "Pallet 1", despatch),
+    "pallets": (ALPHA, "despatch/4", "Pallet 1", pallets),
     "receipt": (ALPHA, "entry/2", "A later advice replaced", nothing),
     "status": (ALPHA, "status", "Sum of", nothing),
     "sent": (ALPHA, "answer/5", "Accept all 2 lines", sent),
     "no-answer": (ALPHA, "answer/4", "Accept all 10 lines", no_answer),
     "sent-list": (ALPHA, "sent", "What this tab has sent", nothing),
+    "explain": (RETAILER, "explain", "Choose an .edi file", explained),
     "upload": (RETAILER, "upload", "Choose .edi files", uploaded),
     "supplier": (RETAILER, f"supplier/{ALPHA}", "Cancel…", nothing),
     "overview": (RETAILER, "overview", "Overview", fetched),

@@ -94,6 +94,65 @@ ANSWERS = [
     (("readAnswers", "2;refused", [DONE]), {"answers": [], "wrong": ["Row 1: Line 2 waits no more: it is accepted."]}),
     (("readAnswers", "1;changed;7", [TAKEN]), {"answers": [], "wrong": ["Row 1: Line 1: give a whole number from 8 to 48."]}),
 ]
+SPLITS = [
+    (("evenSplit", [100, 30, 101, 2], 3), [[34, 10, 33, 1], [33, 10, 34, 1], [33, 10, 34, 0]]),
+    # of all lines together no pallet gets more than one piece more either
+    (("evenSplit", [1, 1, 1, 1], 2), [[1, 0, 1, 0], [0, 1, 0, 1]]),
+    (("evenSplit", [1, 1], 3), [[1, 0], [0, 1], [0, 0]]),
+]
+ON_PALLET = [{"order": "A", "line": 1}, {"order": "A", "line": 12}, {"order": "B ", "line": 1}]
+ENDS = [{"order": "B", "line": 1}, {"order": "B ", "line": 1}]
+SSCC = "340123455000000012"
+NAME_COLUMNS = "Row 1: name the columns Order, Line, Quantity and Pallet."
+
+
+def placed(*rows):
+    return {"rows": [dict(zip(("place", "quantity", "pallet"), it)) for it in rows], "wrong": []}
+
+
+def unplaced(*wrong):
+    return {"rows": [], "wrong": list(wrong)}
+
+
+PALLET_ROWS = [
+    (("readPalletRows", "A\t12\t5\t1\nA\t1\t\t1\nB\t1\t7\t2", ON_PALLET, [""]), placed((1, 5, 1), (2, 7, 2))),
+    (("readPalletRows", "Pallet;Line;x;Order;Quantity\r\n3;1;;A;5\r\n", ON_PALLET, [""] * 3), placed((0, 5, 3))),
+    (("readPalletRows", f"A,1,5,'{SSCC}\nA,1,6,00{SSCC}", ON_PALLET, [""]), unplaced(
+        "Row 2: the same line and pallet are in row 1 too.")),
+    (("readPalletRows", "Order;Line;Amount\nA;1;5", ON_PALLET, [""]), unplaced(NAME_COLUMNS)),
+    (("readPalletRows", "A;1;5;3", ON_PALLET, [""]), unplaced("No row is for pallet 2: number the pallets without gaps.")),
+    (("readPalletRows", "A;1;5;0\n;1;5;1", ON_PALLET, [""]), unplaced(
+        "Row 1: “0” is not a pallet. Give its number in the form, from 1 to 500, or its SSCC.", "Row 2: the order is missing.")),
+    (("readPalletRows", "A;1;5;3,40E+17", ON_PALLET, [""]), unplaced(
+        "Row 1: the spreadsheet shortened the SSCC to 3,40E+17. Format its column as text.")),
+    (("readPalletRows", "B;1;5;1", ENDS, [""]), unplaced(
+        "Row 1: several orders are called B, but for blanks at the end. Type their quantities instead.")),
+    (("readPalletRows", f"A;1;5;1\nA;1;5;{SSCC}", ON_PALLET, [SSCC] * 500), placed((0, 5, 1), (0, 5, SSCC))),
+    (("readPalletRows", f"A;1;5;{SSCC}", ON_PALLET, [""] * 500), unplaced("These are more than 500 pallets.")),
+]
+HEAD = "service component : element + decimal . release ? terminator '\ninterchange a b\n  sender A\n  recipient B\n"
+HEAD += "  prepared 250603 0915\n  messages 2\n"
+HEAD_READ = {"reference": "a b", "sender": "A", "recipient": "B", "date": "250603", "time": "0915"}
+FIRST = "message 1\n  reference 1 2\n  type ORDERS\n  order a\n  line 1 item 04000862141404 ordered 48\n"
+FIRST_READ = {"place": 1, "reference": "1 2", "type": "ORDERS", "fault": None}
+FIRST_READ |= {"lines": ["order a", "line 1 item 04000862141404 ordered 48"]}
+FAULTY = "message 2\n  reference 2\n  type DESADV\n  refused M08 quantity at segment 9\n"
+FAULTY_READ = {"place": 2, "reference": "2", "type": "DESADV", "fault": {"code": "M08", "segment": 9, "offset": None}, "lines": []}
+SHOWN = [
+    (("readShown", HEAD + FIRST + FAULTY), {"fault": None, "head": HEAD_READ, "messages": [FIRST_READ, FAULTY_READ]}),
+    (("readShown", "refused E06 frame\n"), {"fault": {"code": "E06", "segment": None, "offset": None}, "head": None, "messages": []}),
+    *((("readShown", it), None) for it in ("", "<html>", HEAD[:-9], HEAD + "message 1\n", "refused E06 frame\nmore\n")),
+]
+SPOT = "UNA:+.? '\r\nAAA+?''\r\nBBB'\r\nCCC'\n"
+SPOTS = [
+    (("placeOfSegment", SPOT, 1), {"line": 2, "before": "", "it": "AAA+?''", "after": "\nBBB'"}),
+    (("placeOfSegment", SPOT, 3), {"line": 4, "before": "AAA+?''\nBBB'\n", "it": "CCC'", "after": ""}),
+    *((("placeOfSegment", SPOT, it), None) for it in (0, 4)),
+    # a release character of blank releases nothing
+    (("placeOfSegment", "UNA:+.  'A+ 'B'", 2), {"line": 1, "before": "A+ '\n", "it": "B'", "after": ""}),
+    (("placeOfByte", "AB\nCD", 4), {"line": 2, "before": "AB\nC", "it": "D", "after": ""}),
+    (("placeOfByte", "AB", 2), {"line": 1, "before": "AB", "it": "", "after": ""}),
+]
 GLNS = ("4012345500004", "8712345000004", "5412345000006")
 ALPHA, BETA = ({"gln": it, "name": name} for it, name in zip(GLNS, ("Alpha", "Beta")))
 SHORTENED = "Row 1: the spreadsheet shortened the GLN to 4,01E+12. Format its column as text."
@@ -175,6 +234,8 @@ def called(_program):
     tables = {"edi/identifiers.js": IDENTIFIERS, "edi/sscc.js": SSCCS, "edi/dates.js": DATES, "edi/segments.js": TEXTS}
     tables |= {"suppliers/file.js": SUPPLIERS, "suppliers/search.js": SEARCHES, "edi/document_names.js": FILE_NAMES}
     tables |= {"hub/replies.js": REPLIES, "hub/place.js": PLACES, "parts/csv.js": FILES, "parts/answer_rows.js": ANSWERS}
+    tables |= {"despatch/even_split.js": SPLITS, "despatch/pallet_rows.js": PALLET_ROWS}
+    tables |= {"edi/shown.js": SHOWN, "edi/fault_place.js": SPOTS}
     calls = [(module, *words) for module, table in tables.items() for words, _ in table]
     wanted = [it for table in tables.values() for _, it in table]
     for call, found, want in zip(calls, by_node("call.mjs", calls), wanted, strict=True):

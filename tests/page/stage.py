@@ -5,6 +5,7 @@ import importlib.util
 import os
 import shutil
 import subprocess
+import sys
 import tempfile
 import threading
 from datetime import datetime, timezone
@@ -28,11 +29,17 @@ def module(name, *path):
     return found
 
 
+# which the proxy imports by this name
+sys.modules["show"] = module("show", EXAMPLES, "page", "show.py")
 proxy = module("page_proxy", EXAMPLES, "page", "proxy.py")
 
 
 class Keeping(proxy.Handler):
     """The proxy's handler, which keeps each body that is sent, and whose way to the hub and back a trial can break."""
+
+    def do_POST(self):
+        self.server.posted.append((self.path, self.headers.get("X-Hub-Key")))
+        super().do_POST()
 
     def asked(self, body):
         self.server.asked.append(self.path)
@@ -86,8 +93,8 @@ class Stage:
         self.hub = None
         self.command("init", "--register", os.path.join(EXAMPLES, "register.toml"))
         self.begin_hub()
-        self.proxy = proxy.Proxy(0, self.hub_port, Keeping)
-        self.proxy.sent, self.proxy.asked, self.proxy.breaks = [], [], []
+        self.proxy = proxy.Proxy(0, self.hub_port, Keeping, program=program)
+        self.proxy.sent, self.proxy.asked, self.proxy.posted, self.proxy.breaks = [], [], [], []
         # by path what is done each time in the place of asking the hub
         self.proxy.instead = {}
         threading.Thread(target=self.proxy.serve_forever, daemon=True).start()
@@ -111,6 +118,11 @@ class Stage:
     def asked(self):
         """The paths of the hub that the page asked for."""
         return self.proxy.asked
+
+    @property
+    def posted(self):
+        """The paths that were posted to, be they of the hub or not, each with the key."""
+        return self.proxy.posted
 
     def command(self, name, *words):
         """What a command over the hub's file prints; the hub must not run."""

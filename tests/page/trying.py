@@ -24,6 +24,10 @@ ASKED = [
     (f"/p/{ALPHA}/interchanges", {"X-Hub-Key": KEYS[ALPHA]}, b"x", 400, b"refused E05\n"),
     (f"/p/{ALPHA}/interchanges", {"X-Hub-Key": KEYS[ALPHA], "Content-Length": "1048577"}, b"", 413, b"too large\n"),
     ("/", {}, b"x", 404, b"unknown"),
+    ("/show", {}, None, 200, b"edihub show\n"),
+    ("/show", {}, b"x", 200, b"refused E05 tag at offset 0 line 1 segment 1\n"),
+    ("/show", {"Content-Length": "1048577"}, b"", 413, b"too large\n"),
+    ("/show/", {}, b"x", 404, b"unknown"),
 ]
 
 

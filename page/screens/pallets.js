@@ -1,0 +1,259 @@
+// @ts-check
+// The pallets in the form of a despatch: adds, copies, splits, fills from rows, renumbers and removes them. Each gets an SSCC that no other
+// form of this browser holds.
+
+import { evenSplit } from "../despatch/even_split.js";
+import { MOST_PALLETS } from "../despatch/pallet_rows.js";
+import { isSscc } from "../edi/identifiers.js";
+import { ssccOf } from "../edi/sscc.js";
+import { counted, element, figure } from "../parts/dom.js";
+import { SsccFields } from "../parts/sscc_fields.js";
+import { Pallet } from "./pallet.js";
+
+/** @typedef {import("../despatch/ledger.js").Ledger} Ledger */
+/** @typedef {{ isCollapsed?: boolean, wantsAll?: boolean | null }} Look */
+
+const FULL = `A despatch has at most ${MOST_PALLETS} pallets.`;
+
+// a draft with more quantities than this comes back with its pallets collapsed
+const MANY = 60;
+// how many milliseconds are spent on drawing before the page takes what was typed
+const AT_ONCE = 20;
+
+const breath = () => new Promise((done) => setTimeout(done));
+
+export class Pallets {
+  /** @param {{ session: import("../session.js").Session, ledger: Ledger, articles: import("../articles.js").Articles,
+   *   used: () => Set<string> }} words */
+  constructor({ session, ledger, articles, used }) {
+    this.session = session;
+    this.ledger = ledger;
+    this.articles = articles;
+    /** @type {Pallet[]} */
+    this.all = [];
+    this.sscc = new SsccFields(session, () => [...used(), ...this.all.map((it) => it.number)]);
+    this.sscc.prefix.input.addEventListener("change", () => this.propose((it) => !isSscc(it.number)));
+    this.sscc.first.input.addEventListener("change", () => this.propose((it) => !isSscc(it.number) || it.number === it.proposed));
+    this.element = element("div", { class: "pallets", onchange: () => this.hold() });
+    /** @type {Promise<unknown>} */
+    this.numbering = Promise.resolve();
+    this.tools = {
+      copy: (/** @type {Pallet} */ from) => this.copy(from),
+      split: (/** @type {Pallet} */ from, /** @type {number} */ count) => this.split(from, count),
+      remove: (/** @type {Pallet} */ it) => this.remove(it),
+      changed: () => this.element.dispatchEvent(new Event("input", { bubbles: true })),
+    };
+    ledger.addEventListener("change", (event) => this.all.forEach((it) => it.refresh(/** @type {CustomEvent} */ (event).detail)));
+  }
+
+  /** Does what takes SSCCs in turn, so that two actions never take the same.
+   * @template T
+   * @param {() => Promise<T>} action
+   * @returns {Promise<T>} */
+  inTurn(action) {
+    const done = this.numbering.then(action);
+    this.numbering = done.catch(() => {});
+    return done;
+  }
+
+  /** Proposes SSCCs for the pallets that need one now, but not for those that are labelled; returns how many got one.
+   * @param {(pallet: Pallet) => boolean} needs */
+  async propose(needs) {
+    if (!this.sscc.take()) return 0;
+    const found = this.all.filter((it) => !it.isLabelled && needs(it)).map((pallet) => ({ pallet, value: pallet.sscc.value }));
+    return this.inTurn(async () => {
+      let count = 0;
+      for (const { pallet, value } of found) {
+        const sscc = await this.sscc.next();
+        // what the person types meanwhile stays
+        if (!sscc || pallet.sscc.value !== value) continue;
+        pallet.propose(sscc);
+        count += 1;
+      }
+      this.hold();
+      return count;
+    });
+  }
+
+  /** Gives new SSCCs to all pallets that are not labelled, and says to how many. */
+  async renumber() {
+    const count = await this.propose(() => true);
+    const kept = this.all.length - count;
+    if (!count && this.all.some((it) => !it.isLabelled)) this.sscc.askForPrefix();
+    const words = [`${count} ${count === 1 ? "pallet has a new SSCC" : "pallets have new SSCCs"}.`, kept ? `${kept} unchanged.` : ""];
+    return words.join(" ").trim();
+  }
+
+  /** Holds the SSCCs of the form, so that another tab does not propose them; and says where another tab was earlier. */
+  hold() {
+    this.sscc.held.keepOnly(this.all.map((it) => it.number));
+    for (const pallet of this.all) if (isSscc(pallet.number)) this.#holdOne(pallet);
+  }
+
+  /** @param {Pallet} pallet */
+  async #holdOne(pallet) {
+    if (!(await this.sscc.held.hold(pallet.number))) pallet.sscc.say("A form in another tab of this browser has the same SSCC.");
+  }
+
+  /** Adds a pallet for a person who goes on with it: it lists all lines, and the others only their own. */
+  async add() {
+    for (const it of this.all) if (it.wantsAll) [it.wantsAll, it.isStale] = [null, true];
+    const [pallet] = await this.addSeveral(1, { wantsAll: true });
+    this.draw();
+    return pallet;
+  }
+
+  /** Adds pallets, and draws them. @param {number} count @param {Look} [look] */
+  addSeveral(count, look) {
+    return this.inTurn(async () => {
+      const added = [];
+      for (let it = 0; it < count; it += 1) added.push(await this.#addNext(look));
+      this.number();
+      this.hold();
+      return added;
+    });
+  }
+
+  /** @param {Look} [look] */
+  async #addNext(look) {
+    const { ledger, articles, tools } = this;
+    const pallet = new Pallet({ sscc: await this.sscc.next(), ledger, articles, form: tools, ...look });
+    this.all.push(pallet);
+    pallet.draw();
+    this.element.append(pallet.element);
+    return pallet;
+  }
+
+  /** How a pallet looks that the page has filled. @returns {Look} */
+  get #filledLook() {
+    return { isCollapsed: true };
+  }
+
+  /** Adds a pallet with the same on it as far as so much is left, and says so. @param {Pallet} from */
+  async copy(from) {
+    if (!from.contents.length) return "Nothing is on it.";
+    if (this.all.length >= MOST_PALLETS) return FULL;
+    if (!this.#leftOf(from).length) return "Nothing is left of its lines, so there is no copy.";
+    const [copy] = await this.addSeveral(1, this.#filledLook);
+    copy.load.replace(this.#leftOf(from));
+    const less = from.contents.length - copy.contents.length;
+    const fewer = from.load.pieces - copy.load.pieces;
+    const words = `Pallet ${this.all.indexOf(copy) + 1} is a copy of it`;
+    return less || fewer ? `${words} with what was left: ${counted(fewer, "piece")} less.` : `${words}.`;
+  }
+
+  /** @param {Pallet} from */
+  #leftOf(from) {
+    const least = from.contents.map(({ line, quantity }) => ({ line, quantity: Math.min(quantity, this.ledger.left(line)) }));
+    return least.filter((it) => it.quantity > 0);
+  }
+
+  /** Splits what is on a pallet evenly over it and new ones, and says so. @param {Pallet} from @param {number} count of pallets in all */
+  async split(from, count) {
+    if (this.all.length + count - 1 > MOST_PALLETS) return FULL;
+    const first = this.all.length + 1;
+    const others = await this.addSeveral(count - 1, this.#filledLook);
+    const contents = from.contents;
+    const shares = evenSplit(contents.map((it) => it.quantity), count);
+    [from, ...others].forEach((pallet, place) => contents.forEach(({ line }, at) => pallet.load.set(line, shares[place][at])));
+    from.draw();
+    const last = first + others.length - 1;
+    return `Split over this pallet and ${first === last ? `pallet ${first}` : `pallets ${first} to ${last}`}.`;
+  }
+
+  /** Puts on pallets what rows say, and says so. @param {import("./paste_pallets.js").Placing[]} rows */
+  async place(rows) {
+    const pallets = await this.#named([...new Set(rows.map((it) => it.pallet))]);
+    for (const [name, pallet] of pallets) {
+      pallet.load.replace(rows.filter((it) => it.pallet === name));
+      pallet.isStale = true;
+    }
+    this.hold();
+    this.draw();
+    const pieces = rows.reduce((all, it) => all + it.quantity, 0);
+    this.tools.changed();
+    const from = `${counted(pieces, "piece")} of ${counted(rows.length, "row")} ${pieces === 1 ? "is" : "are"}`;
+    return `${from} on ${counted(pallets.size, "pallet")}. Nothing is sent yet.`;
+  }
+
+  /** The pallets of these numbers and SSCCs; an SSCC that no pallet has goes to one that is empty, or else to a new one.
+   * @param {(number | string)[]} names @returns {Promise<Map<number | string, Pallet>>} */
+  async #named(names) {
+    const most = Math.max(0, ...names.filter((it) => typeof it === "number"));
+    await this.addSeveral(Math.max(0, most - this.all.length), this.#filledLook);
+    const found = new Map(names.flatMap((it) => (typeof it === "number" ? [[it, this.all[it - 1]]] : [])));
+    const ssccs = names.filter((it) => typeof it === "string");
+    for (const sscc of ssccs) found.set(sscc, this.all.find((it) => it.number === sscc));
+    const isFree = (/** @type {Pallet} */ it) => !it.load.size && !it.isLabelled && ![...found.values()].includes(it);
+    for (const sscc of ssccs.filter((it) => !found.get(it))) {
+      const pallet = this.all.find(isFree) ?? (await this.addSeveral(1, this.#filledLook))[0];
+      pallet.sscc.value = ssccOf(sscc);
+      found.set(sscc, pallet);
+    }
+    return found;
+  }
+
+  /** Has as many pallets as a draft, whose SSCCs are the person's. @param {number} count */
+  async makeRoom(count) {
+    await this.addSeveral(Math.max(0, count - this.all.length));
+    for (const pallet of this.all) [pallet.proposed, pallet.wantsAll] = ["", null];
+  }
+
+  /** Draws the pallets of a draft: collapsed if very much is on them. */
+  drawRestored() {
+    const isCollapsed = this.all.reduce((all, it) => all + it.load.size, 0) > MANY;
+    for (const pallet of this.all) pallet.isCollapsed = isCollapsed;
+    return this.drawAgain();
+  }
+
+  /** @param {Pallet} pallet */
+  async remove(pallet) {
+    this.all.splice(this.all.indexOf(pallet), 1);
+    pallet.load.keepOnly([]);
+    pallet.element.remove();
+    this.hold();
+    if (!this.all.length) await this.add();
+    this.number();
+    this.tools.changed();
+    this.all[this.all.length - 1].sscc.input.focus();
+  }
+
+  number() {
+    this.all.forEach((it, place) => {
+      const words = `Pallet ${place + 1}`;
+      if (it.legend.textContent !== words) it.legend.textContent = words;
+    });
+  }
+
+  /** @param {boolean} isCollapsed */
+  collapseAll(isCollapsed) {
+    for (const it of this.all) if (it.isCollapsed !== isCollapsed) [it.isCollapsed, it.isStale] = [isCollapsed, true];
+    this.draw();
+  }
+
+  /** The lines that can be on them were changed: what was typed for others is forgotten. */
+  offer() {
+    for (const it of this.all) it.load.keepOnly(this.ledger.lines);
+    this.drawAgain();
+  }
+
+  drawAgain() {
+    for (const it of this.all) it.isStale = true;
+    return this.draw();
+  }
+
+  get #stale() {
+    return this.all.find((it) => it.isStale);
+  }
+
+  /** Draws what changed, in pieces between which the page takes what is typed. */
+  async draw() {
+    let end = performance.now() + AT_ONCE;
+    for (let it = this.#stale; it; it = this.#stale) {
+      if (performance.now() > end) {
+        await breath();
+        end = performance.now() + AT_ONCE;
+      } else it.draw();
+    }
+  }
+}
