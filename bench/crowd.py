@@ -34,7 +34,7 @@ SUPPLIERS, PROCESSES = 1_000, 2
 # beginning of a head
 ONE_OF, NEVER = 20, 20
 FOR_GOOD = 1_000_000
-FILE, ADDRESS = "front/haproxy.cfg", "127.0.0.1:8080"
+FILE, ADDRESS = "front/haproxy.cfg", "127.0.0.1:880"
 # what the file of the front says: connections to the hub, and of one source connections at once, refusals and requests a minute
 AT_THE_HUB, AT_ONCE, REFUSED, A_MINUTE = 32, 20, 60, 600
 # how many more wait than the hub is given, and how many messages an interchange may have

@@ -36,7 +36,7 @@ from tests.harness.hub_scripts import KEYS
 from tests.harness.register_texts import ALPHA, GAMMA, RETAILER
 from tests.harness.tree import EXAMPLES
 
-SCRIPT, FILE, ADDRESS = os.path.join(EXAMPLES, "front", "add_supplier.py"), "front/haproxy.cfg", "127.0.0.1:8080"
+SCRIPT, FILE, ADDRESS = os.path.join(EXAMPLES, "front", "add_supplier.py"), "front/haproxy.cfg", "127.0.0.1:880"
 # what the file of the front says, and what an operator of a large file writes there: a registration takes two openings
 PATIENT = {"    retries 60\n": "    retries 170\n", "timeout queue 90s": "timeout queue 180s"}
 # how many suppliers keep asking, how many of them for their status alone, and the seconds between two requests of each

@@ -17,7 +17,7 @@ ROOT = os.path.dirname(os.path.dirname(os.path.abspath(__file__)))
 # the folders below PREFIX that hold nothing else
 OWN = ("lib/edihub", "share/edihub", "share/doc/edihub")
 UNITS = "lib/systemd/system"
-SCRIPTS = ("backup/backup.sh", "folder/feed.py", "front/add_supplier.py", "hubs/apart.py")
+SCRIPTS = ("backup/backup.sh", "folder/feed.py", "front/add_supplier.py", "hubs/apart.py", "page/show.py")
 
 
 @dataclass(frozen=True)
@@ -56,7 +56,7 @@ def parts():
     for path in below("page"):
         yield Part(f"share/edihub/{path}", path)
     # as in the repository, so that links between them lead somewhere
-    for path in ("README.md", *below("docs", ".md", ".toml"), *below("examples")):
+    for path in ("README.md", "CHANGELOG.md", *below("docs", ".md", ".toml"), *below("examples")):
         yield Part(f"share/doc/edihub/{path}", path)
 
 

@@ -1,7 +1,7 @@
 #!/usr/bin/env python3
 """Uploads each file of a folder to a hub, in byte order of the names, and moves it away with the hub's reply beside it.
 
-    python3 feed.py --hub http://127.0.0.1:8080 --as 4012345500004 --key-file alpha.key in/alpha
+    python3 feed.py --hub http://127.0.0.1:880 --as 4012345500004 --key-file alpha.key in/alpha
 
 A file goes to `done/` in the folder if all its messages are accepted or repeated, else to `refused/`; the reply is `NAME.reply`. If the
 name is there already, it becomes `NAME.2`. While a file is uploaded it is in `sending/`, where the next run finds it if this one is ended:

@@ -314,7 +314,7 @@ def arguments():
     words.add_argument("--supplier-key-file", required=True, metavar="FILE", help="a file with the key that the supplier gets")
     words.add_argument("--prefixes", required=True, metavar="P,P,..", help="the supplier's company prefixes")
     words.add_argument("--db", default="/var/lib/edihub/hub.db", metavar="FILE", help="the hub's database file (%(default)s)")
-    words.add_argument("--port", type=int, default=8080, help="the hub's port on this machine (%(default)s)")
+    words.add_argument("--port", type=int, default=880, help="the hub's port on this machine (%(default)s)")
     words.add_argument("--unit", default="edihub.service", help="the hub's unit of systemd (%(default)s)")
     words.add_argument("--stop", metavar="COMMAND", help="what stops the hub if it is not a unit")
     words.add_argument("--start", metavar="COMMAND", help="what starts it then")

@@ -1,8 +1,10 @@
 """A small reverse proxy for trying the page alone, on 127.0.0.1 and without TLS, so without Strict-Transport-Security: it serves the files
-of `page/` at `/` and passes `/p/` to the hub. For use set up one as docs/PAGE.md describes it."""
+of `page/` at `/`, passes `/p/` to the hub, and explains files at `/show`. For use set up one as docs/PAGE.md describes it."""
 import http.client
 import os
 from http.server import BaseHTTPRequestHandler, ThreadingHTTPServer
+
+import show
 
 PAGE = os.path.join(os.path.dirname(os.path.dirname(os.path.dirname(os.path.abspath(__file__)))), "page")
 TYPES = {".html": "text/html; charset=utf-8", ".css": "text/css", ".js": "text/javascript", ".svg": "image/svg+xml"}
@@ -20,11 +22,13 @@ class Proxy(ThreadingHTTPServer):
 
     daemon_threads = True
 
-    def __init__(self, port, hub_port, handler=None, suppliers=None):
+    def __init__(self, port, hub_port, handler=None, suppliers=None, program=None):
         super().__init__(("127.0.0.1", port), handler or Handler)
         self.hub_port = hub_port
         # the file that is beside the page as suppliers.csv, if there is one
         self.suppliers = suppliers
+        # None: files are not explained
+        self.explainer = show.Explainer(program) if program else None
 
     @property
     def address(self):
@@ -37,19 +41,27 @@ class Handler(BaseHTTPRequestHandler):
     def do_GET(self):
         if self.path.startswith("/p/"):
             self.pass_on(None)
+        elif self.explains:
+            self.answer(200, show.SERVED)
         else:
             self.give_file()
 
     def do_POST(self):
         length = self.headers.get("Content-Length", "")
-        if not self.path.startswith("/p/"):
+        if not self.path.startswith("/p/") and not self.explains:
             self.answer(404, b"unknown\n")
         elif not length.isdigit():
             self.answer(411, b"length\n")
         elif int(length) > LONGEST:
             self.answer(413, b"too large\n")
+        elif self.explains:
+            self.answer(*self.server.explainer.of(self.rfile.read(int(length))))
         else:
             self.pass_on(self.rfile.read(int(length)))
+
+    @property
+    def explains(self):
+        return self.path == show.PATH and self.server.explainer is not None
 
     def pass_on(self, body):
         """Asks the hub, over a connection of its own, once the request is read whole."""

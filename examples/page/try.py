@@ -1,11 +1,12 @@
 """`make page`: a hub of the example register with the orders of the example day, in a temporary folder, and a proxy before it that serves
-the page. For trying alone: it is thrown away in the end. `python3 try.py PROGRAM PORT`"""
+the page. For trying alone: it is thrown away in the end. `python3 try.py PROGRAM PORT [NOTE]`; the note is printed last."""
 import os
 import signal
 import socket
 import subprocess
 import sys
 import tempfile
+import threading
 
 from proxy import Proxy
 
@@ -50,14 +51,16 @@ def serving(program, file):
     child = subprocess.Popen([program, "serve", "--db", file, "--port", str(port), "--count", "1000000"], stdout=subprocess.PIPE)
     if not child.stdout.readline().startswith(b"listening"):
         raise OSError("the hub does not listen")
+    # a line comes for each connection; if nobody reads them the hub would wait once the pipe is full
+    threading.Thread(target=child.stdout.read, daemon=True).start()
     return child, port
 
 
-def main(program, port):
+def main(program, port, *notes):
     with tempfile.TemporaryDirectory() as folder:
         child, hub_port = serving(program, founded(program, folder))
         try:
-            with Proxy(port, hub_port, suppliers=SUPPLIERS) as proxy:
+            with Proxy(port, hub_port, suppliers=SUPPLIERS, program=program) as proxy:
                 print(SAID.format(address=proxy.address), flush=True)
                 proxy.serve_forever()
         except KeyboardInterrupt:
@@ -65,10 +68,11 @@ def main(program, port):
         finally:
             child.terminate()
             child.wait()
+            print(*notes, sep="\n")
 
 
 if __name__ == "__main__":
     # being told to end is as ^C, so that the hub ends too; a shell's background would leave ^C out
     for told in (signal.SIGINT, signal.SIGTERM):
         signal.signal(told, signal.default_int_handler)
-    main(os.path.abspath(sys.argv[1]), int(sys.argv[2]))
+    main(os.path.abspath(sys.argv[1]), int(sys.argv[2]), *sys.argv[3:])
