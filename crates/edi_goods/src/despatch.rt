@@ -93,7 +93,7 @@ fn units_of(
     Ok(read)
 }
 
-// The parties, or the lowest fault of what stands before the lines.
+// Returns the parties, or the lowest fault of what comes before the lines.
 fn read_heading(message: &RawMessage) -> Result<Parties, MessageFault>
     ensures said { IfOk result (λ parties. (parties.buyer ≡ buyer message.now.segments)
         × (party (codes "SU") message.now.segments ≡ Some parties.supplier)) }

@@ -92,7 +92,7 @@ fn has_function(message: &[Segment]) -> bool
     function(message) == b"9".as_slice() || replaces(message)
 }
 
-// The parties, or the lowest fault of what stands before the lines.
+// Returns the parties, or the lowest fault of what comes before the lines.
 fn read_heading(message: &RawMessage) -> Result<Parties, MessageFault>
     ensures said { IfOk result (λ parties. (parties.buyer ≡ buyer message.now.segments)
         × (party (codes "SU") message.now.segments ≡ Some parties.supplier)) }

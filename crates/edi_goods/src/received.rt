@@ -42,7 +42,7 @@ impl<'a, 'b> ReceivedUnit<'a, 'b> {
     }
 }
 
-// The quantity of a kind, where there is one; the fault `Quantity` where it stands twice or is not valid.
+// Returns the quantity of a kind, if there is one. It is the fault `Quantity` if it comes twice or is not valid.
 fn received(kind: &[u8], group: &[Segment]) -> Result<Option<u32>, MessageFault>
     ensures ok { IfOk result (λ quantity. (quantity ≡ quantity_of kind.now 0 group.now)
         × (spec.is_once_or_none kind.now group.now ≡ true)) }

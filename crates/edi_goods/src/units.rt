@@ -41,7 +41,7 @@ impl<'a> ItemUnit<'a> {
     }
 }
 
-// How many segments stand before the first that ends a unit.
+// Counts the segments before the first that ends a unit.
 fn rest_len(segments: &[Segment]) -> usize
     ensures within { result ≤ length segments.now }
     ensures value { result ≡ prefix_len (λ segment. not (spec.ends_unit segment)) segments.now }
@@ -91,7 +91,7 @@ pub(crate) fn item_units(
     Ok(units)
 }
 
-// How many segments stand before the first LIN.
+// Counts the segments before the first LIN.
 fn head_len(unit: &[Segment]) -> usize
     ensures within { result ≤ length unit.now }
     ensures value { result ≡ prefix_len (λ segment. not (is_lin segment)) unit.now }
@@ -104,7 +104,7 @@ fn head_len(unit: &[Segment]) -> usize
     unit.len()
 }
 
-/// What stands before the first LIN of a unit.
+/// Returns what comes before the first LIN of a unit.
 pub fn head(unit: &[Segment]) -> &[Segment]
     ensures { result.now ≡ spec.head unit.now }
 {
@@ -151,7 +151,7 @@ fn unit_sscc(unit: &[Segment]) -> Result<Sscc, MessageFault>
     sscc(unit).ok_or(MessageFault::Unit)
 }
 
-/// How many segments stand before the first CPS.
+/// Counts the segments before the first CPS.
 pub fn outside_len(message: &[Segment]) -> usize
     ensures within { result ≤ length message.now }
     ensures value { result ≡ prefix_len (λ segment. not (is_cps segment)) message.now }
@@ -164,7 +164,7 @@ pub fn outside_len(message: &[Segment]) -> usize
     message.len()
 }
 
-// Whether a LIN stands before the first CPS.
+// Whether a LIN comes before the first CPS.
 fn has_line_outside(message: &[Segment]) -> bool
     ensures { result ≡ spec.has_line_outside message.now }
 {

@@ -53,11 +53,11 @@ fn change_of(register: &Register, owner: &KeyOwner, key: Key) -> Option<Change>
     }
 }
 
-/// Changes the key of one party, as one act. Who may open the store may do so: the old key is not asked for.
+/// Changes the key of one party, in one commit. It does not ask for the old key: anyone who can open the store can do so.
 ///
 /// # Errors
 ///
-/// Those of the store; the key is then as it was.
+/// Those of the store. The store then answers as before, but once it is opened again it may have either key.
 pub fn rekey<S: Store>(store: &mut S, owner: &KeyOwner, key: Key) -> Result<Rekeyed, StoreFault>
     ensures rekeys { (S.honest store.old → SoundHub (S.content store.old)) →
         Rekeys S.content S.honest S.left store.old store.new owner.now key result }
