@@ -1,7 +1,7 @@
--- What a write does to the flag of a sink, and what is printed where it fails.
+-- Defines what a write does to a sink's `failed` flag, and what is printed if it fails.
 use Rattle.std.specs.Prelude.{ℕ, Bool, true, ◌==◌, ◌&&◌, not, List, length, codes, Result, Ok, Err}
 
--- an error was answered, or nothing taken of some bytes
+-- the write returned an error, or accepted none of some bytes
 abbrev pub write_failed : {E : Type 0} → Result ℕ E → List ℕ → Bool
 write_failed (Ok n) bytes = n == 0 && not (length bytes == 0)
 write_failed (Err e) bytes = true

@@ -1,10 +1,10 @@
--- What reading does to the bytes of a source and to those that were read, and what is printed where it fails.
+-- Defines what reading takes from a source and adds to the bytes read so far, and what is printed if it fails.
 use Rattle.std.specs.Prelude.{◌≡◌, ℕ, ◌<◌, ◌≤◌, List, ◌++◌, length, codes, Option}
 use Rattle.std.specs.Io.KnownBytes.{Consumes, IsAtEnd}
 use Rattle.edi_base.specs.declared.source.ReadFault.{ReadFault}
 use Rattle.edi_base.specs.declared.source.ReadFault.TheVariants.{Read, Memory}
 
--- so many bytes of the source, none only at its end or where there is no room, stand after those before
+-- `count` bytes of the source now follow those read before; none only at its end, or if there was no room
 pub record TakesPiece (old new : Option (List ℕ)) (before after : List ℕ) (room count : ℕ) : Type 0 where
   pub bytes : List ℕ
   pub consumed : Consumes old new bytes
@@ -13,7 +13,7 @@ pub record TakesPiece (old new : Option (List ℕ)) (before after : List ℕ) (r
   pub within : count ≤ room
   pub ends : count ≡ 0 → 0 < room → IsAtEnd new
 
--- a front of the bytes of a source was taken, and no more than so many
+-- at most `limit` bytes were taken from the source
 pub record TakesAtMost (old new : Option (List ℕ)) (limit : ℕ) : Type 0 where
   pub front : List ℕ
   pub taken : Consumes old new front

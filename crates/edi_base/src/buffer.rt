@@ -1,4 +1,4 @@
-//! Bytes that wait to be written together.
+//! Collects bytes that are written together.
 
 ghost use Rattle.std.specs.Prelude.{◌≡◌, ◌+◌, ◌≤◌, [], ◌++◌, length, OnOk, OnErr};
 ghost use Rattle.edi_base.specs.Buffer.{Puts, Flags, Leaves};
@@ -6,11 +6,11 @@ ghost use Rattle.edi_base.specs.Buffer.{Puts, Flags, Leaves};
 use crate::sink::{Sink, WriteFault};
 use std::marker::Model;
 
-/// How many bytes wait at most.
+/// The most bytes that wait.
 const ROOM: usize = 1024;
 
-/// Bytes that wait to be written together, 1,024 at most. Contracts see them as a list. It takes no memory of an
-/// allocator. What is put into it is written in its order, after what waited, and is lost where no `flush` follows.
+/// Bytes that wait to be written together, at most 1,024. Contracts see them as a list. No memory is allocated. Bytes
+/// are written in the order in which they are put, and those that still wait are lost unless `flush` is called.
 #[derive(Drop)]
 pub struct Buffer {
     bytes: [u8; ROOM],
@@ -47,7 +47,7 @@ pub(crate) fn write_whole<W: Sink>(out: &mut W, bytes: &[u8]) -> Result<(), Writ
 }
 
 impl Buffer {
-    /// No bytes wait.
+    /// Makes an empty buffer.
     pub fn new() -> Self
         ensures { result ≡ [] }
     {
@@ -57,7 +57,7 @@ impl Buffer {
         }
     }
 
-    /// Writes the bytes that wait. At `WriteFault` a front of them was written, and all of them still wait.
+    /// Writes the bytes that wait. At `WriteFault` a prefix of them was written, and all of them still wait.
     pub fn flush<W: Sink>(&mut self, out: &mut W) -> Result<(), WriteFault>
         ensures bytes { Puts result (W.contents out.old) (W.contents out.new) self.old [] [] }
         ensures flag { Flags result (W.failed out.old) (W.failed out.new) }
@@ -69,8 +69,8 @@ impl Buffer {
         Ok(())
     }
 
-    /// Puts bytes after those that wait, and writes as many as there is no room for. At `WriteFault` a front of
-    /// those that waited and these was written. All that waited still wait where they were not all written; else
+    /// Adds bytes after those that wait, writing those for which there is no room. At `WriteFault` a prefix of the
+    /// waiting bytes and these was written. If the waiting bytes were not all written, they all still wait; otherwise
     /// nothing waits.
     pub fn put<W: Sink>(&mut self, out: &mut W, bytes: &[u8]) -> Result<(), WriteFault>
         ensures bytes { Puts result (W.contents out.old) (W.contents out.new) self.old self.new bytes.now }

@@ -1,13 +1,13 @@
-//! Exit statuses of the commands.
+//! Defines the exit statuses of the commands.
 
 /// Done, and nothing was refused.
 pub const DONE: u8 = 0;
 
-/// Something was refused, denied or unknown, or a connection was not answered 200.
+/// Something was refused, denied or unknown, or a connection got a response other than 200.
 pub const REFUSED: u8 = 1;
 
-/// A usage error: what the words say is no command, or not its options.
+/// A usage error: the arguments name no command, or not its options.
 pub const USAGE: u8 = 2;
 
-/// A failed read or write, or out of memory.
+/// A read or write failed, or memory ran out.
 pub const FAILED: u8 = 3;

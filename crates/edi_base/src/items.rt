@@ -19,7 +19,7 @@ impl<T> Model for Items<T> {
 }
 
 impl<T> Items<T> {
-    /// No items. Takes no memory.
+    /// Makes an empty list, without allocating memory.
     pub fn new(alloc: Global) -> Self
         ensures { result ≡ [] }
     {
@@ -28,14 +28,14 @@ impl<T> Items<T> {
         }
     }
 
-    /// The items of the vector, in their order. Takes no memory.
+    /// Takes over the items of a vector, in their order, without allocating memory.
     pub fn from_vec(vector: Vec<T>) -> Self
         ensures { result ≡ vector.items }
     {
         Items { vector }
     }
 
-    /// The vector of the items. Takes no memory.
+    /// Returns the items as a vector, without allocating memory.
     pub fn into_vec(self) -> Vec<T>
         ensures { result.items ≡ self }
     {
@@ -43,28 +43,28 @@ impl<T> Items<T> {
         vector
     }
 
-    /// The items as a slice.
+    /// Returns the items as a slice.
     pub fn as_slice(&self) -> &[T]
         ensures { result.now ≡ self.now }
     {
         self.vector.as_slice()
     }
 
-    /// How many items there are.
+    /// Returns how many items there are.
     pub fn len(&self) -> usize
         ensures { result ≡ length self.now }
     {
         self.vector.len()
     }
 
-    /// Whether there is no item.
+    /// Whether there are no items.
     pub fn is_empty(&self) -> bool
         ensures { result ≡ (length self.now == 0) }
     {
         self.vector.is_empty()
     }
 
-    /// Puts an item at the end. Where memory is refused, the item is given back.
+    /// Appends an item. If memory is refused, the item is given back.
     pub fn push(&mut self, item: T) -> Result<(), AllocFailed<T>>
         ensures ok { OnOk result (self.new ≡ self.old ++ item ∷ []) }
         ensures err { OnErr result (self.new ≡ self.old) }
@@ -74,7 +74,7 @@ impl<T> Items<T> {
     }
 }
 
-/// A copy of bytes.
+/// Copies bytes.
 pub fn copied(alloc: Global, bytes: &[u8]) -> Result<Items<u8>, MemoryFault>
     ensures { IfOk result (λ copy. copy ≡ bytes.now) }
 {

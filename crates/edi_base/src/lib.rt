@@ -1,5 +1,5 @@
-//! What all layers share: vectors that contracts see as lists, readers and writers with known bytes, the limits of data
-//! elements, what comes twice, and exit statuses.
+//! Defines what all layers share: vectors that contracts see as lists, readers and writers with known bytes, the limits
+//! of data elements, a test for repeated items, and exit statuses.
 #![tactic(auto)]
 
 mod buffer;

@@ -1,4 +1,4 @@
-//! The limits of data elements.
+//! Checks the limits of data elements.
 ghost use Rattle.std.specs.Prelude.{◌≡◌};
 ghost use Rattle.std.specs.List.{list_all};
 ghost use Rattle.edi_base.specs.Limits as spec;
@@ -31,10 +31,10 @@ pub fn are_digits(low: usize, high: usize, bytes: &[u8]) -> bool
     has_length(low, high, bytes) && all_digits(bytes)
 }
 
-/// The greatest number that is taken of any data element, and of sums of them.
+/// The greatest number that is accepted in any data element, and in sums of them.
 pub const GREATEST: u64 = 999_999_999;
 
-/// The number that digits write, where it is at most 999,999,999; the first of them may be zeros.
+/// Returns the number that the digits write, with or without leading zeros; `None` if it is above 999,999,999.
 pub fn value_of(digits: &[u8]) -> Option<u32>
     ensures { result ≡ spec.value_of digits.now }
 {
@@ -48,7 +48,7 @@ pub fn value_of(digits: &[u8]) -> Option<u32>
     Some(number as u32)
 }
 
-/// The number that 1 to 6 digits write; `None` where these are no such digits.
+/// Returns the number that 1 to 6 digits write; `None` if the bytes are anything else.
 pub fn count_of(bytes: &[u8]) -> Option<u32>
     ensures { result ≡ spec.count_of bytes.now }
 {

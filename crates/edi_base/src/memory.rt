@@ -1,4 +1,4 @@
 use std::alloc::AllocError;
 
-/// Out of memory.
+/// Memory ran out.
 pub type MemoryFault = AllocError;

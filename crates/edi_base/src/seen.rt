@@ -6,7 +6,7 @@ use std::alloc::{AllocError, Global};
 use std::collections::BTreeSet;
 use std::marker::Model;
 
-/// The texts that have come so far, so that one that comes twice shows.
+/// The texts seen so far, to notice one that is repeated.
 #[derive(Drop)]
 pub struct Seen<'a> {
     texts: BTreeSet<&'a [u8]>,
@@ -21,7 +21,7 @@ impl<'a> Model for Seen<'a> {
 }
 
 impl<'a> Seen<'a> {
-    /// No text has come. Takes no memory.
+    /// Makes an empty set, without allocating memory.
     pub fn new(alloc: Global) -> Self
         ensures { result ≡ [] }
     {
@@ -30,7 +30,7 @@ impl<'a> Seen<'a> {
         }
     }
 
-    /// Puts the text in, as a set does. Whether it comes for the first time.
+    /// Adds a text, and returns whether it is new.
     pub fn insert(&mut self, text: &'a [u8]) -> Result<bool, AllocError>
         ensures new { IfOk result (λ new. new ≡ not (is_among text.now self.old)) }
         ensures seen { OnOk result ((other : List ℕ) → is_among other self.new ≡ (bytes_eq other text.now || is_among other self.old)) }
@@ -41,8 +41,8 @@ impl<'a> Seen<'a> {
     }
 }
 
-/// Whether one of the numbers stands twice. The numbers are kept in an ordered set as they come, so that the time grows
-/// as n log n with n numbers.
+/// Whether some number occurs twice. The numbers are kept in an ordered set, so with n numbers the time grows as n log
+/// n.
 pub fn number_twice(alloc: Global, numbers: &[u32]) -> Result<bool, AllocError>
     ensures { IfOk result (λ found. found ≡ has_number_twice numbers.now) }
 {

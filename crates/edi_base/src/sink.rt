@@ -1,4 +1,4 @@
-//! What text is written to.
+//! Defines what text is written to.
 
 ghost use Rattle.std.specs.Prelude.{◌≡◌, ◌||◌, Option, List, ℕ, Bool, None, IsTrue, OnOk, OnErr};
 ghost use Rattle.std.specs.Io.{WritesAtMost};
@@ -14,20 +14,20 @@ use std::{fmt, io};
 
 /// A writer that knows whether a write failed.
 pub trait Sink {
-    // The bytes that the sink holds, where they are known.
+    // The bytes that the sink holds, if they are known.
     ghost contents: { Self → Option (List ℕ) } = { λ _. None };
 
-    // Whether a write has failed so far: it answered an error, or took nothing of some bytes.
+    // Whether a write has failed so far: it returned an error, or accepted none of some bytes.
     ghost failed: { Self → Bool };
 
-    /// Takes some of the bytes from their front on, and says how many.
+    /// Writes some of the bytes, beginning with the first, and returns how many.
     fn write(&mut self, bytes: &[u8]) -> io::Result<usize>
         ensures bound { WritesAtMost result bytes.now }
         ensures bytes { WriteAppends (contents self.old) (contents self.new) result bytes.now }
         ensures flag { failed self.new ≡ (failed self.old || write_failed result bytes.now) };
 }
 
-/// A writer answered an error, or took nothing.
+/// A writer returned an error, or accepted no bytes.
 #[derive(Clone, Copy, Debug, PartialEq, Eq, Hash)]
 pub struct WriteFault;
 
@@ -44,7 +44,7 @@ impl fmt::Display for WriteFault {
 
 impl Error for WriteFault {}
 
-/// A writer of std, and whether a write has failed so far.
+/// A writer of std, which notes whether a write has failed so far.
 #[derive(Debug, Drop)]
 pub struct OfWrite<W> {
     writer: W,
@@ -62,7 +62,7 @@ impl<W> Model for OfWrite<W> {
 impl<W> OfWrite<W> {
     ghost use Rattle.std.specs.Prelude.{false};
 
-    /// No write has failed.
+    /// Wraps a writer of which no write has failed.
     pub fn new(writer: W) -> Self
         ensures { result ≡ (writer, false) }
     {
@@ -108,7 +108,7 @@ pub fn write_bytes<W: Sink>(bytes: &[u8], out: &mut W) -> Result<(), WriteFault>
     ensures ok { OnOk result (Appends (W.contents out.old) (W.contents out.new) bytes.now) }
     ensures err { OnErr result (AppendsFront (W.contents out.old) (W.contents out.new) bytes.now) }
 
-    // The fault comes only from the sink, and else the sink's flag stays.
+    // The fault comes only from the sink; otherwise the sink's flag stays as it is.
     ensures kept { OnOk result (W.failed out.new ≡ W.failed out.old) }
     ensures failed { OnErr result (IsTrue (W.failed out.new)) }
 {

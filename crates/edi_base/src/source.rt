@@ -1,4 +1,4 @@
-//! What text is read from.
+//! Defines what text is read from.
 
 ghost use Rattle.std.specs.Prelude.{◌≡◌, ◌≢◌, ◌≤◌, ◌||◌, ℕ, Bool, true, List, take, Option, None, Err, is_err, IfOk, IfSome, length};
 ghost use Rattle.std.specs.Prelude.{vec_len};
@@ -15,17 +15,17 @@ use std::{fmt, io};
 
 /// A reader that knows whether a read failed.
 pub trait Source {
-    // The bytes that reads will give from here on, where they are known.
+    // The bytes that later reads will return, if they are known.
     ghost remaining: { Self → Option (List ℕ) } = { λ _. None };
 
-    // Whether a read has answered an error so far.
+    // Whether a read has returned an error so far.
     ghost failed: { Self → Bool };
 
-    // Which source it is, where sources are told apart. It stays the same, whatever is read of it.
+    // Which source it is, if sources must be distinguished. It stays the same, whatever is read.
     ghost origin: { Self → ℕ } = { λ _. 0 };
 
-    /// Puts the next bytes at the front of the buffer, and says how many. None only at the end, or where
-    /// the buffer has no room.
+    /// Reads the next bytes into the front of the buffer, and returns how many. Returns 0 only at the end, or if the
+    /// buffer has no room.
     fn read(&mut self, buffer: &mut [u8]) -> io::Result<usize>
         ensures bound { ReadsAtMost result buffer.new }
         ensures bytes { ReadConsumes (remaining self.old) (remaining self.new) result buffer.new }
@@ -33,7 +33,7 @@ pub trait Source {
         ensures origin { origin self.new ≡ origin self.old };
 }
 
-/// A reader of std, and whether a read has answered an error so far.
+/// A reader of std, which notes whether a read has returned an error so far.
 #[derive(Debug, Drop)]
 pub struct OfRead<R> {
     reader: R,
@@ -51,7 +51,7 @@ impl<R> Model for OfRead<R> {
 impl<R> OfRead<R> {
     ghost use Rattle.std.specs.Prelude.{false};
 
-    /// No read has answered an error.
+    /// Wraps a reader of which no read has returned an error.
     pub fn new(reader: R) -> Self
         ensures { result ≡ (reader, false) }
     {
@@ -68,7 +68,7 @@ impl<R> OfRead<R> {
         reader
     }
 
-    /// Whether a read has answered an error so far.
+    /// Whether a read has returned an error so far.
     pub fn failed(&self) -> bool
         ensures { result ≡ self.now.1 }
     {
@@ -89,12 +89,12 @@ impl<R: Read> Source for OfRead<R> {
     }
 }
 
-/// Why the bytes of a source were not read.
+/// Why the bytes of a source could not be read.
 #[derive(Clone, Copy, Debug, PartialEq, Eq, Hash)]
 pub enum ReadFault {
-    /// The source answered an error.
+    /// The source returned an error.
     Read,
-    /// Out of memory.
+    /// Memory ran out.
     Memory,
 }
 
@@ -122,10 +122,10 @@ impl From<AllocError> for ReadFault {
     }
 }
 
-/// How many bytes are asked for at once.
+/// The most bytes that one read asks for.
 const PIECE: usize = 65_536;
 
-/// Reads once, and puts what came after what was read before.
+/// Reads once, and appends the result to what was read before.
 fn read_piece<R: Source>(
     source: &mut R,
     piece: &mut [u8],
@@ -144,21 +144,21 @@ fn read_piece<R: Source>(
     Ok(count)
 }
 
-/// Reads to the end of a source, and at most `limit` bytes.
+/// Reads a source to its end, but at most `limit` bytes.
 pub fn read_to_limit<R: Source>(
     alloc: Global,
     source: &mut R,
     limit: usize,
 ) -> Result<Vec<u8>, ReadFault>
-    // What is read is what the source gave, up to its end or the limit.
+    // Exactly the source's bytes are read, up to its end or the limit.
     ensures bytes { IfOk result (λ read. Consumes (R.remaining source.old) (R.remaining source.new) read.items) }
     ensures whole { IfOk result (λ read. IfSome (R.remaining source.old) (λ known. read.items ≡ take limit known)) }
     ensures limit { IfOk result (λ read. vec_len read ≤ limit) }
 
-    // Whatever is answered, no more than the limit was taken from the source.
+    // Whatever the result, no more than the limit was taken from the source.
     ensures front { TakesAtMost (R.remaining source.old) (R.remaining source.new) limit }
 
-    // A read fault comes only from the source, and else the source's flag stays.
+    // A read fault comes only from the source; otherwise the source's flag stays as it is.
     ensures read { result ≡ Err ReadFault.Read → R.failed source.new ≡ true }
     ensures kept { result ≢ Err ReadFault.Read → R.failed source.new ≡ R.failed source.old }
 {

@@ -1,4 +1,4 @@
--- The messages that the hub reads, by the types that UNH names (data element 0065).
+-- Defines which messages the hub reads, and how, by the type in UNH (data element 0065).
 use Rattle.std.specs.Prelude.{ℕ, if◌then◌else◌, List, codes, Option, Some, None, Result, Ok, Err}
 use Rattle.std.specs.Str.{bytes_eq}
 use Rattle.edi_orders.specs.EdiEnvelope.declared.interchange.RawMessage.{RawMessage}
@@ -21,23 +21,23 @@ type_of kind =
     else if bytes_eq kind (codes "RECADV") then Some types.Receipt
     else None
 
--- the record that is read of a message, as a document
+-- the record read from a message, as a document
 abbrev pub document_from : {X : Type 0} → (X → Document) → Result X MessageFault → Result Document MessageFault
 document_from of (Ok record_of) = Ok (of record_of)
 document_from of (Err fault) = Err fault
 
--- what a message says as one of a type, or its lowest fault
+-- the document that a message is when read as this type, or its lowest fault
 abbrev pub document_as : DocumentType → RawMessage → Result Document MessageFault
 document_as types.Order m = document_from Order (order_of m)
 document_as types.Response m = document_from Response (response_of m)
 document_as types.Despatch m = document_from Despatch (despatch_of m)
 document_as types.Receipt m = document_from Receipt (receipt_of m)
 
--- M01 where the hub reads no messages of the type
+-- M01 if the hub does not read messages of this type
 abbrev pub document_by : Option DocumentType → RawMessage → Result Document MessageFault
 document_by (Some type) m = document_as type m
 document_by None m = Err MessageType
 
--- what a message says, by its type
+-- the document that a message is, read by its type
 abbrev pub document_of : RawMessage → Result Document MessageFault
 document_of m = document_by (type_of m.kind) m

@@ -43,7 +43,7 @@ impl DocumentType {
 pub enum Document {
     /// ORDERS: what the retailer orders of a supplier.
     Order(Order),
-    /// ORDRSP: what a supplier answers to an order.
+    /// ORDRSP: a supplier's answer to an order.
     Response(Response),
     /// DESADV: the pallets that a supplier despatches.
     Despatch(Despatch),

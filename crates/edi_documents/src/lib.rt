@@ -1,4 +1,4 @@
-//! The four messages that the hub reads, as one type: each by the type that UNH names, with what it says.
+//! Reads the four messages that the hub accepts, each by the type that UNH names, as one type of document.
 #![tactic(auto)]
 
 mod document;

@@ -1,4 +1,4 @@
--- What is valid in a despatch advice (DESADV) under the number of each fault, and what an advice says.
+-- Defines what a valid despatch advice (DESADV) is, by the number of each fault, and what an advice says.
 use Rattle.std.specs.Prelude.{◌≡◌, ◌⊎◌, ⊤, ℕ, List, codes, Option, Some}
 use Rattle.std.specs.List.{AllByRecursion, AllZip}
 use Rattle.edi_segments.specs.declared.segment.Segment.{Segment}
@@ -15,17 +15,17 @@ use Rattle.edi_law.specs.References.{is_rff_on, NamesOrder, NamesLineOrNone, Nam
 use Rattle.edi_law.specs.Summary.{IsControlled, HasLine}
 use Rattle.edi_law.specs.Units.{OfUnits, OfUnitLines, AreLines, HasUnits, HasSscc}
 
--- there is no reference in the header, or just one, which names this order
+-- the header has no reference, or exactly one, which names this order
 abbrev pub Inherits : List Segment → Option (List ℕ) → Type 0
 Inherits message order = OfHeader (λ header. OneOrNone is_rff_on NamesOrder header order) message
 
--- the order of a line: the one that the one reference of its group names, and that of the header where the group has
--- none
+-- the order of a line: the one that the only reference of its group names, or, if the group has none, the one of the
+-- header
 abbrev pub IsOfOrder : Option (List ℕ) → List Segment → List ℕ → Type 0
 IsOfOrder inherited group order = OfOnly is_rff_on group (NamesOrder order)
     ⊎ (HasNone is_rff_on group × (inherited ≡ Some order))
 
--- the one reference of a group is valid, or the group has none and the header has one
+-- the only reference of a group is valid, or the group has none and the header has one
 abbrev pub HasReferenceOrInherits : Option (List ℕ) → List Segment → Type 0
 HasReferenceOrInherits inherited group =
     OfOnly is_rff_on group (λ rff. ((order : List ℕ) × NamesOrder order rff) × NamesLineOrNone rff)

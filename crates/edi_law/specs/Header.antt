@@ -1,4 +1,4 @@
--- What is valid in the header of a message: its type, its beginning, its function, its date and its parties.
+-- Defines what a valid header of a message is: its type, its beginning, its function, its date and its parties.
 use Rattle.std.specs.Prelude.{◌≡◌, ℕ, true, false, List, ◌∷◌, codes, Option}
 use Rattle.gs1_ids.specs.Gln.{IsGln}
 use Rattle.edi_segments.specs.declared.segment.Segment.{Segment}
@@ -15,7 +15,7 @@ pub record IsOfType (type : List ℕ) (message : RawMessage) : Type 0 where
   pub release_is : message.release ≡ codes "01B"
   pub agency_is : message.agency ≡ codes "UN"
 
--- BGM stands after UNH and nowhere else, with this code and this document number, which is valid
+-- BGM follows UNH and appears nowhere else, with this code and this document number, which is valid
 pub record HasBeginning (code : List ℕ) (message : List Segment) (number : List ℕ) : Type 0 where
   pub unh : Segment
   pub bgm : Segment
@@ -36,22 +36,22 @@ pub record HasFunction (message : List Segment) (function : List ℕ) : Type 0 w
   pub place : message ≡ unh ∷ bgm ∷ rest
   pub function_is : component bgm 2 0 ≡ function
 
--- there is just one document date in the header, and it exists
+-- the header has exactly one document date, and the date exists
 abbrev pub IsDated : List Segment → Type 0
 IsDated message =
     OfHeader (λ header. OfOnly (says (codes "DTM") (codes "137")) header (λ dtm.
     IsDate (component dtm 0 2) (component dtm 0 1))) message
 
--- a NAD names a party by its GLN, and says that it is one
+-- a NAD names a party by its GLN, and says that this is a GLN
 pub record IsNamed (gln : List ℕ) (nad : Segment) : Type 0 where
   pub gln_is : component nad 1 0 ≡ gln
   pub right : IsGln gln
   pub agency : component nad 1 2 ≡ codes "9"
 
--- there is just one NAD of the role in the header, and it names this party
+-- the header has exactly one NAD of the role, which names this party
 abbrev pub NamesParty : List ℕ → List Segment → List ℕ → Type 0
 NamesParty role message gln = OfHeader (λ header. OfOnly (says (codes "NAD") role) header (IsNamed gln)) message
 
--- there is no NAD with BY in the header, or just one, which names the buyer
+-- the header has no NAD with BY, or exactly one, which names the buyer
 abbrev pub NamesBuyer : List Segment → Option (List ℕ) → Type 0
 NamesBuyer message buyer = OfHeader (λ header. OneOrNone (says (codes "NAD") (codes "BY")) IsNamed header buyer) message

@@ -1,4 +1,4 @@
--- What is valid in an order (ORDERS) under the number of each fault, and what an order says.
+-- Defines what a valid order (ORDERS) is, by the number of each fault, and what an order says.
 use Rattle.std.specs.Prelude.{ℕ, List, codes, ⊤}
 use Rattle.std.specs.List.{AllByRecursion, AllZip}
 use Rattle.edi_segments.specs.declared.segment.Segment.{Segment}
@@ -12,7 +12,7 @@ use Rattle.edi_law.specs.Lines.{IsLine, HasQuantity, NoneTwice}
 use Rattle.edi_law.specs.Parts.{OfLines}
 use Rattle.edi_law.specs.Summary.{IsClosed, IsControlled, HasLine}
 
--- each group is a line, and no number comes twice
+-- each group is a line, and no line number occurs twice
 pub record AreNumbered (groups : List (List Segment)) : Type 0 where
   pub numbers : List ℕ
   pub lines : AllZip (λ group number. (gtin : List ℕ) × IsLine group number gtin) groups numbers

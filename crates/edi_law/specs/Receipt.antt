@@ -1,4 +1,4 @@
--- What is valid in a receiving advice (RECADV) under the number of each fault, and what an advice says.
+-- Defines what a valid receiving advice (RECADV) is, by the number of each fault, and what an advice says.
 use Rattle.std.specs.Prelude.{◌≡◌, ◌≤◌, ◌||◌, ⊤, ℕ, Bool, true, false, List, filter, sum_by, is_some, unwrap_or, codes, Option}
 use Rattle.std.specs.List.{AllByRecursion, AllZip}
 use Rattle.std.specs.Str.{bytes_eq}
@@ -17,18 +17,18 @@ use Rattle.edi_law.specs.Summary.{IsControlled, HasLine}
 use Rattle.edi_law.specs.Values.{nine_digits}
 use Rattle.edi_law.specs.Units.{OfUnits, AreLines, HasUnits, HasSscc}
 
--- there is no QTY of the kind in the group, or just one, with this quantity
+-- the group has no QTY of this kind, or exactly one, with this quantity
 abbrev pub HasKind : List ℕ → List Segment → Option ℕ → Type 0
 HasKind kind group quantity = OneOrNone (says (codes "QTY") kind) (IsAmount 0) group quantity
 
--- the quantities of a group: 194 accepted, 195 to be returned, 196 to be destroyed; one of them is there
+-- the quantities of a group: 194 accepted, 195 to be returned, 196 to be destroyed; at least one is given
 pub record HasReceived (group : List Segment) (accepted returned destroyed : Option ℕ) : Type 0 where
   pub accepted_is : HasKind (codes "194") group accepted
   pub returned_is : HasKind (codes "195") group returned
   pub destroyed_is : HasKind (codes "196") group destroyed
   pub some : (is_some accepted || is_some returned || is_some destroyed) ≡ true
 
--- a line of the advice is what its group says: a kind that is not there counts for none
+-- a line of the advice is what its group says; a quantity that is not given counts as 0
 pub record IsReceiptLine (group : List Segment) (line : ReceiptLine) : Type 0 where
   pub number : ℕ
   pub line_is : IsLine group number line.gtin
@@ -40,23 +40,23 @@ pub record IsReceiptLine (group : List Segment) (line : ReceiptLine) : Type 0 wh
   pub returned_is : unwrap_or returned 0 ≡ line.returned
   pub destroyed_is : unwrap_or destroyed 0 ≡ line.destroyed
 
--- the quantities of all lines of one article, in sum
+-- the total of one quantity over all lines of an article
 abbrev pub total : (ReceiptLine → ℕ) → List ℕ → List ReceiptLine → ℕ
 total quantity article lines = sum_by quantity (filter (λ line. bytes_eq line.gtin article) lines)
 
--- no sum of a kind is above 999,999,999 for any article
+-- no total of an article is above 999,999,999
 pub record AreWithin (lines : List ReceiptLine) : Type 0 where
   pub accepted : (article : List ℕ) → total (λ line. line.accepted) article lines ≤ nine_digits
   pub returned : (article : List ℕ) → total (λ line. line.returned) article lines ≤ nine_digits
   pub destroyed : (article : List ℕ) → total (λ line. line.destroyed) article lines ≤ nine_digits
 
--- the groups of a unit have valid quantities, and these valid sums
+-- the groups of a unit have valid quantities with valid totals
 pub record AreReceived (groups : List (List Segment)) : Type 0 where
   pub lines : List ReceiptLine
   pub lines_are : AllZip IsReceiptLine groups lines
   pub within : AreWithin lines
 
--- the function of an advice: an original, or one that replaces
+-- the function of an advice: an original (9), or one that replaces (5)
 abbrev pub HasFunctionOf : Bool → List Segment → Type 0
 HasFunctionOf false message = HasFunction message (codes "9")
 HasFunctionOf true message = HasFunction message (codes "5")

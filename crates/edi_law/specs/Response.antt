@@ -1,4 +1,4 @@
--- What is valid in an order response (ORDRSP) under the number of each fault, and what a response says.
+-- Defines what a valid order response (ORDRSP) is, by the number of each fault, and what a response says.
 use Rattle.std.specs.Prelude.{◌≡◌, ◌⊎◌, ⊤, ℕ, List, ◌∷◌, codes}
 use Rattle.std.specs.List.{AllByRecursion, AllZip}
 use Rattle.edi_segments.specs.declared.segment.Segment.{Segment}
@@ -25,19 +25,19 @@ pub data Extent : Type 0 where
   NoneOfAll : Extent
   AllOfAll : Extent
 
--- what becomes of a line
+-- the answer to one line
 pub data Action : Type 0 where
   Accept : Action
   Refuse : Action
   Change : Action
 
--- the function: 4 change and 9 original answer lines, 27 is not accepted, 29 accepted without amendment
+-- the function: 4 (change) and 9 (original) answer each line, 27 refuses all lines, 29 accepts all without amendment
 abbrev pub HasExtent : List Segment → Extent → Type 0
 HasExtent message EachLine = HasFunction message (codes "4") ⊎ HasFunction message (codes "9")
 HasExtent message NoneOfAll = HasFunction message (codes "27")
 HasExtent message AllOfAll = HasFunction message (codes "29")
 
--- where lines are answered, the line groups are such
+-- if each line is answered, the line groups meet `Are`
 abbrev pub OfReadLines : (List (List Segment) → Type 0) → List Segment → Type 0
 OfReadLines Are message = HasExtent message EachLine → OfLines Are message
 
@@ -53,12 +53,12 @@ pub record HasAction (group : List Segment) (action : Action) : Type 0 where
   pub place : group ≡ lin ∷ body
   pub action_is : IsAction (component lin 1 0) action
 
--- each group is a line, with an action
+-- each group is a line and has an action
 pub record AreAnswered (groups : List (List Segment)) : Type 0 where
   pub lines : AllByRecursion (λ group. (number : ℕ) × (gtin : List ℕ) × IsLine group number gtin) groups
   pub actions : AllByRecursion (λ group. (action : Action) × HasAction group action) groups
 
--- the quantity of a change: the one QTY with 113, or where there is none the one with 21
+-- the quantity of a change: that of the only QTY with 113, or, if there is none, of the only one with 21
 abbrev pub HasChange : List Segment → ℕ → Type 0
 HasChange group quantity = HasQuantity (codes "113") 0 group quantity
     ⊎ (HasNone (says (codes "QTY") (codes "113")) group × HasQuantity (codes "21") 0 group quantity)
@@ -67,7 +67,7 @@ HasChange group quantity = HasQuantity (codes "113") 0 group quantity
 abbrev pub IsChangeRight : List Segment → Type 0
 IsChangeRight group = HasAction group Change → (quantity : ℕ) × HasChange group quantity
 
--- a group has no reference, or just one, which names the order of the header and a line or none
+-- the group has no reference, or exactly one, which names the order of the header and at most one line
 abbrev pub HasNoReferenceOrOneTo : List ℕ → List Segment → Type 0
 HasNoReferenceOrOneTo order group = HasNone is_rff_on group
     ⊎ OfOnly is_rff_on group (λ rff. NamesOrder order rff × NamesLineOrNone rff)

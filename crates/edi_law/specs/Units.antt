@@ -1,4 +1,4 @@
--- What is valid in the units of a despatch advice or a receiving advice.
+-- Defines what valid units of a despatch advice or a receiving advice are.
 use Rattle.std.specs.Prelude.{◌≡◌, ◌≢◌, ℕ, List, [], ◌∷◌, filter, codes}
 use Rattle.std.specs.List.{list_any, AllZip, AllByRecursion}
 use Rattle.gs1_ids.specs.Sscc.{IsSscc}
@@ -8,19 +8,19 @@ use Rattle.edi_law.specs.Lines.{IsLine, NoneTwice}
 use Rattle.edi_law.specs.Parts.{HasNone, IsFront, AreUnits, OfLines, OfOnly}
 use Rattle.edi_law.specs.Segments.{is_line_item, is_packing, says}
 
--- the units that are read, in their order: of all units, those with a LIN
+-- the units that are read, in their order: those that have a LIN
 pub record AreReadUnits (message : List Segment) (units : List (List Segment)) : Type 0 where
   pub all : List (List Segment)
   pub are_all : AreUnits message all
   pub are_read : units ≡ filter (list_any is_line_item) all
 
--- the units that are read are such
+-- the units that are read meet `Are`
 pub record OfUnits (Are : List (List Segment) → Type 0) (message : List Segment) : Type 0 where
   pub units : List (List Segment)
   pub are_units : AreReadUnits message units
   pub are : Are units
 
--- the line groups of each unit that is read are such
+-- the line groups of each unit that is read meet `Are`
 abbrev pub OfUnitLines : (List (List Segment) → Type 0) → List Segment → Type 0
 OfUnitLines Are message = OfUnits (AllByRecursion (OfLines Are)) message
 
@@ -29,19 +29,19 @@ abbrev pub AreLines : List Segment → Type 0
 AreLines message =
     OfUnitLines (AllByRecursion (λ group. (number : ℕ) × (gtin : List ℕ) × IsLine group number gtin)) message
 
--- no LIN stands in front of the first CPS
+-- no LIN comes before the first CPS
 pub record NoLineOutside (message : List Segment) : Type 0 where
   pub outside : List Segment
   pub is_front : IsFront is_packing outside message
   pub no_line : HasNone is_line_item outside
 
--- a GIN has the SSCC alone after its qualifier, and the SSCC is valid
+-- a GIN has nothing but the SSCC after its qualifier, and the SSCC is valid
 pub record IsMarked (sscc : List ℕ) (gin : Segment) : Type 0 where
   pub qualifier : List (List ℕ)
   pub place : gin.elements ≡ qualifier ∷ ((sscc ∷ []) ∷ [])
   pub right : IsSscc sscc
 
--- in front of the first LIN of a unit stands just one GIN with BJ, and it has this SSCC
+-- before its first LIN, the unit has exactly one GIN with BJ, and it gives this SSCC
 pub record HasSscc (unit : List Segment) (sscc : List ℕ) : Type 0 where
   pub head : List Segment
   pub is_head : IsFront is_line_item head unit
@@ -55,7 +55,7 @@ pub record IsUnit (unit : List Segment) (sscc : List ℕ) : Type 0 where
   pub identifier : component cps 0 0 ≢ []
   pub sscc_is : HasSscc unit sscc
 
--- each of the units is valid, and no SSCC comes twice
+-- each unit is valid, and no SSCC occurs twice
 pub record AreMarked (units : List (List Segment)) : Type 0 where
   pub ssccs : List (List ℕ)
   pub marked : AllZip IsUnit units ssccs

@@ -1,4 +1,4 @@
--- What the values of data elements are (UN/EDIFACT D.01B).
+-- Defines what valid values of data elements are (UN/EDIFACT D.01B).
 use Rattle.std.specs.Prelude.{◌≡◌, ℕ, ◌≤◌, ◌<◌, ◌⊎◌, List, [], ◌∷◌, ◌++◌, length, codes, pos, ⊤}
 use Rattle.std.specs.List.{AllByRecursion}
 use Rattle.jiff.specs.Words.{days_in_month}
@@ -13,30 +13,30 @@ pub record IsDocumentNumber (bytes : List ℕ) : Type 0 where
   pub at_most : length bytes ≤ 35
   pub printable : AllByRecursion (λ byte. (32 ≤ byte) × (byte ≤ 126)) bytes
 
--- a count: 1 to 6 digits, of which the first may be zeros
+-- a count: 1 to 6 digits; leading zeros are allowed
 pub record IsCount (bytes : List ℕ) (number : ℕ) : Type 0 where
   pub from_one : 1 ≤ length bytes
   pub at_most : length bytes ≤ 6
   pub digits : AllByRecursion IsDigit bytes
   pub number_is : number_of bytes ≡ number
 
--- a line number: a count from 1 on
+-- a line number: a count of at least 1
 pub record IsLineNumber (bytes : List ℕ) (number : ℕ) : Type 0 where
   pub count : IsCount bytes number
   pub above_zero : 1 ≤ number
 
--- nothing, or a full stop or a comma, and one or more zeros
+-- empty, or a full stop or a comma followed by one or more zeros
 abbrev pub IsNoFraction : List ℕ → Type 0
 IsNoFraction [] = ⊤
 IsNoFraction (mark ∷ zeros) = ((mark ≡ 46) ⊎ (mark ≡ 44)) × (1 ≤ length zeros)
     × AllByRecursion (λ zero. zero ≡ 48) zeros
 
--- the greatest number of nine digits, which no quantity is above: the law has a number of its own, so that a wrong one in
--- the definitions that it is about shows
+-- The greatest quantity, of nine digits. The law has its own constant, so that a wrong one in the code's definitions is
+-- noticed.
 abbrev pub nine_digits : ℕ
 nine_digits = 999_999_999
 
--- a quantity: digits, perhaps a fraction of zeros, at most 35 bytes and at most 999,999,999
+-- a quantity: digits, perhaps with a fraction of zeros, at most 35 bytes and at most 999,999,999
 pub record IsQuantity (bytes : List ℕ) (number : ℕ) : Type 0 where
   pub whole : List ℕ
   pub fraction : List ℕ
@@ -55,14 +55,14 @@ pub record IsInCalendar (year month day : ℕ) : Type 0 where
   pub from_first : 1 ≤ day
   pub to_last : day ≤ days_in_month (pos year) month
 
--- CCYYMMDD, of a day that exists
+-- CCYYMMDD; the day exists
 abbrev pub IsDay : List ℕ → Type 0
 IsDay (c ∷ d ∷ y ∷ z ∷ m ∷ n ∷ e ∷ f ∷ []) =
     AllByRecursion IsDigit (c ∷ d ∷ y ∷ z ∷ m ∷ n ∷ e ∷ f ∷ [])
     × IsInCalendar (number_of (c ∷ d ∷ y ∷ z ∷ [])) (number_of (m ∷ n ∷ [])) (number_of (e ∷ f ∷ []))
 IsDay _ = ⊥
 
--- HHMM, of a minute that exists
+-- HHMM; the minute exists
 abbrev pub IsMinute : List ℕ → Type 0
 IsMinute (h ∷ i ∷ m ∷ n ∷ []) = AllByRecursion IsDigit (h ∷ i ∷ m ∷ n ∷ []) × (number_of (h ∷ i ∷ []) < 24)
     × (number_of (m ∷ n ∷ []) < 60)

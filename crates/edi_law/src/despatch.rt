@@ -6,9 +6,9 @@ ghost use Rattle.edi_law.specs.Despatch.{IsRight, IsDespatch};
 ghost use Rattle.edi_law.specs.Lowest.{IsLowest, IsFaultless};
 ghost use Rattle.edi_messages.specs.declared.fault.MessageFault.{MessageFault};
 
-/// A law of the definition that a despatch advice is read by: a message has a fault exactly where what is valid under its
-/// number does not hold and all that is valid under lower numbers does. It is an advice exactly where all is valid and the
-/// advice is what the message says.
+/// States when a message is read as a despatch advice. It has a fault exactly if what this fault checks is not valid,
+/// and what each fault with a lower number checks is. It is an advice exactly if everything is valid and the advice is
+/// what the message says.
 pub fn despatch_law()
     ensures fault { (message : RawMessage) (fault : MessageFault) →
         (despatch_of message ≡ Err fault) ↔ IsLowest (IsRight message) fault }

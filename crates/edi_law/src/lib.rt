@@ -1,5 +1,5 @@
-//! Laws of messages: what makes an order, an order response, a despatch advice and a receiving advice valid, said of where
-//! segments stand and what they say, apart from how a message is read.
+//! States what makes an order, an order response, a despatch advice and a receiving advice valid, in terms of the
+//! positions and the content of segments and independently of how messages are read.
 #![tactic(auto)]
 
 mod despatch;

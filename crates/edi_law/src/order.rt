@@ -6,9 +6,9 @@ ghost use Rattle.edi_messages.specs.declared.fault.MessageFault.{MessageFault};
 ghost use Rattle.edi_orders.specs.Order.{order_of};
 ghost use Rattle.edi_orders.specs.declared.order.Order.{Order};
 
-/// A law of the definition that an order is read by: a message has a fault exactly where what is valid under its number
-/// does not hold and all that is valid under lower numbers does. It is an order exactly where all is valid and the order is
-/// what the message says.
+/// States when a message is read as an order. It has a fault exactly if what this fault checks is not valid, and what
+/// each fault with a lower number checks is. It is an order exactly if everything is valid and the order is what the
+/// message says.
 pub fn order_law()
     ensures fault { (message : RawMessage) (fault : MessageFault) →
         (order_of message ≡ Err fault) ↔ IsLowest (IsRight message) fault }

@@ -6,9 +6,9 @@ ghost use Rattle.edi_messages.specs.declared.fault.MessageFault.{MessageFault};
 ghost use Rattle.edi_orders.specs.Response.{response_of};
 ghost use Rattle.edi_orders.specs.declared.response.Response.{Response};
 
-/// A law of the definition that an order response is read by: a message has a fault exactly where what is valid under its
-/// number does not hold and all that is valid under lower numbers does. It is a response exactly where all is valid and the
-/// response is what the message says.
+/// States when a message is read as an order response. It has a fault exactly if what this fault checks is not valid,
+/// and what each fault with a lower number checks is. It is a response exactly if everything is valid and the response
+/// is what the message says.
 pub fn response_law()
     ensures fault { (message : RawMessage) (fault : MessageFault) →
         (response_of message ≡ Err fault) ↔ IsLowest (IsRight message) fault }

@@ -1,4 +1,4 @@
--- Moments, and the date and the time of day that a clock at UTC shows (the Gregorian calendar of ISO 8601).
+-- Defines moments, and the date and the time of day that a clock in UTC shows (the Gregorian calendar of ISO 8601).
 use Rattle.std.specs.Prelude.{◌≡◌, ℕ, zero, suc, ◌+◌, ◌/◌, ◌%◌, List, [], ◌∷◌, ◌++◌, nat_lt, if◌then◌else◌, pos}
 use Rattle.jiff.specs.Types.{DateTime}
 use Rattle.jiff.specs.Words.{days_in_month}
@@ -20,12 +20,12 @@ day_after d =
     else (if nat_lt d.month 12 then record { year = d.year; month = d.month + 1; day = 1 }
     else record { year = d.year + 1; month = 1; day = 1 })
 
--- so many days after 1970-01-01
+-- the day this many days after 1970-01-01
 unfoldable pub day_at : ℕ → Day
 day_at zero = record { year = 1970; month = 1; day = 1 }
 day_at (suc n) = day_after (day_at n)
 
--- the day of a moment: a day has 86,400 seconds
+-- the day of a moment; each day has 86,400 seconds
 abbrev pub day_of : ℕ → Day
 day_of moment = day_at (moment / 86_400)
 
@@ -41,7 +41,7 @@ date_text moment = let d = day_of moment in two_digits d.year ++ two_digits d.mo
 abbrev pub time_text : ℕ → List ℕ
 time_text moment = two_digits (moment % 86_400 / 3_600) ++ two_digits (moment % 3_600 / 60)
 
--- what a clock shows at a moment at UTC
+-- the clock shows the date, hour and minute of this moment in UTC
 pub record Shows (clock : DateTime) (moment : ℕ) : Type 0 where
   pub year : clock.date.year ≡ pos (day_of moment).year
   pub month : clock.date.month ≡ (day_of moment).month

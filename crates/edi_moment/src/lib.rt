@@ -1,4 +1,4 @@
-//! Moments in whole seconds, and what a clock at UTC shows of them.
+//! Defines moments in whole seconds, and what a clock in UTC shows of them.
 #![tactic(auto)]
 
 mod moment;

@@ -29,7 +29,7 @@ impl Moment {
     /// The last moment, 2099-12-31T23:59:59Z, in seconds.
     const LAST: u64 = 4_102_444_799;
 
-    /// The moment so many seconds after 1970-01-01T00:00:00Z, where it is in the range.
+    /// Makes the moment this many seconds after 1970-01-01T00:00:00Z; `None` after the last moment.
     pub fn new(seconds: u64) -> Option<Moment>
         ensures valid { IsSome result ↔ (seconds ≤ last_moment) }
         ensures value { IfSome result (λ moment. moment ≡ seconds) }
@@ -41,7 +41,7 @@ impl Moment {
         }
     }
 
-    /// Seconds since 1970-01-01T00:00:00Z.
+    /// Returns the seconds since 1970-01-01T00:00:00Z.
     pub fn seconds(self) -> u64
         ensures value { result ≡ self }
         ensures bound { result ≤ last_moment }
@@ -50,7 +50,7 @@ impl Moment {
     }
 }
 
-// What a clock at UTC shows.
+// Returns what a clock in UTC shows.
 fn utc(moment: Moment) -> DateTime
     ensures { Shows result moment }
 {
@@ -58,14 +58,14 @@ fn utc(moment: Moment) -> DateTime
     Offset::UTC.to_datetime(instant)
 }
 
-// The last two decimal digits of a number.
+// Returns the last two decimal digits of a number.
 fn two_digits(number: u16) -> [u8; 2]
     ensures { result ≡ decimals number }
 {
     [b'0' + (number / 10 % 10) as u8, b'0' + (number % 10) as u8]
 }
 
-/// The date of a moment at UTC, YYMMDD.
+/// Returns the date of a moment in UTC, as YYMMDD.
 pub fn date_digits(moment: Moment) -> [u8; 6]
     ensures { result ≡ date_text moment }
 {
@@ -76,7 +76,7 @@ pub fn date_digits(moment: Moment) -> [u8; 6]
     [year[0], year[1], month[0], month[1], day[0], day[1]]
 }
 
-/// The time of day of a moment at UTC, HHMM.
+/// Returns the time of day of a moment in UTC, as HHMM.
 pub fn time_digits(moment: Moment) -> [u8; 4]
     ensures { result ≡ time_text moment }
 {

@@ -1,4 +1,4 @@
-//! The program `edirelay`: an interchange on standard input becomes the supplier's mail, as `edihub relay` makes it.
+//! Turns an interchange on standard input into the supplier's mail, as `edihub relay` does.
 #![tactic(auto)]
 
 ghost use Rattle.std.specs.Prelude.{IfSome};
@@ -13,8 +13,8 @@ use std::{env, io};
 
 const CALLED: &str = "usage: edirelay HUB OWNER MOMENT NUMBER < INTERCHANGE > MAIL";
 
-// What the words behind the program's name say: the hub's and the supplier's GLN, the moment of the mail in seconds
-// since 1970 began at UTC, and the number of the first mail text.
+// Reads the arguments: the GLNs of the hub and of the supplier, the moment of the mail in seconds since
+// 1970-01-01T00:00:00Z, and the number of the first mail text.
 fn relay_words(given: &[String]) -> Option<RelayWords>
     ensures { IfSome result AreRelayWords }
 {
@@ -25,13 +25,13 @@ fn relay_words(given: &[String]) -> Option<RelayWords>
     RelayWords::new(hub, owner, moment, number.parse::<u64>().ok()?)
 }
 
-// Prints a line on standard error. Where that fails, the exit status alone tells.
+// Prints a line on standard error, and returns the exit status. If printing fails, only the status reports the fault.
 fn tell(rt: &HostRuntime, line: &str, status: u8) -> u8 {
     let _ = rt.eprintln(line);
     status
 }
 
-// Relays standard input as the words say.
+// Relays standard input as the arguments say.
 fn run(rt: &HostRuntime, given: &[String]) -> u8 {
     let Some(words) = relay_words(given) else {
         return tell(rt, CALLED, USAGE);

@@ -1,4 +1,4 @@
--- Messages and cancellations within the limits of what they say, from which rows of the kinds are made.
+-- Defines which messages and cancellations are within their limits, so that the rows made from them are clean.
 use Rattle.std.specs.Prelude.{◌≡◌, ◌≤◌, ⊤, true, List, length}
 use Rattle.std.specs.List.{AllByRecursion}
 use Rattle.edi_base.specs.Limits.{greatest}
@@ -36,7 +36,7 @@ use Rattle.hub_law.specs.HubRequests.declared.request.Request.TheVariants.{Cance
 use Rattle.hub_law.specs.Messages.{body_of}
 use Rattle.hub_law.specs.Told.{changed}
 
--- references, content, moment and decimal mark
+-- references, content, moment and decimal mark are within their limits
 pub record WithinIncoming (incoming : IncomingMessage) : Type 0 where
   pub control : is_reference incoming.control ≡ true
   pub message : is_reference incoming.message ≡ true
@@ -44,7 +44,8 @@ pub record WithinIncoming (incoming : IncomingMessage) : Type 0 where
   pub moment : incoming.moment ≤ last_moment
   pub decimal : is_decimal incoming.decimal ≡ true
 
--- a message and what comes with it: those limits, as many segments as a count of six digits counts, and bytes for a body
+-- a message and what comes with it are within those limits; its segments can be counted in six digits, and its text is
+-- bytes
 pub record WithinMessage (message : RawMessage) (came : IncomingMessage) : Type 0 where
   pub incoming : WithinIncoming came
   pub segments : length message.segments ≤ 999_999
@@ -68,7 +69,7 @@ pub record WithinDespatch (despatch : DespatchAdvice) : Type 0 where
   pub number : is_number despatch.number ≡ true
   pub units : AllByRecursion WithinUnit despatch.units
 
--- a line of a unit, and the sums of its item over the unit
+-- a line of a unit, with the totals of its article over the unit
 pub record WithinReceiptLine (lines : List ReceiptLine) (line : ReceiptLine) : Type 0 where
   pub item : is_key 14 line.gtin ≡ true
   pub accepted : total (λ line. line.accepted) line.gtin lines ≤ greatest
@@ -83,15 +84,15 @@ pub record WithinReceipt (receipt : ReceivingAdvice) : Type 0 where
   pub number : is_number receipt.number ≡ true
   pub units : AllByRecursion WithinReceiptUnit receipt.units
 
--- a cancellation within the limits of what it says
+-- a cancellation whose fields are within their limits
 pub record WithinCancel (cancel : Cancellation) : Type 0 where
   pub reference : is_reference cancel.reference ≡ true
   pub order : is_number cancel.order ≡ true
   pub line : is_line cancel.line ≡ true
   pub quantity : is_quantity cancel.quantity ≡ true
 
--- a document that is judged, with what is beside it: of the retailer's the body of the mailbox entry too, and of an
--- answer only what comes with it
+-- A document with what the rules need beside it. Only messages of the retailer need a text for the mailbox, and an
+-- answer has no limits of its own.
 abbrev pub WithinDocument : Beside → Document → Type 0
 WithinDocument b (Order order) = (are_bytes b.body ≡ true) × WithinOrder order
 WithinDocument b (Response response) = ⊤
@@ -102,30 +103,31 @@ abbrev pub WithinSubmission : Submission → Type 0
 WithinSubmission (Of b document) = WithinIncoming b.incoming × WithinDocument b document
 WithinSubmission (Cancels content cancel) = (is_reference cancel.reference ≡ true) × (are_bytes content ≡ true)
 
--- A document that is read of a message. The lines of a unit have places up to 999,999, so an advice is within its limits
--- if its message has no more segments, as each message of an interchange.
+-- A document read from a message. The places of a unit's lines go up to 999,999, so an advice is within its limits if
+-- its message has at most that many segments, as each message of an interchange has.
 abbrev pub IsWithin : RawMessage → Document → Type 0
 IsWithin message (Order order) = WithinOrder order
 IsWithin message (Response response) = ⊤
 IsWithin message (Despatch despatch) = length message.segments ≤ 999_999 → WithinDespatch despatch
 IsWithin message (Receipt receipt) = WithinReceipt receipt
 
--- the bytes of an upload may be any: what is read of them is within its limits
+-- an upload may have any bytes: what is read from it is within the limits
 abbrev pub WithinRequest : Request → Type 0
 WithinRequest (Cancel cancel) = WithinCancel cancel
 WithinRequest other = ⊤
 
--- an input at a moment that a hub knows
+-- an input at a moment that the hub supports
 pub record WithinInput (input : Input) : Type 0 where
   pub moment : input.moment ≤ last_moment
   pub request : WithinRequest input.request
 
--- where the supplier's GLN is one and all rows are of the kinds, they are so after what a judge of what it sees accepts
+-- if the supplier's GLN is valid and all rows are clean, they still are after what the judge accepts for the supplier's
+-- view
 abbrev pub Cleaned : SupplierRow → Tables → Judge → Type 0
 Cleaned s t judge =
     is_gln s.gln ≡ true → are_clean t ≡ true → are_clean (changed (judge (view s.gln t)) t) ≡ true
 
--- what is accepted sets rows that are there, and leaves rows of the kinds
+-- what is accepted sets only existing rows, and leaves all rows clean
 abbrev pub VerdictClean : Verdict → Tables → Type 0
 VerdictClean (Accept changes) t = (have_places changes t ≡ true) × (are_clean (apply_all changes t) ≡ true)
 VerdictClean (Refuse code) t = ⊤

@@ -1,4 +1,4 @@
-//! Laws of clean rows, each the contract of a function without a body.
+//! States laws of clean rows, each as the contract of a function without a body.
 ghost use Rattle.std.specs.Prelude.{◌≡◌, ◌≤◌, true, ℕ, List, Some, Ok};
 ghost use Rattle.std.specs.List.{AllByRecursion};
 ghost use Rattle.edi_envelope.specs.declared.interchange.Interchange.{Interchange};
@@ -32,8 +32,8 @@ ghost use Rattle.hub_law.specs.Messages.{incoming};
 ghost use Rattle.hub_law.specs.Requests.{join, taking};
 ghost use Rattle.hub_clean.specs.Clean.{WithinMessage, WithinSubmission, WithinInput, IsWithin, Cleaned};
 
-/// If all rows are of the kinds that a hub keeps, and a message or cancellation of a supplier is within the limits
-/// of what it says, the rows are so after what the rules accept of it, and after a join and a taken mark.
+/// If all rows are clean and a message or a cancellation of a supplier is within its limits, the rows are still clean
+/// after what the rules accept of it. They also are after a join and after a taken mark.
 pub fn rules_keep_rows_clean()
     ensures submission { (s : SupplierRow) (t : Tables) (submission : Submission) →
         WithinSubmission submission → Cleaned s t (judge (Some s) submission) }
@@ -44,7 +44,7 @@ pub fn rules_keep_rows_clean()
         are_clean (apply_all (taking entry) t) ≡ true }
 {}
 
-/// What is read of a message is within the limits of what it says.
+/// A document that was read from a message is within its limits.
 pub fn messages_read_are_within_limits()
     ensures of_a_type { (type : DocumentType) (message : RawMessage) (document : Document) →
         document_as type message ≡ Ok document → IsWithin message document }
@@ -52,16 +52,16 @@ pub fn messages_read_are_within_limits()
         document_of message ≡ Ok document → IsWithin message document }
 {}
 
-/// What comes with a message of an upload that was opened is within its limits: UNB, UNH and UNT have been checked, and
-/// what is read of a text is bytes.
+/// What accompanies a message of an opened upload is within its limits: UNB, UNH and UNT have been checked, and what is
+/// read from a text is bytes.
 pub fn messages_opened_are_within_limits()
     ensures { (bytes : List ℕ) (interchange : Interchange) (message : RawMessage) (moment : ℕ) →
         opened bytes ≡ Ok interchange → Has interchange.messages message → moment ≤ last_moment →
         WithinMessage message (incoming moment interchange message) }
 {}
 
-/// What the rules accept of what a supplier sees of sound tables sets only rows that are in these, each change at its
-/// turn. Of an order this holds in any tables.
+/// If the rules accept a submission for a supplier's view of sound tables, each change sets only rows that exist at its
+/// turn. For an order this holds in any tables.
 pub fn accepted_changes_have_places()
     ensures order { (s : SupplierRow) (t : Tables) (retailer : List ℕ) (incoming : IncomingMessage) (body : List ℕ)
         (order : Order) (changes : List Change) →
@@ -72,8 +72,8 @@ pub fn accepted_changes_have_places()
         judge (Some s) submission (view s.gln t) ≡ Accept changes → have_places changes t ≡ true }
 {}
 
-/// Each step of the shared machine, from a sound start of clean rows, leaves clean rows, whole or stopped; and so does a
-/// run of them. The bytes of an upload may be any.
+/// If a sound start has clean rows, each step of the shared machine leaves clean rows, whether it is stopped or not,
+/// and so does a run. The bytes of an upload may be any.
 pub fn steps_keep_rows_clean()
     ensures step { (t : Tables) (input : Input) (mark : Mark) → SoundHub t → are_clean t ≡ true →
         WithinInput input → are_clean (shared_step t input mark).1 ≡ true }

@@ -1,5 +1,5 @@
-//! Rows of the kinds that a hub keeps: which limits bring a message, a cancellation or a request within them, and that
-//! rows stay of these kinds after what the rules accept, and after each step.
+//! States the limits within which a message, a cancellation or a request gives clean rows, and that rows stay clean
+//! after what the rules accept, and after each step.
 #![tactic(auto)]
 
 mod laws;

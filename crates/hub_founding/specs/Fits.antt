@@ -1,4 +1,4 @@
--- A register that is founded beside rows which were there before, and when it fits to them.
+-- Defines what tables hold once a register is founded beside existing rows, and when the register fits those rows.
 use Rattle.std.specs.Prelude.{◌≡◌, ℕ, Bool, false, ◌&&◌, List, Option, None, Some, is_some}
 use Rattle.std.specs.List.{list_all}
 use Rattle.gs1_ids.specs.Digits.{is_key}
@@ -10,11 +10,11 @@ use Rattle.hub_tables.specs.Register.{register_changes}
 use Rattle.hub_tables.specs.Tables.{Tables}
 use Rattle.hub_tables.specs.declared.rows.PalletRow.{PalletRow}
 
--- the rows that were there, with those of the register
+-- the existing rows together with those of the register
 abbrev pub founded_beside : Tables → RegisterRows → Tables
 founded_beside t register = apply_all (register_changes register) t
 
--- all rows but those of a register are the same
+-- all rows except those of the register stay the same
 pub record KeepsOtherRows (t after : Tables) : Type 0 where
   pub orders : after.orders ≡ t.orders
   pub lines : after.lines ≡ t.lines
@@ -28,7 +28,7 @@ pub record KeepsOtherRows (t after : Tables) : Type 0 where
 abbrev pub is_registered : RegisterRows → List ℕ → Bool
 is_registered register gln = is_some (row_of register gln)
 
--- it is an SSCC under a company prefix of the supplier, if there is one
+-- whether the text is an SSCC under one of the supplier's company prefixes; false if there is no supplier
 abbrev pub is_under : Option SupplierRow → List ℕ → Bool
 is_under None sscc = false
 is_under (Some supplier) sscc = is_key 18 sscc && under_some sscc supplier.prefixes
@@ -36,7 +36,8 @@ is_under (Some supplier) sscc = is_key 18 sscc && under_some sscc supplier.prefi
 abbrev pub fits_pallet : RegisterRows → PalletRow → Bool
 fits_pallet register row = is_under (row_of register row.supplier) row.sscc
 
--- each supplier of a row is registered, and each pallet's SSCC is under one of its company prefixes
+-- whether the supplier of each row is registered, and each pallet's SSCC is under one of its supplier's company
+-- prefixes
 abbrev pub fits : RegisterRows → Tables → Bool
 fits register t =
     list_all (λ row. is_registered register row.supplier) t.orders

@@ -1,4 +1,4 @@
-//! The changes that found a register.
+//! Makes the changes that found a register.
 ghost use Rattle.std.specs.Prelude.{◌≡◌, IfOk};
 ghost use Rattle.hub_parties.specs.Rows.{IsRegister};
 ghost use Rattle.hub_tables.specs.Register as spec;
@@ -8,7 +8,6 @@ use hub_register::Register;
 use hub_tables::{Change, HubRow, put_row_changes};
 use std::alloc::Global;
 
-// The row of the hub and its retailer.
 fn hub_row(register: &Register) -> HubRow
     ensures value { result ≡ record {
       hub = register.now.hub;
@@ -24,8 +23,8 @@ fn hub_row(register: &Register) -> HubRow
     }
 }
 
-/// The changes that make the rows of a register in tables that have none: the hub's, and of each supplier its key and
-/// its prefixes.
+/// Returns the changes that add a register's rows to tables without any: the hub's row, and each supplier's key and
+/// prefixes.
 pub fn register_changes(alloc: Global, register: &Register) -> Result<Vec<Change>, MemoryFault>
     ensures changes { IfOk result (λ changes. changes.items ≡ spec.register_changes register.now) }
     ensures register { IsRegister register.now }

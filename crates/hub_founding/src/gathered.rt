@@ -1,4 +1,4 @@
-//! The prefixes of each supplier, gathered from the rows of all.
+//! Collects the prefixes of each supplier from the prefix rows.
 ghost use Rattle.std.specs.Prelude.{◌≡◌, ◌<◌, [], true, false, length, map, is_some, IfOk, OnOk};
 ghost use Rattle.std.specs.Option.{IfNone, IfSome};
 ghost use Rattle.std.specs.List.{HoldsAt};
@@ -12,7 +12,7 @@ use gs1_ids::{Gln, Prefix};
 use hub_tables::{KeyRow, PrefixRow};
 use std::alloc::Global;
 
-// The place of a supplier's key.
+// Returns the position of the supplier's key.
 fn place_of(keys: &[KeyRow], supplier: &Gln) -> Option<usize>
     ensures some { IfSome result (λ place.
         (place < length keys.now) × HoldsAt (λ row. row.supplier ≡ supplier.now) keys.now place) }
@@ -21,7 +21,7 @@ fn place_of(keys: &[KeyRow], supplier: &Gln) -> Option<usize>
     keys.binary_search_by(|row| row.supplier.cmp(supplier)).ok()
 }
 
-// No prefixes for each key.
+// Makes an empty list of prefixes for each key.
 fn empty_lists(alloc: Global, keys: &[KeyRow]) -> Result<Vec<Vec<Prefix>>, MemoryFault>
     ensures { IfOk result (λ lists. map (λ list. list.items) lists.items ≡ map (λ row. []) keys.now) }
 {
@@ -32,7 +32,7 @@ fn empty_lists(alloc: Global, keys: &[KeyRow]) -> Result<Vec<Vec<Prefix>>, Memor
     Ok(lists)
 }
 
-// Puts a prefix behind the others of its supplier, and says whether that one has a key.
+// Adds a prefix after the others of its supplier, and returns whether that supplier has a key.
 fn put_prefix(
     row: &PrefixRow,
     keys: &[KeyRow],
@@ -52,7 +52,8 @@ fn put_prefix(
     Ok(true)
 }
 
-/// The prefixes of each supplier with a key, in the order of the keys; `None` where a prefix is of none of them.
+/// Returns the prefixes of each supplier that has a key, in the order of the keys; `None` if some prefix belongs to no
+/// such supplier.
 pub(crate) fn gathered(
     alloc: Global,
     keys: &[KeyRow],

@@ -1,4 +1,4 @@
-//! The register that rows of tables hold, and the changes that found one.
+//! Reads the register that tables hold, and makes the changes that found one.
 #![tactic(auto)]
 
 mod changes;

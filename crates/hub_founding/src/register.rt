@@ -1,4 +1,4 @@
-//! The register that rows of tables hold.
+//! Reads the register that tables hold.
 ghost use Rattle.std.specs.Prelude.{◌≡◌, false, length, map, IfOk};
 ghost use Rattle.std.specs.Option.{IfNone, IfSome};
 ghost use Rattle.hub_parties.specs.KeyOrder.{Rises};
@@ -16,7 +16,7 @@ use hub_register::Register;
 use hub_tables::{HubRow, KeyRow, PrefixRow};
 use std::alloc::Global;
 
-// The row of a supplier; `None` where it cannot have these prefixes.
+// Makes the row of a supplier; `None` if it cannot have these prefixes.
 fn row_with(
     alloc: Global,
     key: &KeyRow,
@@ -36,7 +36,7 @@ fn row_with(
     }))
 }
 
-// The rows of all suppliers; `None` where one of them cannot have its prefixes.
+// Makes the rows of all suppliers; `None` if one of them cannot have its prefixes.
 fn rows_with(
     alloc: Global,
     keys: &[KeyRow],
@@ -58,8 +58,9 @@ fn rows_with(
     Ok(Some(rows))
 }
 
-/// The register that tables hold, from the rows of its three kinds, each in the order of its keys; `None` exactly where
-/// they hold none: where there is not one row of the hub, where a prefix is of no supplier with a key, or where the rows
+/// Returns the register that tables hold, from the rows of its three kinds, each sorted by key. Returns `None` exactly
+/// if they hold none: there is not exactly one hub row, some prefix belongs to no supplier that has a key, or the rows
+/// do not form a register.
 /// are those of no register.
 pub fn register_of(
     alloc: Global,

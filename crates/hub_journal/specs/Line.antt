@@ -1,4 +1,4 @@
--- The line of a connection in the journal.
+-- Defines the journal's line for a connection.
 use Rattle.std.specs.Prelude.{ℕ, ◌==◌, if◌then◌else◌, List, [], ◌++◌, codes, decimal, length, take, Option, Some, None}
 use Rattle.hub_journal.specs.Moment.{rfc3339}
 use Rattle.hub_journal.specs.Reply.{reply_in, shown}
@@ -15,7 +15,7 @@ abbrev pub request_text : Option Words → List ℕ
 request_text None = codes "-"
 request_text (Some (method, target)) = take 200 (shown method ++ (codes " " ++ shown target))
 
--- the status, or the word for why there was no whole answer
+-- the status, or the word for why there was no complete response
 abbrev pub outcome_text : Outcome → List ℕ
 outcome_text (Answered status) = decimal status
 outcome_text Gone = codes "gone"
@@ -23,17 +23,17 @@ outcome_text ReadFailed = codes "read"
 outcome_text TimedOut = codes "timeout"
 outcome_text WriteFailed = codes "write"
 
--- a text after a space, unless it is empty
+-- a text after a space; nothing for an empty text
 abbrev pub spaced : List ℕ → List ℕ
 spaced text = if length text == 0 then [] else codes " " ++ text
 
--- the reply to an upload or a cancellation
+-- the reply, if the request is an upload or a cancellation
 abbrev pub reply_text : Option Words → List ℕ → List ℕ
 reply_text None sent = []
 reply_text (Some request) sent = if is_told request then spaced (reply_in sent) else []
 
--- moment, number, request, status and reply of what was read and sent, as in
--- `2026-11-28T18:30:00Z 17 POST /p/5412345000006/cancellations 200 refused B17`
+-- The line of a connection, from what was read and sent: moment, number, request, status and reply, as in
+-- `2026-11-28T18:30:00Z 17 POST /p/5412345000006/cancellations 200 refused B17`.
 abbrev pub line : Option ℕ → ℕ → List ℕ → List ℕ → Outcome → List ℕ
 line moment number read sent outcome =
     moment_text moment ++ (codes " " ++ (decimal number ++ (codes " " ++ (request_text (request_in read)

@@ -1,4 +1,4 @@
--- A moment as RFC 3339 writes it, at UTC and to the second.
+-- Defines the text of a moment in RFC 3339 format, in UTC and to the second.
 use Rattle.std.specs.Prelude.{ℕ, ◌/◌, ◌%◌, List, ◌++◌, codes, nat_lt, if◌then◌else◌}
 use Rattle.edi_moment.specs.Moment.{Day, day_of, two_digits}
 

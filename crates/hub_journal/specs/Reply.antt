@@ -1,4 +1,4 @@
--- The lines of a reply, as they are shown in one line.
+-- Defines how the lines of a reply are shown in one line.
 use Rattle.std.specs.Prelude.{ℕ, ◌==◌, ◌-◌, nat_le, nat_eq, if◌then◌else◌, List, [], ◌∷◌, ◌++◌, codes, length, take, drop}
 use Rattle.std.specs.Prelude.{Option, Some, None, unwrap_or}
 use Rattle.std.specs.List.{flat_map, starts_with, ends_with}
@@ -11,7 +11,7 @@ shown_byte byte = if byte == 0x0A then codes "; " else if is_printable byte then
 abbrev pub shown : List ℕ → List ℕ
 shown = flat_map shown_byte
 
--- what follows the end of a line and an empty line
+-- what follows a line end and an empty line
 unfoldable pub after_head : List ℕ → Option (List ℕ)
 after_head bytes = if starts_with nat_eq bytes (codes "\r\n\r\n") then Some (drop 4 bytes) else None
 
@@ -20,11 +20,11 @@ abbrev pub body_in : List ℕ → List ℕ
 body_in [] = []
 body_in (byte ∷ rest) = unwrap_or (after_head (byte ∷ rest)) (body_in rest)
 
--- a text without the end of its last line
+-- a text without its last line end
 unfoldable pub without_end : List ℕ → List ℕ
 without_end text = if ends_with nat_eq text (codes "\n") then take (length text - 1) text else text
 
--- at most so many bytes are shown of a reply
+-- the most bytes of a reply that are shown
 abbrev pub longest_reply : ℕ
 longest_reply = 2000
 

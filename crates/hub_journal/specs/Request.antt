@@ -1,4 +1,4 @@
--- The method and the target of a request, by the bytes that a client sent.
+-- Finds the method and the target of a request in the bytes that a client sent.
 use Rattle.std.specs.Prelude.{ℕ, ◌+◌, Bool, ◌==◌, ◌||◌, ◌&&◌, not, nat_le, nat_eq, if◌then◌else◌, List, codes, length, drop}
 use Rattle.std.specs.Prelude.{Option, Some, None}
 use Rattle.std.specs.List.{list_all, prefix_len, take_while, ends_with}
@@ -13,7 +13,7 @@ is_capital byte = nat_le 0x41 byte && nat_le byte 0x5A
 abbrev pub ends_line : ℕ → Bool
 ends_line byte = byte == 0x0D || byte == 0x0A
 
--- the bytes before the first of these, or all
+-- the bytes before the first `end`, or all if there is none
 abbrev pub until : ℕ → List ℕ → List ℕ
 until end bytes = take_while (λ byte. not (byte == end)) bytes
 
@@ -28,13 +28,13 @@ Words = List ℕ × List ℕ
 abbrev pub words_of : Request → Words
 words_of request = (request.method.now, request.target.now)
 
--- The first two words of a request line. A first word with another byte than a capital letter, such as the colon of a
--- header field, is not a method.
+-- The method and the target, if both are valid. A first word that has any byte other than a capital letter, such as the
+-- colon of a header field, is not a method.
 abbrev pub if_request : Words → Option Words
 if_request (method, target) =
     if length method == 0 || (length target == 0 || not (list_all is_capital method)) then None else Some (method, target)
 
--- the first two words of a line, parted by a space
+-- the first two words of a line, separated by a space
 abbrev pub two_words : List ℕ → Words
 two_words line = let first = until 0x20 line in (first, until 0x20 (drop (length first + 1) line))
 
@@ -42,7 +42,7 @@ two_words line = let first = until 0x20 line in (first, until 0x20 (drop (length
 unfoldable pub request_in : List ℕ → Option Words
 request_in sent = if_request (two_words (first_line sent))
 
--- an upload, or a cancellation
+-- whether the request is an upload or a cancellation
 unfoldable pub is_told : Words → Bool
 is_told (method, target) =
     bytes_eq method (codes "POST")

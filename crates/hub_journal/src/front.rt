@@ -1,13 +1,13 @@
-//! Keeps the first bytes of a text, within a fixed room.
+//! Keeps the first bytes of a text in a fixed space.
 ghost use Rattle.std.specs.Prelude.{◌≡◌, ◌+◌, ◌≤◌, ◌==◌, [], ◌++◌, length, take};
 ghost use Rattle.hub_journal.specs.Front.{kept};
 
 use std::marker::Model;
 
-/// How many bytes are kept at most.
+/// The most bytes that are kept.
 const ROOM: usize = 2_400;
 
-/// The first bytes of a text, at most 2,400. Contracts see them as a list. It takes no memory of an allocator.
+/// The first bytes of a text, at most 2,400. Contracts see them as a list. No memory is allocated.
 #[derive(Drop)]
 pub struct Front {
     bytes: [u8; ROOM],
@@ -25,7 +25,7 @@ impl Model for Front {
 }
 
 impl Front {
-    /// Nothing is kept yet.
+    /// Makes an empty one.
     pub fn new() -> Self
         ensures { result ≡ [] }
     {
@@ -35,7 +35,7 @@ impl Front {
         }
     }
 
-    /// Keeps these bytes too, as many as there is room for.
+    /// Keeps as many of these bytes as there is room for.
     pub fn keep(&mut self, bytes: &[u8])
         ensures { self.new ≡ kept self.old bytes.now }
     {
@@ -52,14 +52,14 @@ impl Front {
         self.filled = end;
     }
 
-    /// Keeps no more than so many of the bytes.
+    /// Keeps only the first `most` of the bytes.
     pub(crate) fn cut(&mut self, most: usize)
         ensures { self.new ≡ take most self.old }
     {
         self.filled = self.filled.min(most);
     }
 
-    /// The bytes that are kept.
+    /// Returns the bytes that are kept.
     pub fn as_slice(&self) -> &[u8]
         ensures value { result.now ≡ self.now }
         ensures within { length result.now ≤ 2400 }

@@ -1,4 +1,4 @@
-//! Serves connections as they come, and gives a line of each that ended to a journal.
+//! Serves connections as they arrive, and appends a line to a journal for each one that ended.
 ghost use Rattle.std.specs.Prelude.{◌≡◌, [], ◌∷◌, None};
 ghost use Rattle.hub_serve.specs.Connections.{Adds, TakesMoment};
 ghost use Rattle.hub_journal.specs.Journaled as spec;
@@ -16,16 +16,16 @@ pub trait Journal {
     ghost use Rattle.std.specs.Prelude.{ℕ, List, [], ◌∷◌, Option, None};
     ghost use Rattle.hub_serve.specs.Connections.{Adds};
 
-    // The lines that it was given, in their order, where they are known.
+    // The lines that were appended, in order, if they are known.
     ghost lines: { Self → Option (List (List ℕ)) } = { λ _. None };
 
-    /// Takes one more line, with its end.
+    /// Appends one line, including its line end.
     fn append(&mut self, line: &[u8])
         ensures { Adds (lines self.old) (lines self.new) (line.now ∷ []) };
 }
 
-/// Connections of which each leaves a line in a journal when it ends. Its moment is the one at which it was taken. All
-/// else is as with the connections inside.
+/// Connections that each leave a line in a journal when they end, with the moment at which they were accepted. All else
+/// is as with the connections inside.
 #[derive(Drop)]
 pub struct Journaled<L, M, J> {
     connections: L,
@@ -49,7 +49,8 @@ fn outcome_of(ending: Ending, timed_out: bool) -> Outcome
 }
 
 impl<L, M, J> Journaled<L, M, J> {
-    /// Connections, the moments at which they come, and their journal. The first one has the number 1.
+    /// Combines connections, the moments at which they arrive, and their journal. The first connection has the number
+    /// 1.
     pub fn new(connections: L, moments: M, journal: J) -> Self
         ensures connections { result.connections ≡ connections }
         ensures moments { result.moments ≡ moments }
@@ -67,7 +68,7 @@ impl<L, M, J> Journaled<L, M, J> {
 }
 
 impl<L, M: Drop, J: Drop> Journaled<L, M, J> {
-    /// The connections.
+    /// Returns the connections.
     pub fn into_connections(self) -> L
         ensures { result ≡ self.connections }
     {
@@ -83,7 +84,7 @@ impl<L, M: Drop, J: Drop> Journaled<L, M, J> {
 }
 
 impl<L, M: Moments, J: Journal> Journaled<L, M, J> {
-    // Counts a connection, which came now.
+    // Counts a connection that has just arrived.
     fn count(&mut self)
         ensures number { self.new.number ≡ spec.next_number self.old.number }
         ensures moment { TakesMoment (M.coming self.old.moments) (M.coming self.new.moments) self.new.moment }
@@ -94,7 +95,7 @@ impl<L, M: Moments, J: Journal> Journaled<L, M, J> {
         self.moment = self.moments.next();
     }
 
-    // Gives the line of the connection that came last to the journal.
+    // Appends the line of the latest connection to the journal.
     fn tell(&mut self, read: &[u8], sent: &[u8], outcome: Outcome)
         ensures told { Adds (J.lines self.old.journal) (J.lines self.new.journal)
             (line self.old.moment self.old.number read.now sent.now outcome ∷ []) }

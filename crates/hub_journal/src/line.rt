@@ -14,37 +14,37 @@ use edi_moment::Moment;
 /// How a connection ended.
 #[derive(Clone, Copy, Debug, PartialEq, Eq)]
 pub enum Outcome {
-    /// It was answered with this status.
+    /// It got a response with this status.
     Answered(u16),
-    /// Its client disconnected before it was taken.
+    /// Its client disconnected before the connection was accepted.
     Gone,
-    /// A read failed. Nothing was asked of the hub.
+    /// A read failed. The hub got no request.
     ReadFailed,
-    /// The client did not send its request in time. Nothing was asked of the hub.
+    /// The client did not send its request in time. The hub got no request.
     TimedOut,
-    /// A write failed. What was asked of the hub was done.
+    /// A write failed. The request was carried out.
     WriteFailed,
 }
 
-/// What the journal says of a connection.
+/// What the journal shows of a connection.
 #[derive(Clone, Copy)]
 pub struct Entry<'a> {
-    /// When it came, if that is known.
+    /// When it arrived, if that is known.
     pub moment: Option<Moment>,
-    /// Its number: the first one is 1.
+    /// Its number; the first connection has 1.
     pub number: u64,
     /// The first bytes that its client sent.
     pub read: &'a [u8],
-    /// The first bytes that its client was sent.
+    /// The first bytes that were sent to its client.
     pub sent: &'a [u8],
     /// How it ended.
     pub outcome: Outcome,
 }
 
-/// How many bytes of method and target are shown at most.
+/// The most bytes of method and target that are shown.
 const LONGEST_REQUEST: usize = 200;
 
-// Keeps a moment.
+// Writes a moment.
 fn keep_moment(line: &mut Front, moment: Option<Moment>)
     ensures { line.new ≡ kept line.old (spec.moment_text moment) }
 {
@@ -54,7 +54,7 @@ fn keep_moment(line: &mut Front, moment: Option<Moment>)
     }
 }
 
-// Keeps a number.
+// Writes a number.
 fn keep_number(line: &mut Front, number: u64)
     ensures value { line.new ≡ kept line.old (decimal number) }
     ensures short { length (decimal number) ≤ 40 }
@@ -63,7 +63,7 @@ fn keep_number(line: &mut Front, number: u64)
     line.keep(digits.format(number).as_bytes());
 }
 
-// Keeps method and target.
+// Writes method and target.
 fn keep_request(line: &mut Front, request: Option<Request<'_>>)
     ensures { line.new ≡ kept line.old (spec.request_text (option_map words_of request.entry)) }
 {
@@ -80,7 +80,7 @@ fn keep_request(line: &mut Front, request: Option<Request<'_>>)
     }
 }
 
-// Keeps the status, or the word for why there was no whole answer.
+// Writes the status, or the word for why there was no complete response.
 fn keep_outcome(line: &mut Front, outcome: Outcome)
     ensures value { line.new ≡ kept line.old (spec.outcome_text outcome) }
     ensures short { length (spec.outcome_text outcome) ≤ 40 }
@@ -94,7 +94,7 @@ fn keep_outcome(line: &mut Front, outcome: Outcome)
     }
 }
 
-// Keeps a text after a space, unless it is empty.
+// Writes a text after a space, unless it is empty.
 fn keep_spaced(line: &mut Front, text: &[u8])
     ensures { line.new ≡ kept line.old (spec.spaced text.now) }
 {
@@ -104,7 +104,7 @@ fn keep_spaced(line: &mut Front, text: &[u8])
     }
 }
 
-// Keeps the reply to an upload or a cancellation.
+// Writes the reply, if the request is an upload or a cancellation.
 fn keep_reply(line: &mut Front, request: Option<Request<'_>>, sent: &[u8])
     ensures { line.new ≡ kept line.old (spec.reply_text (option_map words_of request.entry) sent.now) }
 {
@@ -117,7 +117,7 @@ fn keep_reply(line: &mut Front, request: Option<Request<'_>>, sent: &[u8])
     }
 }
 
-/// The line of a connection.
+/// Returns the line of a connection.
 pub fn line_of(entry: &Entry<'_>) -> Front
     ensures { result ≡ spec.line entry.now.moment entry.now.number entry.now.read.now entry.now.sent.now entry.now.outcome }
 {
@@ -135,8 +135,8 @@ pub fn line_of(entry: &Entry<'_>) -> Front
     line
 }
 
-/// Three lines byte for byte: an upload of which one message was refused, a request whose target has a byte that is not
-/// printable and whose reply is not told, and a client that did not send its request in time.
+/// Shows three lines byte for byte: an upload of which one message was refused; a request whose target has a byte that
+/// is not printable, and whose reply is not shown; and a client that did not send its request in time.
 pub fn line_examples()
     ensures upload { spec.line (Some 97445) 17
         (codes "POST /p/4012345500004/interchanges HTTP/1.1\r\nX-Hub-Key: alpha-key-1\r\n\r\nUNB")

@@ -1,4 +1,4 @@
-//! Writes moments as RFC 3339 has them.
+//! Writes moments in RFC 3339 format.
 ghost use Rattle.std.specs.Prelude.{◌≡◌};
 ghost use Rattle.edi_moment.specs.Moment.{two_digits as decimals};
 ghost use Rattle.hub_journal.specs.Moment as spec;
@@ -8,14 +8,14 @@ use edi_moment::{Moment, date_digits, time_digits};
 /// The first second of the year 2000.
 const YEAR_2000: u64 = 946_684_800;
 
-// The last two decimal digits of a number.
+// Returns the last two decimal digits of a number.
 fn two_digits(number: u64) -> [u8; 2]
     ensures { result ≡ decimals number }
 {
     [b'0' + (number / 10 % 10) as u8, b'0' + (number % 10) as u8]
 }
 
-// The first two digits of the year.
+// Returns the first two digits of the year.
 fn century(moment: Moment) -> [u8; 2]
     ensures { result ≡ spec.century moment }
 {
@@ -27,7 +27,7 @@ fn century(moment: Moment) -> [u8; 2]
 }
 
 #[tactic(auto, unfolding(crate::specs::Moment::rfc3339))]
-/// A moment at UTC, as `2026-11-28T18:30:00Z`.
+/// Returns a moment in UTC, as `2026-11-28T18:30:00Z`.
 pub(crate) fn rfc3339(moment: Moment) -> [u8; 20]
     ensures { result ≡ spec.rfc3339 moment }
 {

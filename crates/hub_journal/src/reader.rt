@@ -1,4 +1,4 @@
-//! Wraps a reader, and keeps the first bytes that are read.
+//! Wraps a reader and keeps the first bytes that are read.
 ghost use Rattle.std.specs.Prelude.{◌≡◌, [], false};
 ghost use Rattle.std.specs.IoError.{error_kind};
 ghost use Rattle.hub_journal.specs.Recording as spec;
@@ -8,8 +8,8 @@ use edi_base::Source;
 use std::io;
 use std::io::{Error, ErrorKind};
 
-/// A reader that keeps the first bytes that it gave, and whether its last failure was a timeout. All else is as with the
-/// reader inside.
+/// A reader that keeps the first bytes that it read, and whether its last failure was a timeout. All else is as with
+/// the reader inside.
 #[derive(Drop)]
 pub struct RecordingReader<R> {
     reader: R,
@@ -17,7 +17,7 @@ pub struct RecordingReader<R> {
     timed_out: bool,
 }
 
-// Whether a call waited too long. A socket says that it would block.
+// Whether a call timed out, which a socket reports as `WouldBlock`.
 fn is_timeout(error: &Error) -> bool
     ensures { result ≡ spec.is_timeout (error_kind error.now) }
 {
@@ -25,7 +25,7 @@ fn is_timeout(error: &Error) -> bool
 }
 
 impl<R> RecordingReader<R> {
-    /// Wraps a reader, of which nothing was read yet.
+    /// Wraps a reader from which nothing was read yet.
     pub fn new(reader: R) -> Self
         ensures reader { result.reader ≡ reader }
         ensures front { result.front ≡ [] }
@@ -38,21 +38,21 @@ impl<R> RecordingReader<R> {
         }
     }
 
-    /// The first bytes that were read.
+    /// Returns the first bytes that were read.
     pub fn front(&self) -> &[u8]
         ensures { result.now ≡ self.now.front }
     {
         self.front.as_slice()
     }
 
-    /// Whether the last read that failed waited too long.
+    /// Whether the last failed read timed out.
     pub fn timed_out(&self) -> bool
         ensures { result ≡ self.now.timed_out }
     {
         self.timed_out
     }
 
-    /// The reader.
+    /// Returns the reader.
     pub fn into_inner(self) -> R
         ensures { result ≡ self.reader }
     {

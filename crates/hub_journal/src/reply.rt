@@ -5,11 +5,11 @@ ghost use Rattle.hub_journal.specs.Reply as spec;
 
 use crate::front::Front;
 
-/// How many bytes are shown of a reply at most.
+/// The most bytes of a reply that are shown.
 const LONGEST_REPLY: usize = 2_000;
 
 #[tactic(auto, unfolding(crate::specs::Reply::shown_byte))]
-// Keeps a byte as it is shown.
+// Writes a byte in the form in which it is shown.
 fn keep_byte(front: &mut Front, byte: u8)
     ensures { front.new ≡ kept front.old (spec.shown_byte byte) }
 {
@@ -22,7 +22,7 @@ fn keep_byte(front: &mut Front, byte: u8)
     }
 }
 
-/// Keeps bytes as they are shown.
+/// Writes bytes in the form in which they are shown.
 pub(crate) fn keep_shown(front: &mut Front, bytes: &[u8])
     ensures { front.new ≡ kept front.old (spec.shown bytes.now) }
 {
@@ -31,7 +31,7 @@ pub(crate) fn keep_shown(front: &mut Front, bytes: &[u8])
     }
 }
 
-// What follows the end of a line and an empty line.
+// Returns what follows a line end and an empty line, if the bytes begin with these.
 #[tactic(auto, unfolding(crate::specs::Reply::after_head))]
 fn after_head(bytes: &[u8]) -> Option<&[u8]>
     ensures { option_map (λ body. body.now) result ≡ spec.after_head bytes.now }
@@ -43,7 +43,6 @@ fn after_head(bytes: &[u8]) -> Option<&[u8]>
     }
 }
 
-// The body of a response.
 fn body_in(response: &[u8]) -> &[u8]
     ensures { result.now ≡ spec.body_in response.now }
 {
@@ -57,7 +56,7 @@ fn body_in(response: &[u8]) -> &[u8]
     rest
 }
 
-// A text without the end of its last line.
+// Returns a text without its last line end.
 #[tactic(auto, unfolding(crate::specs::Reply::without_end))]
 fn without_end(text: &[u8]) -> &[u8]
     ensures { result.now ≡ spec.without_end text.now }
@@ -69,7 +68,7 @@ fn without_end(text: &[u8]) -> &[u8]
     }
 }
 
-/// The lines of the reply in a response, joined by `; `.
+/// Returns the lines of the reply in a response, joined by `; `.
 pub(crate) fn reply_in(response: &[u8]) -> Front
     ensures { result ≡ spec.reply_in response.now }
 {

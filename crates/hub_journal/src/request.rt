@@ -11,7 +11,7 @@ pub(crate) struct Request<'a> {
     pub target: &'a [u8],
 }
 
-// How many bytes come before the first of these.
+// Returns how many bytes come before the first `end`.
 fn count_until(end: u8, bytes: &[u8]) -> usize
     ensures within { result ≤ length bytes.now }
     ensures value { result ≡ prefix_len (λ byte. not (byte == end)) bytes.now }
@@ -24,14 +24,14 @@ fn count_until(end: u8, bytes: &[u8]) -> usize
     bytes.len()
 }
 
-// The bytes before the first of these, or all.
+// Returns the bytes before the first `end`, or all if there is none.
 fn until(end: u8, bytes: &[u8]) -> &[u8]
     ensures { result.now ≡ spec.until end bytes.now }
 {
     &bytes[..count_until(end, bytes)]
 }
 
-// How many line ends come first.
+// Returns how many bytes of line ends come first.
 fn count_line_ends(bytes: &[u8]) -> usize
     ensures within { result ≤ length bytes.now }
     ensures value { result ≡ prefix_len spec.ends_line bytes.now }
@@ -44,7 +44,7 @@ fn count_line_ends(bytes: &[u8]) -> usize
     bytes.len()
 }
 
-// The first line that is not empty.
+// Returns the first line that is not empty.
 fn first_line(bytes: &[u8]) -> &[u8]
     ensures { result.now ≡ spec.first_line bytes.now }
 {
@@ -59,7 +59,7 @@ fn all_capital(bytes: &[u8]) -> bool
     bytes.iter().all(|byte| b'A' <= *byte && *byte <= b'Z')
 }
 
-// The first two words of a line, parted by a space.
+// Returns the first two words of a line, separated by a space.
 fn two_words(line: &[u8]) -> Request<'_>
     ensures { words_of result ≡ spec.two_words line.now }
 {
@@ -73,7 +73,7 @@ fn two_words(line: &[u8]) -> Request<'_>
 
 impl<'a> Request<'a> {
     #[tactic(auto, unfolding(crate::specs::Request::request_in))]
-    /// The request that a client sent, if its first line has a method and a target.
+    /// Returns the request that a client sent, if its first line has a method and a target.
     pub fn read_from(sent: &'a [u8]) -> Option<Self>
         ensures { option_map words_of result ≡ spec.request_in sent.now }
     {
@@ -85,7 +85,7 @@ impl<'a> Request<'a> {
     }
 
     #[tactic(auto, unfolding(crate::specs::Request::is_told))]
-    /// Whether it is an upload or a cancellation, of whose reply the lines are told.
+    /// Whether it is an upload or a cancellation, whose reply the journal shows.
     pub fn is_told(&self) -> bool
         ensures { result ≡ spec.is_told (words_of self.now) }
     {

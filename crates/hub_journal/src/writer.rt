@@ -1,11 +1,11 @@
-//! Wraps a writer, and keeps the first bytes that are written.
+//! Wraps a writer and keeps the first bytes that are written.
 ghost use Rattle.std.specs.Prelude.{◌≡◌, []};
 
 use crate::front::Front;
 use edi_base::Sink;
 use std::io;
 
-/// A writer that keeps the first bytes that it took. All else is as with the writer inside.
+/// A writer that keeps the first bytes that it wrote. All else is as with the writer inside.
 #[derive(Drop)]
 pub struct RecordingWriter<W> {
     writer: W,
@@ -13,7 +13,7 @@ pub struct RecordingWriter<W> {
 }
 
 impl<W> RecordingWriter<W> {
-    /// Wraps a writer, to which nothing was written yet.
+    /// Wraps a writer to which nothing was written yet.
     pub fn new(writer: W) -> Self
         ensures writer { result.writer ≡ writer }
         ensures front { result.front ≡ [] }
@@ -24,14 +24,14 @@ impl<W> RecordingWriter<W> {
         }
     }
 
-    /// The first bytes that were written.
+    /// Returns the first bytes that were written.
     pub fn front(&self) -> &[u8]
         ensures { result.now ≡ self.now.front }
     {
         self.front.as_slice()
     }
 
-    /// The writer.
+    /// Returns the writer.
     pub fn into_inner(self) -> W
         ensures { result ≡ self.writer }
     {

@@ -1,11 +1,11 @@
--- The facts of lines, as a state has them.
+-- Defines the facts of order lines in a given state.
 use Rattle.std.specs.Prelude.{List, map}
 use Rattle.hub_tables.specs.State.{despatched}
 use Rattle.hub_tables.specs.Tables.{Tables}
 use Rattle.hub_tables.specs.declared.rows.LineRow.{LineRow}
 use Rattle.hub_order_lines.specs.declared.facts.LineFacts.{LineFacts}
 
--- a line, and what of it is despatched
+-- a line and the quantity of it that was despatched
 abbrev pub fact_in : Tables → LineRow → LineFacts
 fact_in state row = record { row = row; despatched = despatched state row }
 

@@ -1,4 +1,4 @@
--- When what is known tells the truth of a state, as far as a judge asks.
+-- Defines when the facts given to a judge agree with a state, as far as the judge reads them.
 use Rattle.std.specs.Prelude.{◌≡◌, ℕ, Bool, true, false, None, List, [], length, map}
 use Rattle.std.specs.List.{AllByRecursion, list_any}
 use Rattle.edi_orders.specs.declared.order.Order.{Order}
@@ -16,52 +16,52 @@ use Rattle.hub_rules.specs.declared.cancel.Cancel.{Cancel}
 use Rattle.hub_rules.specs.declared.incoming.IncomingMessage.{IncomingMessage}
 use Rattle.hub_judges.specs.declared.known.Known.{Known}
 
--- the content that is remembered of a side under two references
+-- the content remembered for a side under two references agrees
 abbrev pub TellsRemembered : Known → Side → List ℕ → List ℕ → Tables → Type 0
 TellsRemembered known side control message state = remembered_content state side control message ≡ known.remembered
 
--- whether an order is there
+-- whether the order exists agrees
 abbrev pub TellsOrder : Known → Tables → List ℕ → Type 0
 TellsOrder known state order = knows_order state order ≡ has_order known.orders order
 
--- the lines of an order
+-- the lines of the order agree
 abbrev pub TellsLines : Tables → Orders → List ℕ → Type 0
 TellsLines state orders order = lines_of state order ≡ rows (lines_in orders order)
 
--- what of each line of an order is despatched
+-- the despatched quantity of each line of the order agrees
 abbrev pub TellsDespatched : Tables → Orders → List ℕ → Type 0
 TellsDespatched state orders order = AllByRecursion (λ line. despatched state line.row ≡ line.despatched) (lines_in orders order)
 
--- what is asked for an ORDERS
+-- the facts for an ORDERS agree
 pub record TellsForOrder (known : Known) (incoming : IncomingMessage) (order : Order) (state : Tables) : Type 0 where
   pub remembered : TellsRemembered known Retailer incoming.control incoming.message state
   pub number : knows_order state order.number ≡ known.number_known
   pub mails : length state.mail ≡ known.mails
 
--- the order that is answered
+-- the facts of the answered order agree
 pub record TellsAnswered (known : Known) (number : List ℕ) (state : Tables) : Type 0 where
   pub order : TellsOrder known state number
   pub lines : TellsLines state known.orders number
   pub despatched : TellsDespatched state known.orders number
 
--- for an ORDRSP: where something is remembered of it, no order is asked for
+-- the facts for an ORDRSP agree; if its references are already remembered, those of the order need not
 pub record TellsForResponse (known : Known) (incoming : IncomingMessage) (response : Response)
     (state : Tables) : Type 0 where
   pub remembered : TellsRemembered known Supplier incoming.control incoming.message state
   pub answered : known.remembered ≡ None → TellsAnswered known response.order state
 
--- an advice names the order at one of its lines
+-- whether some line of the advice names the order
 abbrev pub names_order : List Unit → List ℕ → Bool
 names_order units order = list_any (λ unit. list_any (λ line. same line.order order) unit.lines) units
 
--- the units of a DESADV, and the orders that they name
+-- the facts of a DESADV's units agree, and those of the orders that they name
 pub record TellsUnits (known : Known) (used : List ℕ → Bool) (units : List Unit) (state : Tables) : Type 0 where
   pub used_told : map (λ unit. used unit.sscc) units ≡ known.used
   pub orders : (order : List ℕ) → names_order units order ≡ true → TellsOrder known state order
   pub lines : (order : List ℕ) → names_order units order ≡ true → TellsLines state known.orders order
 
--- for a DESADV: whether an SSCC is used is told of each unit, and is true wherever the state has the pallet. Where
--- something is remembered of it, or its number is known, no unit is asked for.
+-- The facts for a DESADV agree. Whether an SSCC is used is known for each unit, and is true whenever the state has the
+-- pallet. If its references are already remembered, or its number is known, those of the units need not agree.
 pub record TellsForDespatch (known : Known) (used : List ℕ → Bool) (incoming : IncomingMessage) (despatch : Despatch)
     (state : Tables) : Type 0 where
   pub remembered : TellsRemembered known Supplier incoming.control incoming.message state
@@ -69,14 +69,14 @@ pub record TellsForDespatch (known : Known) (used : List ℕ → Bool) (incoming
   pub used_there : (sscc : List ℕ) → has_pallet state sscc ≡ true → used sscc ≡ true
   pub units : known.remembered ≡ None → known.number_known ≡ false → TellsUnits known used despatch.units state
 
--- for a RECADV
+-- the facts for a RECADV agree
 pub record TellsForReceipt (known : Known) (incoming : IncomingMessage) (receipt : Receipt)
     (state : Tables) : Type 0 where
   pub remembered : TellsRemembered known Retailer incoming.control incoming.message state
   pub mails : length state.mail ≡ known.mails
   pub pallets : map (λ unit. pallet_of state unit.sscc) receipt.units ≡ known.pallets
 
--- for a cancellation
+-- the facts for a cancellation agree
 pub record TellsForCancel (known : Known) (cancel : Cancel) (state : Tables) : Type 0 where
   pub remembered : TellsRemembered known Cancellation cancel.reference [] state
   pub order : TellsOrder known state cancel.order

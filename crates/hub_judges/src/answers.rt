@@ -1,4 +1,4 @@
-//! Answers to lines of an order.
+//! Applies answers to order lines.
 ghost use Rattle.std.specs.Prelude.{◌≡◌, ◌+◌, ◌≤◌, ◌++◌, ℕ, false, not, map, IfOk};
 ghost use Rattle.std.specs.List.{AllByRecursion};
 ghost use Rattle.std.specs.Option.{IfSome, IfNone};
@@ -19,14 +19,14 @@ use hub_rules::{Code, Verdict};
 use hub_tables::{Answered, Change, Column, LineRow};
 use std::alloc::Global;
 
-// Whether a line waits for an answer.
+// Whether the line waits for an answer.
 fn is_waiting(line: &LineFacts) -> bool
     ensures { result ≡ waits line.now.row }
 {
     line.row.answer.case() == Answered::Waiting
 }
 
-/// Whether a line of an order waits for an answer.
+/// Whether some line of the order waits for an answer.
 pub(crate) fn any_waits(lines: &[LineFacts], order: &[u8]) -> bool
     ensures { result ≡ not (is_empty (waiting (facts_of lines.now order.now))) }
 {
@@ -38,7 +38,7 @@ pub(crate) fn any_waits(lines: &[LineFacts], order: &[u8]) -> bool
     false
 }
 
-// Whether a changed quantity is out of the range of a line.
+// Whether a changed quantity is below what is despatched, or above what is despatched and open together.
 fn is_past_range(answer: LineAnswer, line: &LineFacts) -> bool
     ensures { result ≡ is_out_of_range answer line.now.despatched line.now.row }
 {
@@ -50,7 +50,7 @@ fn is_past_range(answer: LineAnswer, line: &LineFacts) -> bool
     }
 }
 
-// The rule that an answer to a line is against: B07, B08 or B09.
+// Returns the rule that an answer to a line breaks: B07, B08 or B09.
 fn answer_fault(said: &AnswerLine, line: &LineFacts) -> Option<Code>
     ensures some { IfSome result (λ code.
         (rest : Verdict) → answer_checks said.now line.now rest ≡ Refuse code) }
@@ -69,7 +69,7 @@ fn answer_fault(said: &AnswerLine, line: &LineFacts) -> Option<Code>
     None
 }
 
-// A line after its answer.
+// Returns the line after its answer.
 fn answered_line(
     alloc: Global,
     answer: LineAnswer,
@@ -98,7 +98,7 @@ fn answered_line(
     Ok(row)
 }
 
-/// Adds to the changes the same answer for each line of an order that waits.
+/// Appends the same answer for each line of the order that waits.
 pub(crate) fn answer_all(
     alloc: Global,
     lines: &[LineFacts],
@@ -119,7 +119,8 @@ pub(crate) fn answer_all(
     Ok(())
 }
 
-/// What comes of answers to lines of an order, after the changes: B06 to B09 are asked of each, on what the earlier ones left.
+/// Decides on the answers to an order's lines, and appends their changes. B06 to B09 are checked for each line, on what
+/// the earlier ones left.
 pub(crate) fn answer_lines(
     alloc: Global,
     book: Book<'_>,

@@ -1,4 +1,4 @@
-//! The rules of cancellations.
+//! Decides on cancellations.
 ghost use Rattle.std.specs.Prelude.{◌≡◌, IfOk, option_copied};
 ghost use Rattle.hub_tables.specs.Tables.{Tables};
 ghost use Rattle.hub_rules.specs.Rules as rules;
@@ -15,7 +15,7 @@ use hub_rules::{Cancel, Code, Verdict};
 use hub_tables::{Change, Column, LineRow, RememberedRow, Side};
 use std::alloc::Global;
 
-// The line that a cancellation names, after it; or the rule that it is against: B05, B06, B17.
+// Returns the cancelled line as it is afterwards, or the rule that the cancellation breaks: B05, B06 or B17.
 fn cancelled_line(
     alloc: Global,
     known: &Known,
@@ -40,7 +40,7 @@ fn cancelled_line(
     Ok(Ok(after))
 }
 
-/// What comes of a cancellation: B02, B03, B05, B06 and B17 are asked in this order. `MemoryFault` where memory ran out.
+/// Decides on a cancellation: checks B02, B03, B05, B06 and B17 in this order. `MemoryFault` if memory ran out.
 #[tactic(auto, using(crate::proofs::Cancelled::cancel_alike))]
 pub fn judge_cancel(
     alloc: Global,

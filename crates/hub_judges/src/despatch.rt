@@ -1,4 +1,4 @@
-//! The rules of DESADV.
+//! Decides on DESADV messages.
 ghost use Rattle.std.specs.Prelude.{◌≡◌, ◌≤◌, ℕ, Bool, List, [], ◌∷◌, false, IfOk, option_copied};
 ghost use Rattle.std.specs.Option.{IfSome, IfNone};
 ghost use Rattle.gs1_ids.specs.Sscc.{under_some};
@@ -28,7 +28,7 @@ use hub_rules::{Code, IncomingMessage, Verdict};
 use hub_tables::{AdviceRow, Arrival, Change, Column, ContentRow, PalletRow, Side};
 use std::alloc::Global;
 
-// The rule that a line is against: B09 or B10.
+// Returns the rule that a line breaks: B09 or B10.
 fn line_fault(said: &DespatchLine, line: &LineFacts) -> Option<Code>
     ensures some { IfSome result (λ code.
         (rest : Verdict) → despatch_checks said.now line.now rest ≡ Refuse code) }
@@ -44,7 +44,8 @@ fn line_fault(said: &DespatchLine, line: &LineFacts) -> Option<Code>
     None
 }
 
-// Puts the lines of a unit after the changes, and into the book; or the rule that one of them is against: B05, B06, B09, B10.
+// Appends the changes for the lines of a unit, and sets the lines in the book; or returns the rule that one of them
+// breaks: B05, B06, B09 or B10.
 fn load(
     alloc: Global,
     unit: &Unit,
@@ -86,7 +87,7 @@ fn load(
     Ok(None)
 }
 
-// Whether an SSCC is under a prefix of a supplier.
+// Whether the SSCC is under a prefix of the supplier.
 fn is_under(row: &SupplierRow, sscc: &Sscc) -> bool
     ensures { result ≡ under_some sscc.now row.now.prefixes }
 {
@@ -96,7 +97,7 @@ fn is_under(row: &SupplierRow, sscc: &Sscc) -> bool
         .any(|prefix| sscc.under(prefix))
 }
 
-// The rule that a unit is against: B11 or B12.
+// Returns the rule that a unit breaks: B11 or B12.
 fn unit_fault(row: &SupplierRow, sscc: &Sscc, used: bool) -> Option<Code>
     ensures some { IfSome result (λ code.
         (rest : Verdict) → unit_checks row.now sscc.now used rest ≡ Refuse code) }
@@ -111,7 +112,7 @@ fn unit_fault(row: &SupplierRow, sscc: &Sscc, used: bool) -> Option<Code>
     None
 }
 
-// A pallet that an advice announces.
+// Returns the change that adds a pallet which an advice announces.
 fn announced_pallet(
     alloc: Global,
     row: &SupplierRow,
@@ -128,8 +129,8 @@ fn announced_pallet(
     }))
 }
 
-// What comes of the units after these changes: of each B11 and B12 are asked, and then its lines, on what the earlier ones
-// left. An SSCC is used if the hub or an earlier unit has it.
+// Decides on the units, and appends their changes. B11 and B12 are checked for each unit, then its lines, on what the
+// earlier ones left. An SSCC is used if the hub or an earlier unit has it.
 fn judge_units(
     alloc: Global,
     row: &SupplierRow,
@@ -160,7 +161,7 @@ fn judge_units(
     Ok(Verdict::Accept(changes))
 }
 
-// What comes first of an advice that is taken: it is remembered, and so is its number.
+// Returns the first changes for an advice that is accepted: its message is remembered, and its number is recorded.
 fn remembered_with_number(
     alloc: Global,
     row: &SupplierRow,
@@ -181,8 +182,7 @@ fn remembered_with_number(
     Ok(changes)
 }
 
-// What comes of a DESADV that is admitted and new, and whose number is not known: it is remembered, and its units are
-// judged.
+// Decides on a DESADV that is admitted and new, and whose number is not known: remembers it, then checks its units.
 fn judge_new(
     alloc: Global,
     row: &SupplierRow,
@@ -202,9 +202,9 @@ fn judge_new(
     Ok(verdict)
 }
 
-/// What comes of a DESADV: B01, B02, B03 and B13 are asked in this order; then of each unit B11 and B12, and of each of its
-/// lines B05, B06, B09 and B10, on what the earlier lines left. If two units have one SSCC, the second is against B12.
-/// `MemoryFault` where memory ran out.
+/// Decides on a DESADV: checks B01, B02, B03 and B13 in this order; then for each unit B11 and B12, and for each of its
+/// lines B05, B06, B09 and B10, on what the earlier lines left. If two units have the same SSCC, the second breaks B12.
+/// `MemoryFault` if memory ran out.
 pub fn judge_despatch(
     alloc: Global,
     retailer: &Gln,

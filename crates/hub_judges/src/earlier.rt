@@ -1,4 +1,4 @@
-//! The SSCC of the earlier units of a message.
+//! Keeps the SSCCs of the earlier units of a message.
 ghost use Rattle.std.specs.Prelude.{◌≡◌, ℕ, List, IfOk, OnOk};
 ghost use Rattle.edi_base.specs.Seen.{is_among};
 ghost use Rattle.hub_judges.specs.FromFacts.{and_sscc};
@@ -6,8 +6,8 @@ ghost use Rattle.hub_judges.specs.FromFacts.{and_sscc};
 use edi_base::{MemoryFault, Seen};
 use gs1_ids::Sscc;
 
-/// Returns whether an earlier unit has this SSCC, and remembers it for the units after. The SSCC are kept in an ordered set, so
-/// that the time grows as n log n with n units.
+/// Returns whether an earlier unit has this SSCC, and remembers it for the following units. The SSCCs are kept in an
+/// ordered set, so with n units the time grows as n log n.
 pub(crate) fn has_come<'a>(seen: &mut Seen<'a>, sscc: &'a Sscc) -> Result<bool, MemoryFault>
     ensures came { IfOk result (λ came. came ≡ is_among sscc.now seen.old) }
     ensures seen { OnOk result ((other : List ℕ) →

@@ -1,4 +1,4 @@
-//! The rules of joins.
+//! Decides on joins.
 ghost use Rattle.std.specs.Prelude.{◌≡◌, IfOk};
 ghost use Rattle.hub_rules.specs.JoinRules as rules;
 
@@ -8,8 +8,8 @@ use hub_rules::{Code, Join, Verdict};
 use hub_tables::row_changes;
 use std::alloc::Global;
 
-/// What comes of a join: B18, B19 and B20 are asked in this order; else the supplier's rows are added. `MemoryFault` where
-/// memory ran out.
+/// Decides on a join: checks B18, B19 and B20 in this order; if all pass, the supplier's rows are added. `MemoryFault`
+/// if memory ran out.
 pub fn judge_join(alloc: Global, register: &Register, join: &Join) -> Result<Verdict, MemoryFault>
     ensures { IfOk result (λ verdict. verdict ≡ rules.judge_join register.now join.now) }
 {

@@ -1,18 +1,19 @@
-//! What is known of the tables when a message or a cancellation is judged.
+//! Defines what a judge knows of the tables.
 use edi_base::Items;
 use hub_order_lines::KnownOrders;
 use hub_tables::PalletRow;
 
-/// What is known of one supplier's rows when a message or a cancellation is judged. A judge reads what its checks ask for.
+/// What is known of one supplier's rows when a message or a cancellation is checked. A judge reads only what its checks
+/// need.
 #[derive(Debug, Drop)]
 pub struct Known {
     /// The content that is remembered under the references of the message or the cancellation.
     pub remembered: Option<Items<u8>>,
-    /// Of each order that is named, whether the supplier has it, and all its lines.
+    /// For each order that is named, whether the supplier has it, and all its lines.
     pub orders: KnownOrders,
-    /// Whether the supplier has the order (ORDERS) or the advice (DESADV) of this number.
+    /// Whether the supplier already has an order (ORDERS) or an advice (DESADV) with this number.
     pub number_known: bool,
-    /// How many entries the supplier's mailbox has.
+    /// The number of entries in the supplier's mailbox.
     pub mails: u64,
     /// For each unit of a DESADV, in its order, whether its SSCC is used.
     pub used: Items<bool>,

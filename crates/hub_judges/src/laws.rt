@@ -1,4 +1,5 @@
-//! What judges ask of their callers is there: laws, each the contract of a function without a body.
+//! States laws, each as the contract of a function without a body: sound tables and messages that were read meet what
+//! judges require.
 ghost use Rattle.std.specs.Prelude.{◌≡◌, ℕ, Bool, true, List, filter, None, Ok};
 ghost use Rattle.std.specs.List.{AllByRecursion, list_all};
 ghost use Rattle.edi_envelope.specs.declared.interchange.RawMessage.{RawMessage};
@@ -14,9 +15,9 @@ ghost use Rattle.hub_rules.specs.Sound.{Sound};
 ghost use Rattle.hub_judges.specs.Facts.{facts_in};
 ghost use Rattle.hub_judges.specs.Totals.{RowsHold};
 
-/// Of sound tables, the lines that a supplier sees, all or those of some orders, rise by order number and line number,
-/// and of each no more is open, refused and cancelled than is ordered: `KnownLines` are made of their rows. Of a receiving
-/// advice that is read, a row can hold the sums of each article in a unit.
+/// In sound tables, the lines that a supplier sees (all of them, or those of some orders) rise by order number and line
+/// number, and what is open, refused and cancelled of a line never exceeds the ordered quantity. So `KnownLines` can be
+/// made of their rows. For a receiving advice that was read, a row can hold the totals of each article in a unit.
 pub fn judges_are_given_what_they_ask()
     ensures rise { (suppliers : List SupplierRow) (gln : List ℕ) (t : Tables) (test : LineRow → Bool) →
         Sound suppliers t → Rises facts_cmp (facts_in (view gln t) (filter test (view gln t).lines)) }

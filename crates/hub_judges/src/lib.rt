@@ -1,5 +1,5 @@
-//! The judges of the hub: by its rules, what comes of a message or a cancellation, from what is known of its supplier's rows;
-//! and of a join, from the register.
+//! Decides, by the rules of the hub, on messages and cancellations from what is known of their supplier's rows, and on
+//! joins from the register.
 #![tactic(auto)]
 
 mod answers;

@@ -1,4 +1,4 @@
-//! Mailbox entries (B16).
+//! Makes mailbox entries (B16).
 ghost use Rattle.std.specs.Prelude.{◌≡◌, ◌+◌, ◌<◌, [], ◌∷◌, false, IfOk};
 ghost use Rattle.hub_tables.specs.declared.cases.Side.TheVariants as sides;
 ghost use Rattle.hub_tables.specs.declared.change.Change.TheVariants.{Remember};
@@ -15,7 +15,7 @@ use hub_rules::IncomingMessage;
 use hub_tables::{Change, Column, MailKind, MailRow, Side};
 use std::alloc::Global;
 
-/// Whether a mailbox that has so many entries has no number left for one more.
+/// Whether a mailbox with this many entries has no number left for another.
 pub(crate) fn is_full(mails: u64) -> bool
     ensures value { result ≡ mailbox.is_full mails }
     ensures room { result ≡ false → mails < LAST_MAIL_NUMBER }
@@ -23,7 +23,7 @@ pub(crate) fn is_full(mails: u64) -> bool
     mails >= LAST_MAIL_NUMBER
 }
 
-/// The next entry of a mailbox that has so many.
+/// Makes the next entry of a mailbox that has `mails` entries.
 pub(crate) fn new_mail(
     alloc: Global,
     supplier: Gln,
@@ -49,8 +49,8 @@ pub(crate) fn new_mail(
     }))
 }
 
-/// What comes first of a message of the retailer that is taken: it is remembered, and mailed to the supplier, whose mailbox has
-/// so many entries.
+/// Returns the first changes for a message of the retailer that is accepted: it is remembered, and mailed to the
+/// supplier, whose mailbox has `mails` entries.
 pub(crate) fn remembered_and_mailed(
     alloc: Global,
     row: &SupplierRow,

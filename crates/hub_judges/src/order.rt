@@ -1,4 +1,4 @@
-//! The rules of ORDERS.
+//! Decides on ORDERS messages.
 ghost use Rattle.std.specs.Prelude.{◌≡◌, ◌+◌, ◌<◌, ◌++◌, ◌∷◌, map, IfOk, option_copied};
 ghost use Rattle.hub_tables.specs.Tables.{Tables};
 ghost use Rattle.hub_tables.specs.declared.cases.MailKind.TheVariants as kinds;
@@ -23,7 +23,7 @@ use hub_rules::{Code, IncomingMessage, Verdict};
 use hub_tables::{Answered, Change, Column, LineRow, MailKind, OrderRow};
 use std::alloc::Global;
 
-// Puts the lines of a new order after the changes.
+// Appends the lines of a new order.
 fn add_lines(
     alloc: Global,
     supplier: Gln,
@@ -49,7 +49,8 @@ fn add_lines(
     Ok(())
 }
 
-// What a new order changes: it is remembered, and its mailbox entry, the order and its lines are there.
+// Returns the changes for a new order: the message is remembered, and its mailbox entry, the order and its lines are
+// added.
 fn new_order(
     alloc: Global,
     row: &SupplierRow,
@@ -76,8 +77,8 @@ fn new_order(
     Ok(changes)
 }
 
-/// What comes of an ORDERS: B01, B02, B03, B04 and B16 are asked in this order. `body` is the canonical text of the message's
-/// segments, UNH to UNT, with `1` for its reference, as the mailbox entry keeps it. `MemoryFault` where memory ran out.
+/// Decides on an ORDERS: checks B01, B02, B03, B04 and B16 in this order. `body` is the canonical text of the message's
+/// segments, UNH to UNT, with `1` for its reference, as the mailbox entry keeps it. `MemoryFault` if memory ran out.
 pub fn judge_order(
     alloc: Global,
     retailer: &Gln,

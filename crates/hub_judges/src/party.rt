@@ -1,4 +1,4 @@
-//! The parties of a message (B01, B02).
+//! Checks the parties of a message (B01, B02).
 ghost use Rattle.std.specs.Prelude.{◌≡◌, IfOk, IfErr, option_copied};
 ghost use Rattle.std.specs.Option.{IfSome, IfNone};
 ghost use Rattle.hub_parties.specs.declared.row.SupplierRow.{SupplierRow};
@@ -12,7 +12,7 @@ use gs1_ids::Gln;
 use hub_parties::SupplierRow;
 use hub_rules::Code;
 
-/// The supplier that is registered and named.
+/// Returns the supplier if it is registered and the message names it; otherwise B02.
 pub(crate) fn registered_supplier<'a>(
     supplier: Option<&'a SupplierRow>,
     named: &Gln,
@@ -34,7 +34,8 @@ pub(crate) fn registered_supplier<'a>(
     }
 }
 
-/// The supplier of a message, where no other buyer than the retailer is named and the supplier is registered and named.
+/// Returns the supplier of a message, if the message names no buyer other than the retailer (B01), and the supplier is
+/// registered and named (B02).
 pub(crate) fn admitted<'a>(
     retailer: &Gln,
     supplier: Option<&'a SupplierRow>,
@@ -56,8 +57,8 @@ pub(crate) fn admitted<'a>(
     registered_supplier(supplier, named)
 }
 
-/// Why a message is refused whatever is known: another buyer than the retailer is named (B01), or its supplier is not
-/// registered or not named (B02). None where neither is so.
+/// Returns why a message is refused whatever the tables hold: it names another buyer than the retailer (B01), or its
+/// supplier is not registered or not the one named (B02). `None` if neither is the case.
 pub fn party_fault(
     retailer: &Gln,
     supplier: Option<&SupplierRow>,

@@ -1,4 +1,4 @@
-//! The rules of RECADV.
+//! Decides on RECADV messages.
 ghost use Rattle.std.specs.Prelude.{◌≡◌, ◌&&◌, ◌||◌, ◌++◌, not, map, IfOk, option_copied};
 ghost use Rattle.std.specs.List.{AllByRecursion};
 ghost use Rattle.hub_tables.specs.State.{is_announced};
@@ -24,7 +24,8 @@ use hub_rules::{Code, IncomingMessage, Verdict};
 use hub_tables::{Arrival, Change, Column, MailKind, PalletRow, ReceiptRow};
 use std::alloc::Global;
 
-// Puts what is received of the articles of a unit after the changes, each article once, in the order in which they first come.
+// Appends what is received of each article of a unit; each article appears once, in the order in which they first
+// occur.
 fn add_receipts(
     alloc: Global,
     unit: &ReceiptUnit,
@@ -50,7 +51,6 @@ fn add_receipts(
     Ok(())
 }
 
-// Whether a pallet was received.
 fn is_received(pallet: &PalletRow) -> bool
     ensures { result ≡ not (is_announced pallet.now) }
 {
@@ -60,14 +60,15 @@ fn is_received(pallet: &PalletRow) -> bool
     }
 }
 
-// Whether a unit is against B15: an earlier advice or an earlier unit received its pallet, and this advice does not replace.
+// Whether a unit breaks B15: an earlier advice or an earlier unit received its pallet, and this advice does not
+// replace.
 fn is_received_twice(replaces: bool, came: bool, pallet: &PalletRow) -> bool
     ensures { result ≡ (not replaces && (came || not (is_announced pallet.now))) }
 {
     !replaces && (came || is_received(pallet))
 }
 
-// Puts what comes of a unit on a pallet after the changes; where the advice replaces, what was received of it goes first.
+// Appends the changes for a unit on a pallet; if the advice replaces, the pallet's earlier receipts are deleted first.
 fn receive(
     alloc: Global,
     replaces: bool,
@@ -95,7 +96,7 @@ fn receive(
     add_receipts(alloc, unit, changes)
 }
 
-// What comes of the units after these changes: of each B14 is asked, and B15 where the advice does not replace.
+// Decides on the units, and appends their changes: checks B14 for each, and B15 if the advice does not replace.
 fn judge_units(
     alloc: Global,
     replaces: bool,
@@ -121,12 +122,12 @@ fn judge_units(
     Ok(Verdict::Accept(changes))
 }
 
-/// What comes of a RECADV: B01, B02, B03 and B16 are asked in this order, and then of each unit B14, and B15 where it does
-/// not replace; where it does, all that was received of the pallets of its units goes. If two units have one SSCC, the second
-/// finds the pallet received: it is against B15, or its sums replace those of the first. Asks that each sum of an article in a
-/// unit is below 2 ^ 32, since a row holds no more; a receipt that was read has none above 999,999,999. `body` is the
-/// canonical text of the message's segments, UNH to UNT, with `1` for its reference, as the mailbox entry keeps it.
-/// `MemoryFault` where memory ran out.
+/// Decides on a RECADV: checks B01, B02, B03 and B16 in this order; then B14 for each unit, and B15 if the advice does
+/// not replace. If it replaces, all earlier receipts of its units' pallets are deleted. If two units have the same
+/// SSCC, the second finds the pallet received: it breaks B15, or its totals replace those of the first. The total of
+/// each quantity of an article in a unit must be below 2 ^ 32, because a row cannot hold more; in a receipt that was
+/// read, none is above 999,999,999. `body` is the canonical text of the message's segments, UNH to UNT, with `1` for
+/// its reference, as the mailbox entry keeps it. `MemoryFault` if memory ran out.
 pub fn judge_receipt(
     alloc: Global,
     retailer: &Gln,

@@ -1,4 +1,4 @@
-//! Remembering (B03).
+//! Recognises repeated messages (B03).
 ghost use Rattle.std.specs.Prelude.{◌≡◌, Option, None, option_map};
 ghost use Rattle.std.specs.Option.{IfSome, IfNone};
 ghost use Rattle.hub_tables.specs.declared.change.Change.TheVariants.{Remember};
@@ -12,7 +12,8 @@ use hub_rules::{Code, IncomingMessage, Verdict};
 use hub_tables::{Change, Column, RememberedRow, Side};
 use std::alloc::Global;
 
-/// The verdict on what comes once more, or other content under the same references; none on what is new.
+/// Returns the verdict if content is already remembered under the references: a repetition, or B03 if it differs.
+/// `None` if the message is new.
 pub(crate) fn repeats(
     alloc: Global,
     remembered: &Option<Items<u8>>,

@@ -1,4 +1,4 @@
-//! The rules of ORDRSP.
+//! Decides on ORDRSP messages.
 ghost use Rattle.std.specs.Prelude.{◌≡◌, ℕ, false, IfOk, option_copied};
 ghost use Rattle.std.specs.List.{AllByRecursion};
 ghost use Rattle.hub_tables.specs.Tables.{Tables};
@@ -23,7 +23,7 @@ use hub_rules::{Code, IncomingMessage, Verdict};
 use hub_tables::{Change, Side};
 use std::alloc::Global;
 
-// The same answer to every line of an order that waits, after the changes; B07 where none does.
+// Appends the same answer for every line of the order that waits; B07 if none does.
 fn respond_to_all(
     alloc: Global,
     lines: &[LineFacts],
@@ -43,7 +43,7 @@ fn respond_to_all(
     Ok(Verdict::Accept(changes))
 }
 
-// What an answer changes of what is known, after the changes; or the first of B05 to B09 that it is against.
+// Appends the changes for an answer, or refuses with the first of B05 to B09 that it breaks.
 fn respond(
     alloc: Global,
     known: &Known,
@@ -78,8 +78,8 @@ fn respond(
     }
 }
 
-/// What comes of an ORDRSP: B01, B02, B03 and B05 are asked in this order; then for 27 and 29 B07, and else of each line B06,
-/// B07, B08 and B09, on what the earlier lines left. `MemoryFault` where memory ran out.
+/// Decides on an ORDRSP: checks B01, B02, B03 and B05 in this order; then B07 for functions 27 and 29, and otherwise
+/// B06, B07, B08 and B09 for each line, on what the earlier lines left. `MemoryFault` if memory ran out.
 pub fn judge_response(
     alloc: Global,
     retailer: &Gln,

@@ -1,4 +1,4 @@
-//! What is received of the articles of a unit.
+//! Totals what is received of the articles of a unit.
 ghost use Rattle.std.specs.Prelude.{◌≡◌, ◌+◌, ◌<◌, ◌^◌, ℕ, List, None, IfOk};
 ghost use Rattle.std.specs.BTreeMap.{get};
 ghost use Rattle.std.specs.Cmp.Lexicographic.{slice_cmp};
@@ -24,7 +24,7 @@ pub(crate) struct Total {
 }
 
 impl Total {
-    // With what one more line says.
+    // Adds the quantities of one more line.
     fn with_line(self, line: &ReceiptLine) -> Self
         requires accepted { self.accepted + line.now.accepted < 2 ^ 32 }
         requires returned { self.returned + line.now.returned < 2 ^ 32 }
@@ -39,7 +39,7 @@ impl Total {
     }
 }
 
-// The total of an article so far.
+// Returns the totals of an article so far.
 fn total_so_far(totals: &BTreeMap<Gtin, Total>, gtin: &Gtin) -> Total
     ensures { result ≡ unwrap_or (get (slice_cmp nat_cmp) totals.now gtin.now) spec.nothing }
 {
@@ -53,7 +53,8 @@ fn total_so_far(totals: &BTreeMap<Gtin, Total>, gtin: &Gtin) -> Total
     }
 }
 
-/// The total of each article of a unit. The totals are kept in an ordered map, so that the time grows as n log n with n lines.
+/// Returns the totals of each article of a unit. They are kept in an ordered map, so with n lines the time grows as n
+/// log n.
 pub(crate) fn totals_of(
     alloc: Global,
     lines: &[ReceiptLine],

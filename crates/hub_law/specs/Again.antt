@@ -1,4 +1,4 @@
--- What comes again in a run.
+-- Defines what happens when a message or a cancellation is sent again in a run.
 use Rattle.std.specs.Prelude.{◌≡◌, ℕ, ◌<◌, List, length, slice_get, Option, Some, Ok}
 use Rattle.edi_envelope.specs.declared.interchange.RawMessage.{RawMessage}
 use Rattle.hub_parties.specs.Rows.{role_of}
@@ -17,45 +17,44 @@ use Rattle.hub_law.specs.Told.{Told, Accepted}
 use Rattle.hub_requests.specs.declared.request.Input.{Input}
 use Rattle.hub_requests.specs.declared.request.Request.TheVariants as requests
 
--- the message at a place, counted from 0, of an upload that is looked at when it comes to tables
+-- the input is an accepted upload for these tables, and this is its message at a place counted from 0
 pub record MessageAt (t : Tables) (input : Input) (place : ℕ) (message : RawMessage) : Type 0 where
   pub upload : Upload
   pub looked_at : upload_of (register_of t) input ≡ Some upload
   pub there : slice_get upload.interchange.messages place ≡ Some message
 
--- the message at the place is among those that are looked at: the upload was not stopped before it was done
+-- the upload was not stopped before the message at this place was done
 abbrev pub Reaches : Mark → Input → Upload → ℕ → Type 0
 Reaches mark input upload place = place < length (looked_at input.moment mark (Ok upload.interchange))
 
--- the tables when the message at a place of an upload comes, the upload coming to tables
+-- the tables just before the message at a place of an upload is done, if the upload starts on `t`
 abbrev pub tables_before : Tables → Input → Upload → ℕ → Tables
 tables_before t input upload place = (first_acts place upload input.moment t).1
 
--- what is told of it
+-- the result of the message at a place
 abbrev pub told_at : Tables → Input → Upload → ℕ → Option Told
 told_at t input upload place = slice_get (all_acts upload input.moment t).0 place
 
--- The message at a place of an upload that comes to sound tables is accepted, and the upload is not stopped before it is
--- done.
+-- The message at a place of an upload that starts on sound tables is accepted, and the upload is not stopped before it
+-- is done.
 pub record AcceptedAt (t : Tables) (input : Input) (mark : Mark) (place : ℕ) (message : RawMessage) : Type 0 where
   pub start : SoundHub t
   pub comes : MessageAt t input place message
   pub reached : Reaches mark input comes.upload place
   pub accepted : told_at t input comes.upload place ≡ Some Accepted
 
--- of the same caller, and with the same control reference
+-- both inputs have the same caller and the same control reference
 pub record SameReference (first second : Input) (one other : Upload) : Type 0 where
   pub caller : second.caller ≡ first.caller
   pub control : other.interchange.head.reference ≡ one.interchange.head.reference
 
--- what was accepted, and tables to which it comes again: sound ones that still remember all that was remembered after
--- it
+-- The message was accepted, and it is sent again on sound tables that still remember all that was remembered after it.
 pub record AcceptedBefore (after : Told × Tables) (suppliers : List SupplierRow) (u : Tables) : Type 0 where
   pub accepted : after.0 ≡ Accepted
   pub remembered : StaysRemembered after.1 u
   pub sound : Sound suppliers u
 
--- the retailer asks, with its key, for the cancellation, which comes to tables
+-- the retailer, with its key, asks for the cancellation
 pub record AsksCancel (t : Tables) (c : Cancel) (input : Input) : Type 0 where
   pub retailers : role_of (register_of t) input.caller input.key ≡ Some Retailer
   pub asks : input.request ≡ requests.Cancel c

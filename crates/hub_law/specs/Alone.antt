@@ -1,4 +1,5 @@
--- One supplier alone: the items of inputs that are for it, and its machine over them.
+-- Defines what a single supplier does and sees: the items of a run that concern it, and its own machine over these
+-- items.
 use Rattle.std.specs.Prelude.{ℕ, List, [], ◌∷◌, ◌++◌, map, filter, take, if◌then◌else◌, ◌&&◌, Option, Some, None}
 use Rattle.edi_envelope.specs.declared.interchange.RawMessage.{RawMessage}
 use Rattle.hub_parties.specs.Rows.{RegisterRows, Parties, parties_of, role_of}
@@ -23,8 +24,8 @@ use Rattle.hub_requests.specs.declared.request.Input.{Input}
 use Rattle.hub_requests.specs.declared.request.Request.{Request}
 use Rattle.hub_requests.specs.declared.request.Request.TheVariants as requests
 
--- an input of its own; a message of the retailer that names it; a cancellation of the retailer for it, with its moment;
--- and its row, with which the retailer let it in and the register took it
+-- An input of the supplier itself; a message of the retailer that names it; a cancellation of the retailer for it, with
+-- its moment; or its row, if the retailer registered it and the register accepted it.
 pub data Item : Type 0 where
   Own : Input → Mark → Item
   Message : RawMessage × IncomingMessage → Item
@@ -37,28 +38,28 @@ supplier_step look parties s input mark t =
     if same s.key input.key then supplier_request look parties s input.moment mark input.request t
     else replied mark denied t
 
--- an input of a GLN alone: denied before it has its row
+-- an input whose caller is this GLN: denied before the GLN has its row
 abbrev pub own_request : Parties → Option SupplierRow → Input → Mark → Tables → Reply × Tables
 own_request parties (Some s) input mark state = supplier_step (λ rows. rows) parties s input mark state
 own_request parties None input mark state = replied mark denied state
 
--- what an item does to the rows of a GLN, its register row among them, and what is replied to it
+-- what an item does to the rows of a GLN, including its register row, and the replies to it
 abbrev pub own_step : Parties → List ℕ → Item → Tables → List Reply × Tables
 own_step parties gln (Own input mark) state = single (own_request parties (row_at gln state) input mark state)
 own_step parties gln (Message sent) state = silent (deliver_retailers (λ rows. rows) parties (row_at gln state) sent state)
 own_step parties gln (Cancellation moment c) state = silent (cancel (λ rows. rows) (row_at gln state) c state)
 own_step parties gln (Joined row) state = ([], apply_all (row_changes row) state)
 
--- items one after another
+-- handles the items one after another
 abbrev pub fold : Parties → List ℕ → List Item → Tables → List Reply × Tables
 fold parties gln [] state = ([], state)
 fold parties gln (item ∷ items) state = followed_by (own_step parties gln item state) (fold parties gln items)
 
--- the messages that name the supplier with a GLN
+-- the messages that name the supplier with this GLN
 abbrev pub naming : List ℕ → List (RawMessage × IncomingMessage) → List (RawMessage × IncomingMessage)
 naming gln sents = filter (λ sent. same (named sent.0) gln) sents
 
--- What of an input is for the supplier with a GLN.
+-- The items of an input that concern the supplier with this GLN.
 abbrev pub retailer_items : List ℕ → RegisterRows → ℕ → Mark → Request → List Item
 retailer_items gln register moment mark (requests.Upload bytes) =
     map Message (naming gln (looked_at moment mark (from_retailer (parties_of register) bytes)))
@@ -80,16 +81,16 @@ items_as gln register (Some Retailer) input mark = retailer_items gln register i
 items_as gln register (Some Supplier) input mark = own_items gln input mark
 items_as gln register None input mark = own_items gln input mark
 
--- under a register
+-- the items under a register
 abbrev pub items_under : List ℕ → RegisterRows → Input → Mark → List Item
 items_under gln register input mark = items_as gln register (role_of register input.caller input.key) input mark
 
--- under the register that the tables hold when the input comes
+-- the items under the register that the tables hold when the input is handled
 abbrev pub items_of_input : List ℕ → Tables → Input → Mark → List Item
 items_of_input gln t input mark = items_under gln (register_of t) input mark
 
--- of a whole run: whether the register takes a supplier shows in the run alone, so the acceptance is part of the item, as
--- the mark is
+-- The items of a whole run. Only the run shows whether the register accepts a supplier, so the acceptance is part of
+-- the item, as the mark is.
 abbrev pub items : List ℕ → Tables → Inputs → List Item
 items gln t [] = []
 items gln t ((input, mark) ∷ inputs) =

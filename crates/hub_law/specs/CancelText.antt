@@ -1,4 +1,5 @@
--- The text of a cancellation: supplier, reference, order number, line number and quantity, a line for each.
+-- Defines the text of a cancellation: supplier, reference, order number, line number and quantity, each on its own
+-- line.
 use Rattle.std.specs.Prelude.{ℕ, List, [], ◌∷◌}
 use Rattle.std.specs.Fmt.{decimal}
 use Rattle.std.specs.List.{flat_map}

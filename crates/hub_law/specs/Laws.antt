@@ -1,4 +1,4 @@
--- What one supplier sees and is told, whatever the others do.
+-- Defines what one supplier sees and which replies it gets, whatever the others do.
 use Rattle.std.specs.Prelude.{◌≡◌, ◌≢◌, ◌⊎◌, ℕ, List, [], ◌∷◌, ◌++◌, length, slice_get, Option, Some}
 use Rattle.std.specs.List.{AllByRecursion}
 use Rattle.hub_parties.specs.Rows.{role_of}
@@ -17,27 +17,27 @@ use Rattle.hub_requests.specs.declared.reply.Reply.{Reply}
 use Rattle.hub_requests.specs.declared.request.Input.{Input}
 use Rattle.hub_requests.specs.declared.request.Request.TheVariants.{StatusOf, Join}
 
--- what comes of the items of a GLN in its own rows, with nothing else in the tables
+-- the replies to the items of a GLN and the rows that they leave, if the tables had only that GLN's rows
 abbrev pub alone : List ℕ → List Item → Tables → List Reply × Tables
 alone gln items t = fold (parties_in t) gln items (view gln t)
 
--- what is seen of the rows of a GLN after a step is what comes of its items alone, and where it is the caller it is told
--- what it is told alone
+-- After a step, the GLN sees exactly what its items alone would leave; and if it is the caller, it gets the reply that
+-- it would get alone.
 pub record StepIsOwn (gln : List ℕ) (t : Tables) (input : Input) (mark : Mark) : Type 0 where
   pub seen : view gln (shared_step t input mark).1 ≡ (alone gln (items_of_input gln t input mark) t).1
   pub told : input.caller ≡ gln →
       (alone gln (items_of_input gln t input mark) t).0 ≡ (shared_step t input mark).0 ∷ []
 
--- the same of a whole run
+-- like `StepIsOwn`, for a whole run
 pub record RunIsOwn (gln : List ℕ) (t : Tables) (inputs : Inputs) : Type 0 where
   pub seen : view gln (shared_run t inputs).1 ≡ (alone gln (items gln t inputs) t).1
   pub told : replies_to gln inputs (shared_run t inputs).0 ≡ (alone gln (items gln t inputs) t).0
 
--- the GLN is a supplier's, or nobody's yet: it is not the retailer's
+-- the GLN is a supplier's, or no one's yet: it is not the retailer's
 abbrev pub IsOther : List ℕ → Tables → Type 0
 IsOther gln t = gln ≢ (parties_in t).retailer
 
--- the retailer asks, with its key, for the status of a GLN
+-- the retailer, with its key, asks for the status of a GLN
 pub record AsksStatus (gln : List ℕ) (t : Tables) (input : Input) : Type 0 where
   pub retailers : role_of (register_of t) input.caller input.key ≡ Some Retailer
   pub asks : input.request ≡ StatusOf gln
@@ -46,13 +46,13 @@ pub record AsksStatus (gln : List ℕ) (t : Tables) (input : Input) : Type 0 whe
 abbrev pub own_report : List ℕ → Tables → Reply
 own_report gln state = report (row_at gln state) state
 
--- the reply to an input that is not stopped, at its place in a run: after some inputs and before others
+-- the reply to an input that is not stopped and has some inputs before it and others after it
 abbrev pub reply_between : Tables → Inputs → Input → Inputs → Option Reply
 reply_between t before input later =
     slice_get (shared_run t (before ++ (input, Whole) ∷ later)).0 (length before)
 
--- Two runs from sound starts agree on a GLN that is not the retailer's: on the GLNs of hub and retailer, on its rows at
--- the start, its register row among them or that it has none, and on its items.
+-- Two runs on sound tables agree on a GLN that is not the retailer's: on the GLNs of hub and retailer, on the rows of
+-- the GLN at the start (including its register row, or that it has none), and on its items.
 pub record Agree (gln : List ℕ) (t u : Tables) (xs ys : Inputs) : Type 0 where
   pub here : SoundHub t
   pub there : SoundHub u
@@ -61,28 +61,28 @@ pub record Agree (gln : List ℕ) (t u : Tables) (xs ys : Inputs) : Type 0 where
   pub rows : SameRows (view gln t) (view gln u)
   pub items : items gln t xs ≡ items gln u ys
 
--- The retailer asks for the status of the GLN after each of two runs that agree on it, whatever comes later, and there
--- are as many of its items before it.
+-- The retailer asks for the status of the GLN in each of two runs that agree on it, whatever follows, and the two runs
+-- have equally many of its items before the request.
 pub record AgreeBefore (gln : List ℕ) (t u : Tables) (xs xs_later ys ys_later : Inputs) (x y : Input) : Type 0 where
   pub agree : Agree gln t u (xs ++ (x, Whole) ∷ xs_later) (ys ++ (y, Whole) ∷ ys_later)
   pub as_many : length (items gln t xs) ≡ length (items gln u ys)
   pub asks : AsksStatus gln t x
   pub asks_too : AsksStatus gln u y
 
--- no input asks to let the GLN in
+-- no input asks to register the GLN
 abbrev pub NobodyLetsIn : List ℕ → Inputs → Type 0
 NobodyLetsIn gln inputs =
     AllByRecursion (λ (x : Input × Mark). (row : SupplierRow) → x.0.request ≡ Join row → row.gln ≢ gln) inputs
 
--- Another asks to let another in than the GLN; and the GLN has its row, or nobody lets it in later, since whether it may
--- join shows who joined before.
+-- A caller other than the GLN asks to register a supplier other than the GLN. And the GLN has its row already, or no
+-- one asks to register it later: whether it may join would depend on who joined before.
 pub record StandsApart (gln : List ℕ) (t : Tables) (input : Input) (row : SupplierRow) (later : Inputs) : Type 0 where
   pub asks : input.request ≡ Join row
   pub caller : input.caller ≢ gln
   pub other : row.gln ≢ gln
   pub settled : ((s : SupplierRow) × (row_at gln t ≡ Some s)) ⊎ NobodyLetsIn gln later
 
--- tables are sound, and so rise by their keys
+-- the tables are sound, and the keys of each kind rise
 pub record StaySound (suppliers : List SupplierRow) (t : Tables) : Type 0 where
   pub sound : Sound suppliers t
   pub rising : Rising t

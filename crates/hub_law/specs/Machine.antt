@@ -1,4 +1,4 @@
--- The machine that all suppliers share.
+-- Defines the machine that all suppliers share.
 use Rattle.std.specs.Prelude.{ℕ, List, [], ◌∷◌, if◌then◌else◌, Option, Some, None}
 use Rattle.hub_parties.specs.Rows.{RegisterRows, parties_of, row_of, role_of}
 use Rattle.hub_parties.specs.declared.role.Role.{Role}
@@ -14,7 +14,7 @@ use Rattle.hub_law.specs.Requests.{supplier_request, retailer_request}
 use Rattle.hub_requests.specs.declared.reply.Reply.{Reply}
 use Rattle.hub_requests.specs.declared.request.Input.{Input}
 
--- an input of whoever its caller is, by the GLN and the key; the row is that of the supplier with the GLN
+-- an input of a caller in this role, which its GLN and its key decide; `row` is that of the supplier with the GLN
 abbrev pub step_as : RegisterRows → Option Role → Option SupplierRow → Input → Mark → Tables → Reply × Tables
 step_as register (Some Supplier) (Some s) input mark t =
     supplier_request (view s.gln) (parties_of register) s input.moment mark input.request t
@@ -31,7 +31,7 @@ step_under register t input mark =
 abbrev pub shared_step : Tables → Input → Mark → Reply × Tables
 shared_step t input mark = step_under (register_of t) t input mark
 
--- inputs one after another, each with its mark
+-- inputs in their order, each with its mark
 abbrev pub Inputs : Type 0
 Inputs = List (Input × Mark)
 

@@ -1,5 +1,5 @@
--- The acts of messages and cancellations. Each looks at the tables through `look`, and changes the tables themselves;
--- whether an SSCC is used is asked of the tables themselves.
+-- Defines what messages and cancellations do. Each sees the tables through `look` but changes the tables themselves;
+-- whether an SSCC is used is also decided from the tables themselves.
 use Rattle.std.specs.Prelude.{ℕ, List, [], map, if◌then◌else◌, codes, Option, Some}
 use Rattle.std.specs.Option.{unwrap_or}
 use Rattle.edi_envelope.specs.EdiTokens.Text.{text}
@@ -23,7 +23,7 @@ use Rattle.hub_rules.specs.declared.incoming.IncomingMessage.{IncomingMessage}
 use Rattle.hub_law.specs.CancelText.{cancel_text}
 use Rattle.hub_law.specs.Told.{Refused, Act, act, read_act}
 
--- what the rules ask of a message of an interchange that comes at a moment, beside what is read of it; its content is
+-- what the rules need of a message beside the document in it, when its interchange comes at this moment; its content is
 -- the canonical text from UNH to UNT
 abbrev pub incoming : ℕ → Interchange → RawMessage → IncomingMessage
 incoming moment interchange message = record {
@@ -34,19 +34,19 @@ incoming moment interchange message = record {
   decimal = interchange.decimal;
 }
 
--- the messages of an interchange that comes at a moment, each with that
+-- the messages of an interchange that comes at this moment, each with what the rules need
 abbrev pub messages_at : ℕ → Interchange → List (RawMessage × IncomingMessage)
 messages_at moment interchange = map (λ message. (message, incoming moment interchange message)) interchange.messages
 
--- the body of its mailbox entry: its text, with `1` as the reference
+-- the text of its mailbox entry: the message with `1` as its reference
 abbrev pub body_of : RawMessage → List ℕ
 body_of message = text (map renumbered message.segments)
 
--- the supplier that a message names, and no digits where it names none
+-- the supplier that a message names, or no digits if it names none
 abbrev pub named : RawMessage → List ℕ
 named message = unwrap_or (supplier_of message.segments) []
 
--- M01: the side does not send messages of this type
+-- M01: this side does not send messages of this type
 abbrev pub other_type : Act
 other_type t = (Refused (message_faults.code_text MessageType), t)
 
@@ -74,14 +74,14 @@ despatch_act look parties s (message, incoming) t =
     read_act (despatch_of message)
     (λ despatch. judge_despatch parties.retailer (Some s) (has_pallet t) incoming despatch (look t)) t
 
--- a message of the retailer for a supplier, by its type
+-- a message of the retailer for a supplier, handled by its type
 abbrev pub deliver_retailers : (Tables → Tables) → Parties → Option SupplierRow → RawMessage × IncomingMessage → Act
 deliver_retailers look parties supplier (message, incoming) t =
     if same message.kind (codes "ORDERS") then order_act look parties supplier (message, incoming) t
     else (if same message.kind (codes "RECADV") then receipt_act look parties supplier (message, incoming) t
     else other_type t)
 
--- a message of a supplier, by its type
+-- a message of a supplier, handled by its type
 abbrev pub deliver_suppliers : (Tables → Tables) → Parties → SupplierRow → RawMessage × IncomingMessage → Act
 deliver_suppliers look parties s (message, incoming) t =
     if same message.kind (codes "ORDRSP") then response_act look parties s (message, incoming) t

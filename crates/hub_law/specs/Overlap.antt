@@ -1,4 +1,5 @@
--- Two suppliers, one of whose prefixes begins the other's, announce pallets with the same SSCC.
+-- Shows by example why prefixes must not overlap: two suppliers, one of whose prefixes begins with the other's,
+-- announce pallets with the same SSCC.
 use Rattle.std.specs.Prelude.{ℕ, Bool, List, [], ◌∷◌, ◌++◌, codes}
 use Rattle.hub_parties.specs.declared.row.SupplierRow.{SupplierRow}
 use Rattle.hub_parties.specs.Rows.{RegisterRows}
@@ -29,7 +30,7 @@ overlapping_register = record {
   suppliers = short_supplier ∷ long_supplier ∷ [];
 }
 
--- the tables with its rows alone
+-- the tables that have only this register's rows
 abbrev pub overlapping : Tables
 overlapping = founded overlapping_register
 
@@ -51,15 +52,15 @@ advice_of s = upload_input s.gln s.key (
     ++ codes "UNH+1+DESADV:D:01B:UN'BGM+351+DA1+9'DTM+137:20250604:102'RFF+ON:128576'NAD+SU+"
     ++ s.gln ++ codes "::9'CPS+1'GIN+BJ+340123455000000012'LIN+1++4000862141404:SRV'QTY+12:12'UNT+10+1'UNZ+1+S2'")
 
--- each has an order
+-- one order for each supplier
 abbrev pub orders : Inputs
 orders = (order_for short_supplier.gln (codes "1001"), Whole) ∷ (order_for long_supplier.gln (codes "1002"), Whole) ∷ []
 
--- then each sends its advice, first the one with the short prefix
+-- then each supplier sends its advice, first the one with the short prefix
 abbrev pub both_announce : Inputs
 both_announce = orders ++ (advice_of short_supplier, Whole) ∷ (advice_of long_supplier, Whole) ∷ []
 
--- or the one with the long prefix alone
+-- or only the supplier with the long prefix sends its advice
 abbrev pub one_announces : Inputs
 one_announces = orders ++ (advice_of long_supplier, Whole) ∷ []
 

@@ -1,4 +1,4 @@
--- What tables remember of the messages and cancellations that were accepted.
+-- Defines which rows remember accepted messages and cancellations.
 use Rattle.std.specs.Prelude.{[], Option, Some, None}
 use Rattle.edi_envelope.specs.declared.interchange.RawMessage.{RawMessage}
 use Rattle.hub_parties.specs.declared.row.SupplierRow.{SupplierRow}
@@ -12,11 +12,12 @@ use Rattle.hub_rules.specs.declared.incoming.IncomingMessage.{IncomingMessage}
 use Rattle.hub_law.specs.CancelText.{cancel_text}
 use Rattle.hub_law.specs.Messages.{named}
 
--- all that is remembered in the one is remembered in the other
+-- all that `t` remembers, `u` remembers too
 abbrev pub StaysRemembered : Tables → Tables → Type 0
 StaysRemembered t u = (row : RememberedRow) → Has t.remembered row → Has u.remembered row
 
--- the row that remembers a message, of a supplier or, without one, of the retailer for the supplier that it names
+-- the row that remembers a message of the supplier, or, if none is given, of the retailer for the supplier that it
+-- names
 abbrev pub row_of_message : Option SupplierRow → RawMessage → IncomingMessage → RememberedRow
 row_of_message (Some s) message incoming =
     remembered (record {

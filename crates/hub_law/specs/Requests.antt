@@ -1,5 +1,4 @@
--- Requests: what is answered, and what is done. Each looks at the tables through `look`, and changes the tables
--- themselves.
+-- Defines what each request does and replies. Each sees the tables through `look` but changes the tables themselves.
 use Rattle.std.specs.Prelude.{ℕ, true, List, [], ◌∷◌, length, take, if◌then◌else◌, Option, Some, None, Ok, Err, codes}
 use Rattle.std.specs.Option.{unwrap_or}
 use Rattle.edi_envelope.specs.declared.interchange.RawMessage.{RawMessage}
@@ -30,35 +29,35 @@ use Rattle.hub_requests.specs.declared.request.Request.TheVariants as requests
 
 -- Uploads.
 
--- the messages that are looked at: those whose acts were done
+-- the messages that are handled: those whose acts were done
 abbrev pub looked_at : ℕ → Mark → Opened → List (RawMessage × IncomingMessage)
 looked_at moment mark (Err code) = []
 looked_at moment mark (Ok i) = take (acts_done mark (length i.messages)) (messages_at moment i)
 
--- the reply, by what is told of them
+-- the reply to an upload, from the results of its messages
 abbrev pub upload_reply : Mark → Opened → List Told → Reply
 upload_reply mark (Err code) told = unwrap_or (stop_reply mark) (refused_reply code)
 upload_reply mark (Ok i) told =
     if is_cut mark (length i.messages) then cut_reply i told
     else unwrap_or (stop_reply mark) (whole_reply i told)
 
--- what is told, as a reply
+-- turns the result into a reply
 abbrev pub replied_by : {X : Type 0} → (X → Reply) → X × Tables → Reply × Tables
 replied_by words after = (words after.0, after.1)
 
--- each message that is looked at is one act
+-- each message that is handled is one act
 abbrev pub uploaded : (RawMessage × IncomingMessage → Act) → ℕ → Mark → Opened → Tables → Reply × Tables
 uploaded deliver moment mark upload t =
     replied_by (upload_reply mark upload) (in_row deliver (looked_at moment mark upload) t)
 
--- a supplier sends to the hub or to the retailer, the retailer to the hub
+-- a supplier sends to the hub or to the retailer; the retailer sends to the hub
 abbrev pub from_supplier : Parties → SupplierRow → List ℕ → Opened
 from_supplier parties s bytes = addressed s.gln (parties.hub ∷ parties.retailer ∷ []) (interchange_in bytes)
 
 abbrev pub from_retailer : Parties → List ℕ → Opened
 from_retailer parties bytes = addressed parties.retailer (parties.hub ∷ []) (interchange_in bytes)
 
--- Taken marks. An entry that is taken stays so.
+-- Marking an entry as taken. An entry that is taken stays so.
 abbrev pub taking : MailRow → List Change
 taking entry = if is_taken entry then [] else SetMail (record entry { taken = truth_number true }) ∷ []
 
@@ -66,7 +65,7 @@ abbrev pub taken : Mark → Option MailRow → Tables → Reply × Tables
 taken mark None t = replied mark unknown t
 taken mark (Some entry) t = unless_stopped mark (done (line (codes "taken" ∷ [])), apply_all (taking entry) t) t
 
--- What a supplier asks.
+-- A supplier's requests.
 abbrev pub supplier_request : (Tables → Tables) → Parties → SupplierRow → ℕ → Mark → Request → Tables → Reply × Tables
 supplier_request look parties s moment mark (requests.Upload bytes) t =
     uploaded (deliver_suppliers look parties s) moment mark (from_supplier parties s bytes) t
@@ -80,7 +79,7 @@ supplier_request look parties s moment mark (requests.StatusOf gln) t = replied 
 supplier_request look parties s moment mark (requests.Cancel cancellation) t = replied mark denied t
 supplier_request look parties s moment mark (requests.Join row) t = replied mark denied t
 
--- What the retailer asks. A message, a cancellation and a report see what the supplier sees that they name.
+-- The retailer's requests. A message, a cancellation and a report see the rows of the supplier that they name.
 abbrev pub deliver_named : RegisterRows → RawMessage × IncomingMessage → Act
 deliver_named register (message, incoming) =
     deliver_retailers (view (named message)) (parties_of register) (supplier_row register.suppliers (named message))
@@ -89,15 +88,15 @@ deliver_named register (message, incoming) =
 abbrev pub cancel_named : RegisterRows → Cancel → Act
 cancel_named register c = cancel (view c.supplier) (supplier_row register.suppliers c.supplier) c
 
--- one act, and what is told of it
+-- one act, with its result as the reply
 abbrev pub answered : Mark → Told × Tables → Tables → Reply × Tables
 answered mark after t = unless_stopped mark (replied_by act_reply after) t
 
--- A supplier joins: its rows come into the tables where the register takes it.
+-- A supplier joins: if the register accepts it, its rows are added.
 abbrev pub join : RegisterRows → SupplierRow → Act
 join register row = act (judge_join register row)
 
--- what cannot be a supplier's row is denied; no call hands it in
+-- a row that no supplier can have is denied; no call passes such a row
 abbrev pub joined : RegisterRows → Mark → SupplierRow → Tables → Reply × Tables
 joined register mark row t =
     if is_join row then answered mark (join register row t) t

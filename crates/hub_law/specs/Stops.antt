@@ -1,4 +1,4 @@
--- What a stop after some messages of an upload replies and leaves.
+-- Defines what an upload that is stopped after some of its messages replies and leaves.
 use Rattle.std.specs.Prelude.{ℕ, List, ◌++◌, take, Option, Some, None, Ok, Err}
 use Rattle.std.specs.List.{list_any}
 use Rattle.edi_envelope.specs.declared.interchange.RawMessage.{RawMessage}
@@ -20,12 +20,12 @@ use Rattle.hub_requests.specs.declared.request.Input.{Input}
 use Rattle.hub_requests.specs.declared.request.Request.{Request}
 use Rattle.hub_requests.specs.declared.request.Request.TheVariants as requests
 
--- an upload whose messages are looked at: its interchange, and the act of each of its messages
+-- an upload whose messages are handled: its interchange, and the act of each message
 pub record Upload : Type 0 where
   pub interchange : Interchange
   pub act : RawMessage × IncomingMessage → Act
 
--- one whose messages have this act, where it opens
+-- the upload whose messages have this act, if it opens
 abbrev pub opened_for : (RawMessage × IncomingMessage → Act) → Opened → Option Upload
 opened_for act (Ok i) = Some (record { interchange = i; act = act })
 opened_for act (Err code) = None
@@ -48,19 +48,19 @@ upload_by register (Some Retailer) row request =
     upload_from (from_retailer (parties_of register)) (deliver_named register) request
 upload_by register None row request = None
 
--- the upload whose messages are looked at, where the input is one of somebody who may, opens and is addressed rightly
+-- the upload whose messages are handled: the caller has a role, and the interchange opens and is addressed correctly
 abbrev pub upload_of : RegisterRows → Input → Option Upload
 upload_of register input =
     upload_by register (role_of register input.caller input.key) (row_of register input.caller) input.request
 
--- the messages of an upload that comes at a moment, one after another, or the first k of them, and what is told of each
+-- the results of all messages of an upload that comes at this moment, or of its first `k`, one after another
 abbrev pub all_acts : Upload → ℕ → Tables → List Told × Tables
 all_acts upload moment = in_row upload.act (messages_at moment upload.interchange)
 
 abbrev pub first_acts : ℕ → Upload → ℕ → Tables → List Told × Tables
 first_acts k upload moment = in_row upload.act (take k (messages_at moment upload.interchange))
 
--- the reply where it was stopped after k messages: the first k lines of the whole reply, and that it was stopped
+-- the reply to an upload that was stopped after `k` messages: the lines of the whole reply up to these, then `stopped`
 abbrev pub reply_behind : ℕ → Interchange → List Told → Reply
 reply_behind k i told = record {
   outcome = Stopped;

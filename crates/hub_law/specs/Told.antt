@@ -1,4 +1,4 @@
--- Acts: what one message, one cancellation or one join does to the tables, and what is told of it.
+-- Defines acts: what one message, one cancellation or one join does to the tables, and its result.
 use Rattle.std.specs.Prelude.{ℕ, Bool, true, false, List, [], ◌∷◌, Result, Ok, Err}
 use Rattle.edi_messages.specs.Fault as message_faults
 use Rattle.edi_messages.specs.declared.fault.MessageFault.{MessageFault}
@@ -20,7 +20,7 @@ is_refused Accepted = false
 is_refused Repeated = false
 is_refused (Refused code) = true
 
--- what changes nothing is repeated
+-- a verdict without changes is a repetition
 abbrev pub told : Verdict → Told
 told (Accept []) = Repeated
 told (Accept (change ∷ changes)) = Accepted
@@ -36,12 +36,12 @@ Act = Tables → Told × Tables
 abbrev pub act : Verdict → Act
 act verdict t = (told verdict, changed verdict t)
 
--- refused with the message fault where nothing can be read, else what the rules say of what is read
+-- refused with the fault if the message cannot be read, else what the rules decide for what was read
 abbrev pub read_act : {X : Type 0} → Result X MessageFault → (X → Verdict) → Act
 read_act (Err fault) judge t = (Refused (message_faults.code_text fault), t)
 read_act (Ok message) judge t = act (judge message) t
 
--- acts one after another, and what is told of each
+-- acts one after another, with the result of each
 abbrev pub in_row : {X : Type 0} → (X → Act) → List X → Tables → List Told × Tables
 in_row step [] t = ([], t)
 in_row step (x ∷ xs) t = followed_by (single (step x t)) (in_row step xs)

@@ -1,12 +1,12 @@
-//! Laws of the hub, each the contract of a function without a body.
+//! States laws of the hub, each as the contract of a function without a body.
 //!
-//! The items of a GLN are what of the inputs is for it: its own inputs, the retailer's messages that name it, the
-//! retailer's cancellations for it, and the join with which the register took it. What it would see alone is what comes
-//! of its own rows by its items, with nothing else in the tables.
+//! The items of a GLN are the parts of the inputs that concern it: its own inputs, the retailer's messages that name
+//! it, the retailer's cancellations for it, and the join by which the register accepted it. What the GLN would see
+//! alone is what its items leave in its own rows, if the tables had nothing else.
 //!
-//! A start is sound where the tables hold a register, in which no prefix of a supplier begins a prefix of another, and
-//! are sound with its suppliers. Tables with the rows of a register alone are so, and each step leaves them so. The laws
-//! speak of every GLN but the retailer's, registered or not yet.
+//! Tables are a sound start if they hold a register in which no prefix of one supplier begins a prefix of another, and
+//! are sound with its suppliers. Tables that have only the rows of a register are one, and each step keeps this. The
+//! laws hold for every GLN but the retailer's, whether it is registered or not.
 ghost use Rattle.std.specs.Prelude.{◌≡◌, ◌≢◌, ℕ, true, false, List, [], ◌∷◌, ◌++◌, codes, Some};
 ghost use Rattle.std.specs.List.{AllByRecursion};
 ghost use Rattle.gs1_ids.specs.Overlap.{PrefixFree};
@@ -27,17 +27,17 @@ ghost use Rattle.hub_law.specs.Overlap.{long_supplier, overlapping, both_announc
 ghost use Rattle.hub_requests.specs.declared.request.Input.{Input};
 ghost use Rattle.hub_requests.specs.declared.request.Request.TheVariants.{Join};
 
-/// Whoever asks something of the hub, each GLN but the retailer's sees after it what it would see alone; and where it
-/// asks itself, it is answered as it would be alone. This holds also of a request that was stopped. Before it has its
-/// register row it is denied, and sees nothing but what lay in the tables.
+/// After any request, whoever makes it, each GLN but the retailer's sees what it would see alone; and if it is the
+/// caller, it gets the reply that it would get alone. This also holds for a request that was stopped. Before the GLN
+/// has its register row, it is denied and sees only what the tables had for it from the start.
 pub fn step_is_own()
     ensures { (gln : List ℕ) (t : Tables) (input : Input) (mark : Mark) →
         SoundHub t → IsOther gln t → StepIsOwn gln t input mark }
 {}
 
-/// The same of all inputs of a run, one after another: what is seen in the end, and all answers in their order. A
-/// status for which the retailer asks among them is the text of what would be seen alone at that place, or unknown
-/// before there is a register row.
+/// Like `step_is_own`, for all inputs of a run: what the GLN sees in the end, and all its replies in their order. If
+/// the retailer asks for the GLN's status during the run, the reply is the text of what the GLN would see alone at that
+/// point, or unknown before it has a register row.
 pub fn run_is_own()
     ensures run { (gln : List ℕ) (t : Tables) (inputs : Inputs) → SoundHub t → IsOther gln t →
         RunIsOwn gln t inputs }
@@ -46,10 +46,11 @@ pub fn run_is_own()
         reply_between t before input later ≡ Some (own_report gln (alone gln (items gln t before) t).1) }
 {}
 
-/// Two runs that agree on a GLN are alike for it: it sees the same in the end and is told the same, and a status of it
-/// for which the retailer asks after as many of its items in the one as in the other is the same. They agree on the GLNs
-/// of hub and retailer, on its rows at the start, its prefixes and its key among them or that it has none, and on its
-/// items. The other suppliers, the retailer's key, all other rows and all other inputs may differ.
+/// Two runs that agree on a GLN are the same for it: it sees the same in the end and gets the same replies, and the
+/// retailer gets the same status of it after equally many of its items. The runs agree if they have the same GLNs of
+/// hub and retailer, the same rows of the GLN at the start (including its prefixes and its key, or that it has none),
+/// and the same items of the GLN. The other suppliers, the retailer's key, all other rows and all other inputs may
+/// differ.
 pub fn runs_alike()
     ensures seen { (gln : List ℕ) (t u : Tables) (xs ys : Inputs) →
         Agree gln t u xs ys → view gln (shared_run t xs).1 ≡ view gln (shared_run u ys).1 }
@@ -60,11 +61,11 @@ pub fn runs_alike()
         reply_between t xs x xs_later ≡ reply_between u ys y ys_later }
 {}
 
-/// Whatever is asked, and by whomever, a sound start is sound after it, with the same hub and retailer, and who had a row
-/// has it still; and tables with the rows of a register alone are sound. That is: they hold a register; rows are in the
-/// order of their keys, and no key stands twice among a supplier's rows; each line has its order, each content its line
-/// and its pallet, and each receipt a pallet that was received; each pallet is a supplier's and under one of its prefixes;
-/// mailbox entries are numbered from 1; and every line balances.
+/// After any requests, by anyone, a sound start is still sound, with the same hub and retailer, and each supplier that
+/// had a row still has it. Tables that have only the rows of a register are a sound start. Sound means: the tables hold
+/// a register; rows are in the order of their keys, and no key occurs twice among a supplier's rows; each line has its
+/// order, each content its line and its pallet, and each receipt a pallet that was received; each pallet belongs to a
+/// supplier and is under one of its prefixes; mailbox entries are numbered from 1; and every line balances.
 pub fn hub_stays_sound()
     ensures step { (t : Tables) (input : Input) (mark : Mark) → SoundHub t →
         SoundHub (shared_step t input mark).1 }
@@ -81,16 +82,17 @@ pub fn hub_stays_sound()
         register_of (founded register) ≡ register }
 {}
 
-/// On every order line of sound tables ordered is open, refused, cancelled and despatched together. What is despatched
-/// is the sum of the contents on the supplier's pallets that name the line.
+/// In sound tables, the ordered quantity of every order line is what is open, refused, cancelled and despatched
+/// together. The despatched quantity is the sum of the contents on the supplier's pallets that name the line.
 pub fn each_line_balances()
     ensures { (suppliers : List SupplierRow) (t : Tables) →
         Sound suppliers t → AllByRecursion (λ line. Balanced (view line.supplier t) line) t.lines }
 {}
 
-/// What one GLN sees and is told is the same whether or not another joins. A join is no item of another GLN; nor is one
-/// that is refused, or that was stopped, of anybody. So a join for which another asks may stand in a run or not: a GLN
-/// that has its row by then, or that nobody lets in later, sees the same in the end and is told the same.
+/// What a GLN sees, and the replies that it gets, do not depend on whether another supplier joins. A join is not an
+/// item of any other GLN; a join that is refused or stopped is not an item of anyone. So a join that another caller
+/// asks for can be left out of a run: a GLN that has its row by then, or that no one registers later, sees the same in
+/// the end and gets the same replies.
 pub fn joins_are_apart()
     ensures others { (gln : List ℕ) (t : Tables) (input : Input) (mark : Mark) (row : SupplierRow) →
         input.request ≡ Join row → input.caller ≢ gln → row.gln ≢ gln → items_of_input gln t input mark ≡ [] }
@@ -111,9 +113,9 @@ pub fn joins_are_apart()
         ≡ replies_to gln (before ++ later) (shared_run t (before ++ later)).0 }
 {}
 
-/// Where a prefix of one supplier begins a prefix of another, the laws can fail: an example. Of two such suppliers each
-/// has an order, and they announce pallets with the same SSCC: the second is refused with B12. Where the first
-/// announces nothing, or in what the second would be told alone, it is accepted, over the same items.
+/// An example shows that the laws can fail if a prefix of one supplier begins a prefix of another. Each of two such
+/// suppliers has an order, and both announce pallets with the same SSCC: the second is refused with B12. If the first
+/// announces nothing, or if the second were alone, it would be accepted, with the same items.
 pub fn prefixes_matter()
     ensures overlap { PrefixFree (company_prefixes (suppliers_of overlapping)) → ⊥ }
     ensures items { items long_supplier.gln overlapping both_announce ≡

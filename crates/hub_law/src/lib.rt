@@ -1,5 +1,5 @@
-//! What a hub does: the machine that all suppliers share, and that of one supplier alone, with the laws by which
-//! suppliers are apart.
+//! Defines what a hub does, as the machine that all suppliers share and as that of one supplier alone, with the laws
+//! that keep suppliers apart.
 #![tactic(auto)]
 
 mod laws;

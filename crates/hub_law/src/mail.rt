@@ -1,4 +1,4 @@
-//! Mailbox entries: a law, the contract of a function without a body.
+//! States a law of mailbox entries, as the contract of a function without a body.
 ghost use Rattle.std.specs.Prelude.{◌≡◌, ℕ, List};
 ghost use Rattle.edi_envelope.specs.declared.interchange.RawMessage.{RawMessage};
 ghost use Rattle.edi_envelope.specs.Mail as messages;
@@ -12,8 +12,8 @@ ghost use Rattle.hub_rules.specs.MailboxRules.{new_mail};
 ghost use Rattle.hub_law.specs.MailText.{entry_text};
 ghost use Rattle.hub_law.specs.Messages.{body_of};
 
-/// The text of the entry that the rules make of a message is the mail text of that message: to the supplier, with the
-/// moment and the decimal mark with which it came, and the entry's number.
+/// The text of the entry that the rules make for a message is the mail text of that message: addressed to the supplier,
+/// with the moment and the decimal mark with which the message arrived, and with the entry's number.
 pub fn entry_is_its_messages_mail()
     ensures { (hub supplier document : List ℕ) (state : Tables) (message : RawMessage)
         (incoming : IncomingMessage) (kind : MailKind) (entry : MailRow) →

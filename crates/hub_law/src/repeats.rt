@@ -1,4 +1,4 @@
-//! What was accepted and comes again: laws, each the contract of a function without a body.
+//! States laws of accepted messages that are sent again, each as the contract of a function without a body.
 ghost use Rattle.std.specs.Prelude.{◌≡◌, ℕ, ◌+◌, List, ◌∷◌, ◌++◌, Some};
 ghost use Rattle.edi_envelope.specs.declared.interchange.RawMessage.{RawMessage};
 ghost use Rattle.hub_parties.specs.Rows.{Parties, RegisterRows};
@@ -20,10 +20,10 @@ ghost use Rattle.hub_requests.specs.declared.request.Input.{Input};
 ghost use Rattle.hub_law.specs.Requests.{deliver_named, cancel_named};
 ghost use Rattle.hub_law.specs.Told.{Accepted, Repeated, in_row};
 
-/// What was accepted and comes again is answered `repeated`, and changes nothing: a message of the retailer or of a
-/// supplier with the same control reference and the same segments, whenever and with whatever decimal mark it comes,
-/// and the same cancellation. The tables that it comes to are any sound ones in which all is still remembered that was
-/// remembered when it had been accepted.
+/// If something that was accepted is sent again, the reply is `repeated` and nothing changes. This holds for a message
+/// of the retailer or of a supplier with the same control reference and the same segments, at any time and with any
+/// decimal mark, and for the same cancellation. The tables may be any sound ones that still remember all that was
+/// remembered after it was accepted.
 pub fn accepted_is_repeated()
     ensures retailers { (register : RegisterRows) (message : RawMessage) (incoming : IncomingMessage)
         (moment decimal : ℕ) (t u : Tables) →
@@ -42,8 +42,8 @@ pub fn accepted_is_repeated()
         cancel_named register c u ≡ (Repeated, u) }
 {}
 
-/// What is remembered stays remembered, whatever comes: further messages of an upload, of the retailer or of a
-/// supplier, and any inputs of anybody, stopped or not.
+/// What is remembered stays remembered, whatever follows: further messages of an upload, of the retailer or of a
+/// supplier, and any inputs of anyone, stopped or not.
 pub fn remembered_stays()
     ensures retailers { (register : RegisterRows) (sents : List (RawMessage × IncomingMessage)) (t : Tables) →
         StaysRemembered t (in_row (deliver_named register) sents t).1 }
@@ -53,8 +53,8 @@ pub fn remembered_stays()
     ensures run { (t : Tables) (inputs : Inputs) → StaysRemembered t (shared_run t inputs).1 }
 {}
 
-/// What was accepted in a run is remembered under its references and with its content, after it and whatever comes then:
-/// a message, and a cancellation of which the reply tells that it was accepted.
+/// What was accepted in a run is remembered under its references with its content, from then on and whatever follows: a
+/// message, and a cancellation whose reply says `accepted`.
 pub fn accepted_stays_remembered()
     ensures message { (t : Tables) (before between : Inputs) (input : Input) (mark : Mark) (place : ℕ)
         (message : RawMessage) (one : AcceptedAt (shared_run t before).1 input mark place message) →
@@ -67,9 +67,9 @@ pub fn accepted_stays_remembered()
         Has (shared_run t (before ++ (input, Whole) ∷ between)).1.remembered (row_of_cancel c) }
 {}
 
-/// In a run from sound tables, a message that was accepted and comes again in a later upload that is looked at, is told
-/// of as repeated, and its act leaves the tables as they are, whoever joined meanwhile; `stops_cut_uploads` says which of
-/// what is told is in the reply. And a cancellation that was accepted and comes again is answered so.
+/// In a run on sound tables, an accepted message that is sent again in a later upload gets the result `repeated`, if
+/// the upload is handled, and its act leaves the tables as they are, whoever joined in between; `stops_cut_uploads`
+/// says which results the reply shows. An accepted cancellation that is sent again gets the reply `repeated`.
 pub fn repeated_in_runs()
     ensures message { (t : Tables) (before between : Inputs) (first second : Input) (mark : Mark)
         (place later : ℕ)

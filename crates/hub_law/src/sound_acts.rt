@@ -1,4 +1,4 @@
-//! Acts one by one: laws, each the contract of a function without a body.
+//! States laws of single acts, each as the contract of a function without a body.
 ghost use Rattle.std.specs.Prelude.{◌≡◌, ℕ, true, Some};
 ghost use Rattle.edi_envelope.specs.declared.interchange.RawMessage.{RawMessage};
 ghost use Rattle.hub_parties.specs.Rows.{RegisterRows, parties_of};
@@ -17,8 +17,8 @@ ghost use Rattle.hub_law.specs.Messages.{deliver_suppliers};
 ghost use Rattle.hub_law.specs.Requests.{deliver_named, cancel_named, taking, join};
 
 /// A message of a supplier, a message of the retailer, a cancellation, and a taken mark each leave sound tables sound,
-/// and so rising by their keys, where those of the register's rows do. A join under the register that sound tables hold
-/// leaves them so.
+/// and so with rising keys, if the keys of the register's rows rise. A join under the register that sound tables hold
+/// leaves them sound too.
 pub fn acts_stay_sound()
     ensures suppliers { (register : RegisterRows) (s : SupplierRow) (message : RawMessage)
         (incoming : IncomingMessage) (t : Tables) →
@@ -38,7 +38,8 @@ pub fn acts_stay_sound()
         SoundHub t → is_join row ≡ true → SoundHub (join (register_of t) row t).1 }
 {}
 
-/// Of these acts the join alone changes the register: the others leave the rows of the hub, the keys and the prefixes.
+/// Of these acts only the join changes the register: the others leave the hub's row, the keys and the prefixes as they
+/// are.
 pub fn acts_keep_the_register()
     ensures suppliers { (register : RegisterRows) (s : SupplierRow) (message : RawMessage)
         (incoming : IncomingMessage) (t : Tables) →

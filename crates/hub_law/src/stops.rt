@@ -1,4 +1,4 @@
-//! What is stopped: laws, each the contract of a function without a body.
+//! States laws of inputs that are stopped, each as the contract of a function without a body.
 ghost use Rattle.std.specs.Prelude.{◌≡◌, ◌≢◌, ◌↔◌, ◌<◌, ◌≤◌, ℕ, [], length, Some, None};
 ghost use Rattle.hub_tables.specs.Register.{register_of};
 ghost use Rattle.hub_tables.specs.Tables.{Tables};
@@ -10,8 +10,8 @@ ghost use Rattle.hub_law.specs.Stops.{Upload, upload_of, all_acts, first_acts, r
 ghost use Rattle.hub_requests.specs.declared.reply.Outcome.TheVariants.{Stopped};
 ghost use Rattle.hub_requests.specs.declared.request.Input.{Input};
 
-/// A reply says that its input was stopped exactly where it was. What was stopped before anything was done leaves the
-/// tables as they were, and its reply is empty or the one word.
+/// A reply says that its input was stopped exactly if it was. An input that was stopped before anything was done leaves
+/// the tables as they were, and its reply is empty or just `stopped`.
 pub fn stops_are_told()
     ensures outcome { (t : Tables) (input : Input) (mark : Mark) →
         ((shared_step t input mark).0.outcome ≡ Stopped) ↔ (mark ≢ Whole) }
@@ -21,10 +21,11 @@ pub fn stops_are_told()
         shared_step t input StoppedBare ≡ (stopped, t) }
 {}
 
-/// An upload whose messages are looked at is replied to by the line of its interchange and a line for each message, and
-/// each is one act, in their order. Stopped after k of more messages, its reply is the first k of these lines and the
-/// word, and the tables are those after the first k acts. A stop after k messages of anything else, or of no more than
-/// k, is one before anything was done.
+/// The reply to an upload whose messages are handled has the line of its interchange and a line for each message, and
+/// each message is one act, in their order. If the upload is stopped after k of more than k messages, the reply has the
+/// line of the interchange, the lines of the first k messages and `stopped`, and the tables are those after the first k
+/// acts. A stop after k messages of any other input, or of an upload of at most k messages, means that nothing was
+/// done.
 pub fn stops_cut_uploads()
     ensures whole { (t : Tables) (input : Input) (upload : Upload) →
         upload_of (register_of t) input ≡ Some upload →

@@ -1,4 +1,4 @@
--- Lines that were set while a message is judged.
+-- Defines which lines were set while a message is checked.
 use Rattle.std.specs.Prelude.{◌≡◌, ℕ, List, Option}
 use Rattle.std.specs.Borrow.{Bor}
 use Rattle.std.specs.BTreeMap.{BTreeMap, get_by}
@@ -9,19 +9,19 @@ use Rattle.hub_parties.specs.KeyOrder.{bytes_cmp}
 use Rattle.hub_order_lines.specs.Book.{Orders, IsCovered, answered_row}
 use Rattle.hub_order_lines.specs.declared.facts.LineFacts.{LineFacts}
 
--- lines by order number and line number
+-- set lines by order number and line number
 abbrev pub SetLines : Type 0
 SetLines = BTreeMap (Bor (List ℕ) × ℕ) LineFacts
 
--- what a line was set to
+-- what the line was set to, if it was
 abbrev pub set_at : SetLines → List ℕ → ℕ → Option LineFacts
 set_at changed number line = get_by (λ at. ordering_then (bytes_cmp number at.0.now) (nat_cmp line at.1)) changed
 
--- a line as it is now
+-- the current form of a line
 abbrev pub now_of : SetLines → LineFacts → LineFacts
 now_of changed line = unwrap_or (set_at changed line.row.number line.row.line) line
 
--- of a line nothing is set but its quantities and its answer, and what is set is covered
+-- only the quantities and the answer of a line are set, and the result is covered
 pub record IsSetOf (line set : LineFacts) : Type 0 where
   pub row : answered_row line.row set.row.open_qty set.row.refused set.row.cancelled set.row.answer ≡ set.row
   pub despatched : set.despatched ≡ line.despatched

@@ -1,4 +1,4 @@
--- What lines are looked up by.
+-- Defines the keys by which order lines are looked up.
 use Rattle.std.specs.Prelude.{ℕ, Bool, List, map}
 use Rattle.std.specs.List.{prefix_len}
 use Rattle.std.specs.Ordering.{nat_cmp, ordering_then, is_lt}
@@ -17,10 +17,10 @@ key_of line = record { number = line.row.number; line = line.row.line; gtin = li
 abbrev pub keys_of : List LineFacts → List LineKey
 keys_of lines = map key_of lines
 
--- the line is below a line number of an order
+-- whether the line comes before this line number of this order
 abbrev pub is_below : List ℕ → ℕ → LineKey → Bool
 is_below number line key = is_lt (ordering_then (bytes_cmp key.number number) (nat_cmp key.line line))
 
--- how many lines are below a line number of an order, in lines that rise
+-- how many lines come before this line number of this order, if the lines rise
 abbrev pub place_from : List ℕ → ℕ → List LineKey → ℕ
 place_from number line keys = prefix_len (is_below number line) keys

@@ -1,4 +1,4 @@
-//! The orders that a message names, while it is judged.
+//! Keeps the orders that a message names while it is checked.
 ghost use Rattle.std.specs.Prelude.{◌≡◌, ◌+◌, ◌≤◌, IfOk, OnOk, Some, option_map};
 ghost use Rattle.std.specs.Option.{IfSome};
 ghost use Rattle.hub_order_lines.specs.Book.{answered_row, facts_among, has_order, lines_in, with_row, IsCovered};
@@ -14,8 +14,8 @@ use std::alloc::Global;
 use std::collections::BTreeMap;
 use std::marker::Model;
 
-/// The orders that a message names and their lines, as the message has left them so far. The orders themselves stay as they
-/// are.
+/// The orders that a message names, with their lines as the message has left them so far. The orders themselves do not
+/// change.
 #[derive(Drop)]
 pub struct Book<'a> {
     orders: &'a KnownOrders,
@@ -36,7 +36,7 @@ impl<'a> Model for Book<'a> {
     ghost invariant = { λ book. KeepKeys book.changed book.orders.now };
 }
 
-// A copy of a row with the quantities and the answer of another.
+// Copies a row, with the quantities and the answer of another.
 fn with_quantities(alloc: Global, row: &LineRow, other: &LineRow) -> Result<LineRow, MemoryFault>
     ensures { IfOk result (λ copy. copy ≡ answered_row row.now other.now.open_qty other.now.refused
         other.now.cancelled other.now.answer) }
@@ -50,7 +50,7 @@ fn with_quantities(alloc: Global, row: &LineRow, other: &LineRow) -> Result<Line
 }
 
 impl<'a> Book<'a> {
-    /// The book of orders.
+    /// Makes the book of these orders.
     pub fn new(alloc: Global, orders: &'a KnownOrders) -> Book<'a>
         ensures { result ≡ orders.now }
     {
@@ -67,8 +67,8 @@ impl<'a> Book<'a> {
         self.orders.has(order)
     }
 
-    /// The line of an order: of the number, or where none is given the only one with the article. Of it no more is open,
-    /// refused and cancelled than is ordered.
+    /// Returns the line of an order: the one with this number, or the only one of the article if no number is given.
+    /// Its open, refused and cancelled quantities add up to no more than the ordered one.
     pub fn line(&self, order: &[u8], number: Option<u32>, gtin: &Gtin) -> Option<&LineFacts>
         ensures line { option_map (λ line. line.now) result
             ≡ facts_among (lines_in self.now order.now) number gtin.now }
@@ -82,8 +82,8 @@ impl<'a> Book<'a> {
         }
     }
 
-    /// Sets what is open, refused and cancelled of a line of an order, and how it is answered, as a row has them. Where there is no
-    /// such line nothing is set.
+    /// Sets the open, refused and cancelled quantities and the answer of an order line to those of `row`. If there is
+    /// no such line, nothing is set.
     pub fn set(
         &mut self,
         alloc: Global,

@@ -1,4 +1,4 @@
-//! Lines by order number and article.
+//! Finds lines by order number and article.
 ghost use Rattle.std.specs.Prelude.{◌≡◌, ◌<◌, ◌&&◌, None, filter, length, slice_get, IfOk};
 ghost use Rattle.std.specs.BTreeMap.{get};
 ghost use Rattle.std.specs.Option.{IfSome, IfNone};
@@ -17,26 +17,26 @@ use gs1_ids::Gtin;
 use std::alloc::Global;
 use std::collections::BTreeMap;
 
-/// The lines of an order that have an article.
+/// The lines of an order that have one article.
 #[derive(Clone, Copy, Debug)]
 pub(crate) enum ArticleLines {
-    /// Only the one at the place.
+    /// Exactly one line, at this position.
     One(usize),
     /// More than one.
     Several,
 }
 
-/// The lines by the place of their order's first line, and their article.
+/// The lines by the position of their order's first line and by their article.
 pub(crate) type ArticleIndex = BTreeMap<(usize, Gtin), ArticleLines>;
 
-// The lines of an article of the order of which the first line is at a place.
+// Returns the lines of an article in the order whose first line is at `first`.
 fn article_lines(articles: &ArticleIndex, first: usize, gtin: &Gtin) -> Option<ArticleLines>
     ensures { result ≡ get article_cmp articles.now (first, gtin.now) }
 {
     articles.get(&(first, *gtin)).copied()
 }
 
-// The lines of an article with one more, at a place.
+// Returns the lines of an article after one more line, at `place`.
 fn one_more(known: Option<ArticleLines>, place: usize) -> ArticleLines
     ensures { result ≡ one_more known place }
 {
@@ -46,7 +46,7 @@ fn one_more(known: Option<ArticleLines>, place: usize) -> ArticleLines
     }
 }
 
-/// The index of lines. The time grows as n log n with n lines.
+/// Indexes the lines. With n lines, the time grows as n log n.
 pub(crate) fn index_articles(
     alloc: Global,
     lines: &[LineFacts],
@@ -63,14 +63,14 @@ pub(crate) fn index_articles(
     Ok(articles)
 }
 
-// Whether a line is of an order.
+// Whether the line belongs to the order.
 fn is_of(line: &LineFacts, order: &[u8]) -> bool
     ensures { result ≡ same line.now.row.number order.now }
 {
     line.row.number.as_slice() == order
 }
 
-/// The place of the only line of an order with an article.
+/// Returns the position of the order's only line with the article, or `None` if there are none or several.
 pub(crate) fn place_by_article(
     lines: &[LineFacts],
     articles: &ArticleIndex,
@@ -93,14 +93,14 @@ pub(crate) fn place_by_article(
     }
 }
 
-// Whether a line is of an order and has an article.
+// Whether the line belongs to the order and has the article.
 fn is_of_article(line: &LineFacts, order: &[u8], gtin: &Gtin) -> bool
     ensures { result ≡ (same line.now.row.number order.now && same line.now.row.gtin gtin.now) }
 {
     is_of(line, order) && line.row.gtin == *gtin
 }
 
-/// The same without an index, by a walk over all lines.
+/// Like `place_by_article`, but walks over all lines instead of using an index.
 pub(crate) fn place_by_walk(lines: &[LineFacts], order: &[u8], gtin: &Gtin) -> Option<usize>
     ensures some { IfSome result (λ place. (place < length lines.now)
         × (the_only (filter (λ (line : LineFacts). same line.row.gtin gtin.now)

@@ -1,4 +1,4 @@
-//! Lines by order number and line number.
+//! Finds lines by order number and line number.
 ghost use Rattle.std.specs.Prelude.{◌≡◌, ◌<◌, ◌==◌, ◌&&◌, None, length, slice_get, find};
 ghost use Rattle.std.specs.Option.{IfSome, IfNone};
 ghost use Rattle.hub_tables.specs.Rows.{same};
@@ -9,7 +9,7 @@ ghost use Rattle.hub_order_lines.specs.declared.facts.LineFacts.{LineFacts};
 
 use crate::facts::LineFacts;
 
-// Whether a line is below a line number of an order.
+// Whether the line comes before this line number of this order.
 fn is_below(line: &LineFacts, order: &[u8], line_number: u32) -> bool
     ensures { result ≡ is_below order.now line_number (key_of line.now) }
 {
@@ -21,7 +21,8 @@ fn is_below(line: &LineFacts, order: &[u8], line_number: u32) -> bool
         .is_lt()
 }
 
-/// How many lines are below a line number of an order: the place of the line itself, where it is one of the lines.
+/// Returns how many lines come before this line number of this order: the position of the line itself, if it is one of
+/// them.
 pub(crate) fn place_from(lines: &[LineFacts], order: &[u8], line_number: u32) -> usize
     requires { Rises facts_cmp lines.now }
     ensures { result ≡ place_from order.now line_number (keys_of lines.now) }
@@ -29,14 +30,14 @@ pub(crate) fn place_from(lines: &[LineFacts], order: &[u8], line_number: u32) ->
     lines.partition_point(|line| is_below(line, order, line_number))
 }
 
-// Whether a line is that of an order with a number.
+// Whether the line belongs to this order and has this number.
 fn is_numbered(line: &LineFacts, order: &[u8], line_number: u32) -> bool
     ensures { result ≡ (same line.now.row.number order.now && (line.now.row.line == line_number)) }
 {
     line.row.number.as_slice() == order && line.row.line == line_number
 }
 
-/// The place of the line of an order with a number.
+/// Returns the position of the order's line with this number.
 pub(crate) fn place_by_number(lines: &[LineFacts], order: &[u8], line_number: u32) -> Option<usize>
     requires { Rises facts_cmp lines.now }
     ensures some { IfSome result (λ place. (place < length lines.now)

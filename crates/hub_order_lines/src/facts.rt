@@ -1,11 +1,11 @@
-//! What is known of a line of an order.
+//! Defines what is known of an order line.
 use hub_tables::LineRow;
 
-/// A line of an order, and what of it is despatched.
+/// An order line, and the quantity of it that was despatched.
 #[derive(Debug, Drop)]
 pub struct LineFacts {
     /// The row of the line.
     pub row: LineRow,
-    /// What of the line is despatched, in pieces. In sound tables it is the sum of the contents that name it.
+    /// The despatched quantity, in pieces. In sound tables it is the sum of the contents that name the line.
     pub despatched: u32,
 }

@@ -1,4 +1,4 @@
-//! What is known of lines, from rows that pass.
+//! Derives what is known of order lines from their rows.
 ghost use Rattle.std.specs.Prelude.{◌≡◌, ◌∷◌, ◌++◌, ◌+◌, [], false, IsTrue, IfOk, OnOk};
 ghost use Rattle.std.specs.List.{AllByRecursion, list_all};
 ghost use Rattle.std.specs.Option.{IfSome, IfNone};
@@ -17,8 +17,8 @@ use hub_tables::{Column, LineRow};
 use std::alloc::Global;
 use std::marker::Model;
 
-/// Lines that rise by order number and line number, of each of which what is open, refused, cancelled and despatched is
-/// together what is ordered. They are made only of rows that pass.
+/// Lines that rise by order number and line number, and whose ordered quantity is what is open, refused, cancelled and
+/// despatched together. They can only be made from rows that meet this.
 #[derive(Debug, Drop)]
 pub struct KnownLines {
     lines: Vec<LineFacts>,
@@ -36,7 +36,8 @@ impl Model for KnownLines {
     ghost invariant = { λ known. AreKnown known.lines.items };
 }
 
-// What of a line is despatched: what is neither open nor refused nor cancelled. None where more is than was ordered.
+// Returns the despatched quantity: what is neither open nor refused nor cancelled. `None` if these exceed the ordered
+// quantity.
 #[tactic(auto, using(crate::proofs::Passing::uncovered))]
 fn despatched_of(row: &LineRow) -> Option<u32>
     ensures adds_up { IfSome result (λ despatched.
@@ -48,7 +49,7 @@ fn despatched_of(row: &LineRow) -> Option<u32>
     rest.checked_sub(row.cancelled)
 }
 
-// What is known of a line. Of a row of which more is open, refused and cancelled than is ordered nothing is.
+// Returns what is known of a line. `None` if what is open, refused and cancelled exceeds the ordered quantity.
 fn fact_of(row: LineRow) -> Option<LineFacts>
     ensures row { IfSome result (λ line. line.row ≡ row) }
     ensures adds_up { IfSome result AddsUp }
@@ -58,14 +59,13 @@ fn fact_of(row: LineRow) -> Option<LineFacts>
     Some(LineFacts { row, despatched })
 }
 
-// Whether a row has the supplier and the article of a line.
+// Whether the row has the supplier and the article of the line.
 fn is_alike(line: &LineRow, row: &LineRow) -> bool
     ensures alike { IsTrue result → (line.now.supplier ≡ row.now.supplier) × (line.now.gtin ≡ row.now.gtin) }
 {
     line.supplier == row.supplier && line.gtin == row.gtin
 }
 
-// Puts a line after others.
 fn put_line(lines: &mut Items<LineFacts>, line: LineFacts) -> Result<(), MemoryFault>
     ensures { OnOk result (lines.new ≡ lines.old ++ line ∷ []) }
 {
@@ -73,7 +73,7 @@ fn put_line(lines: &mut Items<LineFacts>, line: LineFacts) -> Result<(), MemoryF
     Ok(())
 }
 
-// What is known of each line; none where of one nothing is.
+// Returns what is known of each line; `None` if that fails for one of them.
 #[tactic(auto, using(crate::proofs::Passing::one_uncovered))]
 fn facts_of_each(
     alloc: Global,
@@ -94,7 +94,7 @@ fn facts_of_each(
 }
 
 impl KnownLines {
-    /// No lines. Takes no memory.
+    /// Makes an empty list, without allocating memory.
     pub fn new(alloc: Global) -> Self
         ensures { result ≡ [] }
     {
@@ -103,8 +103,8 @@ impl KnownLines {
         }
     }
 
-    /// What is known of lines by their rows alone. `None` where the rows do not rise by order number and line number, or
-    /// more of one is open, refused and cancelled than is ordered.
+    /// Derives what is known of lines from their rows alone. Returns `None` if the rows do not rise by order number and
+    /// line number, or if what is open, refused and cancelled of a line exceeds the ordered quantity.
     #[tactic(auto, using(crate::proofs::StepsUp::facts_rise))]
     pub fn of_rows(alloc: Global, lines: Items<LineRow>) -> Result<Option<KnownLines>, MemoryFault>
         ensures rows { IfOk result (λ known. IfSome known (λ facts. rows facts ≡ lines)) }
@@ -122,7 +122,7 @@ impl KnownLines {
         }
     }
 
-    /// The lines as a slice. Of each no more is open, refused and cancelled than is ordered.
+    /// Returns the lines as a slice. What is open, refused and cancelled of a line never exceeds the ordered quantity.
     #[tactic(auto, using(crate::proofs::Passing::covered_if_adds))]
     pub fn as_slice(&self) -> &[LineFacts]
         ensures value { result.now ≡ self.now }
@@ -133,8 +133,8 @@ impl KnownLines {
         self.lines.as_slice()
     }
 
-    /// Sets the row in the place of the one that has its key. False, and nothing is set, where no line has the key, the article
-    /// is another, or the row does not pass.
+    /// Replaces the row of the line that has the key of `row`. Returns false, and sets nothing, if no line has the key,
+    /// the supplier or the article differs, or the open, refused and cancelled quantities exceed the ordered one.
     pub(crate) fn set(&mut self, row: &LineRow) -> bool
         ensures set { IsTrue result → rows self.new ≡ replace (same_line row.now) row.now (rows self.old) }
         ensures not_set { result ≡ false → self.new ≡ self.old }

@@ -1,4 +1,4 @@
-//! Orders as they are known, and kept while messages are judged.
+//! Keeps orders that were looked up, from one message to the next.
 ghost use Rattle.std.specs.Prelude.{◌≡◌, ◌∷◌, [], false, Some, IsTrue, IfOk, option_map};
 ghost use Rattle.std.specs.List.{AllByRecursion};
 ghost use Rattle.std.specs.Option.{IfSome};
@@ -25,11 +25,11 @@ struct KnownOrder {
     lines: OrderLines,
 }
 
-/// Orders of one supplier that were looked up, each with its lines. They can be kept from message to message.
+/// Orders of one supplier that were looked up, each with its lines. They can be kept from one message to the next.
 #[derive(Debug, Drop)]
 pub struct KnownOrders {
     orders: BTreeMap<Vec<u8>, KnownOrder>,
-    // how many lines they have
+    // the number of all their lines
     size: usize,
 }
 
@@ -49,7 +49,7 @@ impl Model for KnownOrders {
 }
 
 impl KnownOrders {
-    /// No orders. Takes no memory.
+    /// Makes an empty list, without allocating memory.
     pub fn new(alloc: Global) -> KnownOrders
         ensures { result ≡ [] }
     {
@@ -66,7 +66,7 @@ impl KnownOrders {
         self.orders.contains_key(order)
     }
 
-    /// Whether the supplier has an order, as far as is known.
+    /// Whether the supplier has the order; false if the order was not looked up.
     pub fn has(&self, order: &[u8]) -> bool
         ensures { result ≡ has_order self.now order.now }
     {
@@ -76,7 +76,7 @@ impl KnownOrders {
         }
     }
 
-    /// All lines of an order, and perhaps others.
+    /// Returns all lines of an order, and perhaps others too.
     pub fn lines(&self, order: &[u8]) -> &[LineFacts]
         ensures lines { facts_of result.now order.now ≡ lines_in self.now order.now }
         ensures covered { AllByRecursion IsCovered result.now }
@@ -87,7 +87,7 @@ impl KnownOrders {
         }
     }
 
-    /// The line of an order: of the number, or where none is given the only one with the article.
+    /// Returns the line of an order: the one with this number, or the only one of the article if no number is given.
     pub fn line(&self, order: &[u8], number: Option<u32>, gtin: &Gtin) -> Option<&LineFacts>
         ensures line { option_map (λ line. line.now) result
             ≡ facts_among (lines_in self.now order.now) number gtin.now }
@@ -99,7 +99,7 @@ impl KnownOrders {
         known.lines.line(order, number, gtin)
     }
 
-    /// The line of an order with a number.
+    /// Returns the order's line with this number.
     pub fn line_numbered(&self, order: &[u8], number: u32) -> Option<&LineFacts>
         ensures line { option_map (λ line. line.now) result
             ≡ facts_among (lines_in self.now order.now) (Some number) [] }
@@ -109,7 +109,7 @@ impl KnownOrders {
         known.lines.line_numbered(order, number)
     }
 
-    /// Makes it quick to find lines of an order by their articles.
+    /// Indexes the lines of an order by article, so that finding them by article is quick.
     pub fn index(&mut self, alloc: Global, order: &[u8]) -> Result<(), MemoryFault>
         ensures { self.new ≡ self.old }
     {
@@ -119,9 +119,9 @@ impl KnownOrders {
         }
     }
 
-    /// Puts what was looked up of an order after the others: whether the supplier has it, and the rows of its lines. False, and
-    /// nothing is put, where the rows do not rise by order number and line number, or more of one is open, refused and cancelled
-    /// than is ordered.
+    /// Adds what was looked up of an order: whether the supplier has it, and the rows of its lines. Returns false, and
+    /// adds nothing, if the rows do not rise by order number and line number, or if what is open, refused and cancelled
+    /// of a line exceeds the ordered quantity.
     pub fn put(
         &mut self,
         alloc: Global,
@@ -156,7 +156,7 @@ impl KnownOrders {
         self.size = self.size.saturating_sub(count);
     }
 
-    /// Forgets all orders, where they have more lines than so many.
+    /// Forgets all orders if they have more than `most` lines.
     pub fn forget_past(&mut self, most: usize)
         ensures { Follows [] self.old self.new }
     {
@@ -173,7 +173,7 @@ impl KnownOrders {
         self.size = 0;
     }
 
-    // Sets a row of a line of an order that is kept. False where it may not have been.
+    // Replaces the row of a line, if its order is kept. Returns false if that was not possible.
     fn set(&mut self, row: &LineRow) -> bool
         ensures { IsTrue result → Follows (SetLine row.now ∷ []) self.old self.new }
     {
@@ -183,7 +183,6 @@ impl KnownOrders {
         }
     }
 
-    // Follows a change.
     fn follow_one(&mut self, change: &Change)
         ensures { Follows (change.now ∷ []) self.old self.new }
     {
@@ -198,8 +197,8 @@ impl KnownOrders {
         }
     }
 
-    /// Follows changes that were made of the tables, so that what is kept is as it was looked up now. What cannot follow is
-    /// forgotten.
+    /// Repeats changes that were made in the tables, so that what is kept is what a look-up would return now. Orders
+    /// for which that is not possible are forgotten.
     pub fn follow(&mut self, changes: &[Change])
         ensures { Follows changes.now self.old self.new }
     {

@@ -1,5 +1,5 @@
-//! The orders and lines that a message or a cancellation names, as they are known while it is judged. Those of a message are
-//! looked up by number and by article without a walk over all lines, and set one after another.
+//! Keeps the orders and lines that a message or a cancellation names while it is checked. A message's lines are found
+//! by number or by article without a walk over all lines, and are set one after another.
 #![tactic(auto)]
 
 mod book;

@@ -1,11 +1,11 @@
-//! Lines of orders that are known.
+//! Copies rows of order lines.
 ghost use Rattle.std.specs.Prelude.{◌≡◌, IfOk};
 
 use edi_base::{Items, MemoryFault, copied};
 use hub_tables::{Column, LineRow};
 use std::alloc::Global;
 
-/// A copy of a row.
+/// Copies a row.
 pub fn copied_row(alloc: Global, row: &LineRow) -> Result<LineRow, MemoryFault>
     ensures { IfOk result (λ copy. copy ≡ row.now) }
 {

@@ -1,4 +1,4 @@
-//! The lines of one order.
+//! Keeps the lines of one order.
 ghost use Rattle.std.specs.Prelude.{◌≡◌, ◌<◌, [], false, length, slice_get, IsTrue, Some, None, option_map};
 ghost use Rattle.std.specs.List.{AllByRecursion};
 ghost use Rattle.std.specs.Option.{IfSome, IfNone};
@@ -17,7 +17,7 @@ use hub_tables::LineRow;
 use std::alloc::Global;
 use std::marker::Model;
 
-/// The lines of an order, with their index by article where a line was asked for by its article.
+/// The lines of an order, with an index by article once a line was looked for by its article.
 #[derive(Debug, Drop)]
 pub(crate) struct OrderLines {
     lines: KnownLines,
@@ -38,7 +38,7 @@ impl Model for OrderLines {
 }
 
 impl OrderLines {
-    /// These lines, without an index.
+    /// Keeps these lines, without an index.
     pub(crate) fn new(lines: KnownLines) -> OrderLines
         ensures { result ≡ lines }
     {
@@ -48,7 +48,7 @@ impl OrderLines {
         }
     }
 
-    /// Makes the index, where there is none.
+    /// Makes the index, unless there is one.
     pub(crate) fn index(&mut self, alloc: Global) -> Result<(), MemoryFault>
         ensures { self.new ≡ self.old }
     {
@@ -58,7 +58,7 @@ impl OrderLines {
         Ok(())
     }
 
-    /// The lines as a slice.
+    /// Returns the lines as a slice.
     pub(crate) fn as_slice(&self) -> &[LineFacts]
         ensures value { result.now ≡ self.now }
         ensures covered { AllByRecursion IsCovered self.now }
@@ -66,7 +66,7 @@ impl OrderLines {
         self.lines.as_slice()
     }
 
-    // The place of the only line of the order with an article.
+    // Returns the position of the order's only line with the article.
     fn place_by_article(&self, order: &[u8], gtin: &Gtin) -> Option<usize>
         ensures some { IfSome result (λ place. (place < length self.now)
             × (facts_among (facts_of self.now order.now) None gtin.now ≡ slice_get self.now place)) }
@@ -79,7 +79,7 @@ impl OrderLines {
         }
     }
 
-    /// The line of an order with a number.
+    /// Returns the order's line with this number.
     pub(crate) fn line_numbered(&self, order: &[u8], number: u32) -> Option<&LineFacts>
         ensures line { option_map (λ line. line.now) result
             ≡ facts_among (facts_of self.now order.now) (Some number) [] }
@@ -90,8 +90,8 @@ impl OrderLines {
         lines.get(place)
     }
 
-    /// The line of an order: of the number, or where none is given the only one with the article. Without an index the latter
-    /// walks over all lines.
+    /// Returns the line of an order: the one with this number, or the only one of the article if no number is given.
+    /// Without an index, the latter walks over all lines.
     pub(crate) fn line(&self, order: &[u8], number: Option<u32>, gtin: &Gtin) -> Option<&LineFacts>
         ensures line { option_map (λ line. line.now) result
             ≡ facts_among (facts_of self.now order.now) number gtin.now }
@@ -106,8 +106,8 @@ impl OrderLines {
         lines.get(place)
     }
 
-    /// Sets the row in the place of the one that has its key. False, and nothing is set, where no line has the key, the article
-    /// is another, or the row does not pass.
+    /// Replaces the row of the line that has the key of `row`. Returns false, and sets nothing, if no line has the key,
+    /// the supplier or the article differs, or the open, refused and cancelled quantities exceed the ordered one.
     pub(crate) fn set(&mut self, row: &LineRow) -> bool
         ensures set { IsTrue result → rows self.new ≡ replace (same_line row.now) row.now (rows self.old) }
         ensures not_set { result ≡ false → self.new ≡ self.old }

@@ -1,4 +1,4 @@
-//! Rows of lines that rise by order number and line number.
+//! Decides whether rows of lines rise by order number and line number.
 ghost use Rattle.std.specs.Prelude.{◌≡◌, true, None};
 ghost use Rattle.std.specs.Ordering.{is_lt};
 ghost use Rattle.hub_parties.specs.KeyOrder.{Rises};
@@ -7,7 +7,7 @@ ghost use Rattle.hub_order_lines.specs.KnownLines.{steps_up};
 
 use hub_tables::LineRow;
 
-// Whether a line stands before another, by order number and line number.
+// Whether a line comes before another, by order number and line number.
 fn precedes(line: &LineRow, other: &LineRow) -> bool
     ensures { result ≡ is_lt (place_cmp line.now other.now) }
 {
@@ -16,7 +16,7 @@ fn precedes(line: &LineRow, other: &LineRow) -> bool
     order.then(place).is_lt()
 }
 
-/// Whether each line stands before the next, by order number and line number.
+/// Whether each line comes before the next, by order number and line number.
 pub fn rise(lines: &[LineRow]) -> bool
     ensures steps { result ≡ steps_up None lines.now }
     ensures rise { result ≡ true → Rises place_cmp lines.now }

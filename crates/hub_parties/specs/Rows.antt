@@ -1,4 +1,5 @@
--- The rows of a register: the hub's GLN, the retailer with its key, and the suppliers; how one is found, and who asks.
+-- Defines the rows of a register: the hub's GLN, the retailer with its key, and the suppliers; and how a caller is
+-- recognised.
 use Rattle.std.specs.Prelude.{◌≡◌, ℕ, ◌≤◌, false, ◌&&◌, if◌then◌else◌, IsTrue, List, ◌∷◌, length, map, find, Option}
 use Rattle.std.specs.Prelude.{Some, None}
 use Rattle.std.specs.List.{list_all}
@@ -35,35 +36,35 @@ parties_of rows = record { hub = rows.hub; retailer = rows.retailer }
 abbrev pub company_prefixes : List SupplierRow → List (List (List ℕ))
 company_prefixes suppliers = map (λ supplier. supplier.prefixes) suppliers
 
--- every GLN, the hub's and the retailer's first
+-- all GLNs, the hub's and the retailer's first
 abbrev pub glns : RegisterRows → List (List ℕ)
 glns rows = rows.hub ∷ rows.retailer ∷ map (λ row. row.gln) rows.suppliers
 
--- every key, the retailer's first
+-- all keys, the retailer's first
 abbrev pub keys : RegisterRows → List (List ℕ)
 keys rows = rows.retailer_key ∷ map (λ row. row.key) rows.suppliers
 
--- the row of a supplier, by its GLN
+-- the row of a supplier, found by its GLN
 abbrev pub supplier_row : List SupplierRow → List ℕ → Option SupplierRow
 supplier_row suppliers gln = find (λ supplier. bytes_eq supplier.gln gln) suppliers
 
 abbrev pub row_of : RegisterRows → List ℕ → Option SupplierRow
 row_of rows gln = supplier_row rows.suppliers gln
 
--- who asks with a GLN and a key, where that is the row of a supplier with the GLN
+-- the role of a caller, if this is the row of the supplier with its GLN
 abbrev pub role_by : RegisterRows → Option SupplierRow → List ℕ → List ℕ → Option Role
 role_by rows (Some row) gln key = if bytes_eq row.key key then Some Supplier else None
 role_by rows None gln key = if bytes_eq rows.retailer gln && bytes_eq rows.retailer_key key then Some Retailer else None
 
--- who asks: a supplier or the retailer, known by its own GLN and its own key together
+-- the role of a caller, supplier or retailer, which its own GLN and its own key prove together
 abbrev pub role_of : RegisterRows → List ℕ → List ℕ → Option Role
 role_of rows gln key = role_by rows (row_of rows gln) gln key
 
--- how many suppliers a register has at most
+-- the most suppliers that a register may have
 abbrev pub most_suppliers : ℕ
 most_suppliers = 1000
 
--- what every register keeps: its suppliers stand by their GLNs
+-- what holds for every register: among other things, its suppliers are sorted by GLN
 pub record IsRegister (rows : RegisterRows) : Type 0 where
   pub few : length rows.suppliers ≤ most_suppliers
   pub glns_right : IsTrue (list_all is_gln (glns rows))

@@ -43,7 +43,7 @@ fn is_party_key(text: &[u8]) -> bool
 }
 
 impl Key {
-    /// The key of these bytes; `None` where they are no key.
+    /// Makes the key with these bytes; `None` if they are not a key.
     pub fn parse(text: &[u8]) -> Option<Self>
         ensures { SomeIff result (IsTrue (spec.is_party_key text.now)) text.now }
     {
@@ -55,7 +55,7 @@ impl Key {
         Some(Key { bytes })
     }
 
-    /// The same key.
+    /// Returns a copy of the key.
     pub fn copy(&self) -> Self
         ensures { result ≡ self.now }
     {
@@ -64,7 +64,7 @@ impl Key {
         Key { bytes }
     }
 
-    /// The bytes, 8 to 64 of them.
+    /// Returns the bytes, 8 to 64 of them.
     pub fn bytes(&self) -> &[u8]
         ensures value { result.now ≡ self.now }
         ensures valid { IsTrue (spec.is_party_key self.now) }

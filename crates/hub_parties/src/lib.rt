@@ -1,4 +1,5 @@
-//! The parties of a hub: the rows of a register, and by which GLN and key a caller is the retailer or a supplier.
+//! Defines the parties of a hub: the rows of a register, and how a caller's GLN and key show that it is the retailer or
+//! a supplier.
 #![tactic(auto)]
 
 mod key;

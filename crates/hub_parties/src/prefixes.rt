@@ -1,4 +1,4 @@
-//! The company prefixes of one supplier.
+//! Defines the company prefixes of one supplier.
 ghost use Rattle.std.specs.Prelude.{◌≡◌, ◌&&◌, true, IfOk, OnOk, IsTrue, position};
 ghost use Rattle.std.specs.Ordering.{is_lt, is_gt};
 ghost use Rattle.std.specs.List.{list_all};
@@ -11,10 +11,10 @@ use gs1_ids::Prefix;
 use std::alloc::Global;
 use std::marker::Model;
 
-/// How many company prefixes a supplier has at most.
+/// The most company prefixes that a supplier may have.
 const MOST_PREFIXES: usize = 8;
 
-/// The GS1 company prefixes of one supplier: one to eight, by their bytes, none twice. One of them may begin another.
+/// The GS1 company prefixes of one supplier: one to eight, sorted by their bytes, none twice. One may begin another.
 #[derive(Debug, Drop)]
 pub struct CompanyPrefixes {
     prefixes: Items<Prefix>,
@@ -31,17 +31,17 @@ impl Model for CompanyPrefixes {
     ghost invariant = { λ held. IsTrue (are_company_prefixes held.prefixes) };
 }
 
-// Whether a prefix is below each of these.
+// Whether the prefix is lower than each of these.
 fn is_below_all(prefix: &Prefix, later: &[Prefix]) -> bool
     ensures value { result ≡ list_all (λ other. is_lt (bytes_cmp prefix.now other)) later.now }
     ensures valid { is_prefix prefix.now ≡ true }
 {
-    // The contract of `digits` says that the prefix is one, which is a part of what is answered.
+    // The contract of `digits` says that the prefix is valid, which the result includes.
     let _valid = prefix.digits();
     later.iter().all(|other| prefix < other)
 }
 
-// Whether each prefix is below those after it.
+// Whether each prefix is lower than those after it.
 fn are_rising(prefixes: &[Prefix]) -> bool
     ensures { result ≡ (list_all is_prefix prefixes.now && spec.rising prefixes.now) }
 {
@@ -53,21 +53,21 @@ fn are_rising(prefixes: &[Prefix]) -> bool
     true
 }
 
-// Whether these can be the prefixes of a supplier.
+// Whether a supplier can have these prefixes.
 fn are_company_prefixes(prefixes: &[Prefix]) -> bool
     ensures { result ≡ spec.are_company_prefixes prefixes.now }
 {
     1 <= prefixes.len() && prefixes.len() <= MOST_PREFIXES && are_rising(prefixes)
 }
 
-// The place of the first of `prefixes` that is above `prefix`.
+// Returns the position of the first of `prefixes` that is above `prefix`.
 fn first_above(prefix: &Prefix, prefixes: &[Prefix]) -> Option<usize>
     ensures { result ≡ position (λ other. is_gt (bytes_cmp other prefix.now)) prefixes.now }
 {
     prefixes.iter().position(|other| other > prefix)
 }
 
-// A prefix more, at its place.
+// Inserts a prefix at its place.
 fn put(prefixes: &mut Vec<Prefix>, prefix: Prefix) -> Result<(), MemoryFault>
     ensures { OnOk result (prefixes.new.items ≡ put bytes_cmp prefix prefixes.old.items) }
 {
@@ -78,8 +78,8 @@ fn put(prefixes: &mut Vec<Prefix>, prefix: Prefix) -> Result<(), MemoryFault>
 }
 
 impl CompanyPrefixes {
-    /// These prefixes, in whatever order they stand; `None` where there are none of them, more than eight, or two equal
-    /// ones.
+    /// Makes the prefixes of a supplier from these, in any order; `None` if there are none, more than eight, or two
+    /// equal ones.
     pub fn of(alloc: Global, prefixes: &[Prefix]) -> Result<Option<Self>, MemoryFault>
         ensures { IfOk result (λ found. found ≡ spec.company_prefixes_of prefixes.now) }
     {
@@ -98,7 +98,7 @@ impl CompanyPrefixes {
         }))
     }
 
-    /// The same prefixes.
+    /// Returns a copy of the prefixes.
     pub fn copy(&self, alloc: Global) -> Result<Self, MemoryFault>
         ensures { IfOk result (λ copy. copy ≡ self.now) }
     {
@@ -106,7 +106,7 @@ impl CompanyPrefixes {
         Ok(CompanyPrefixes { prefixes })
     }
 
-    /// The prefixes, one to eight, by their bytes.
+    /// Returns the prefixes, one to eight, sorted by their bytes.
     pub fn as_slice(&self) -> &[Prefix]
         ensures value { result.now ≡ self.now }
         ensures right { IsTrue (spec.are_company_prefixes self.now) }

@@ -1,4 +1,4 @@
-/// The side on which a caller stands.
+/// The role of a caller.
 #[derive(Clone, Copy, Debug, PartialEq, Eq)]
 pub enum Role {
     Retailer,

@@ -13,12 +13,12 @@ pub struct SupplierRow {
     pub gln: Gln,
     /// The GS1 company prefixes under which the supplier numbers its logistic units.
     pub prefixes: CompanyPrefixes,
-    /// The key by which the supplier is known to the hub.
+    /// The key with which the supplier identifies itself to the hub.
     pub key: Key,
 }
 
 impl SupplierRow {
-    /// The same row.
+    /// Returns a copy of the row.
     pub fn copy(&self, alloc: Global) -> Result<Self, MemoryFault>
         ensures { IfOk result (λ copy. copy ≡ self.now) }
     {

@@ -1,4 +1,4 @@
--- The rows that the borrowed strings of a document are.
+-- Turns the borrowed strings of a document into rows.
 use Rattle.std.specs.Borrow.{Bor}
 use Rattle.std.specs.Prelude.{ℕ, List, map}
 use Rattle.hub_parties.specs.Rows.{RegisterRows}

@@ -1,4 +1,4 @@
--- What stands against the rows of a text.
+-- Defines the fault of the rows of a register text.
 use Rattle.std.specs.Prelude.{◌+◌, not, nat_lt, if◌then◌else◌, length, Option, Some, option_map}
 use Rattle.std.specs.List.{list_all}
 use Rattle.edi_base.specs.Seen.{has_twice}
@@ -10,8 +10,8 @@ use Rattle.hub_parties.specs.Rows.{RegisterRows, company_prefixes, glns, keys, m
 use Rattle.hub_register.specs.declared.fault.RegisterFault.{RegisterFault}
 use Rattle.hub_register.specs.declared.fault.RegisterFault.TheVariants.{Many, Gln, Twice, Prefix, Key, Overlap}
 
--- the fault of the rows: the first of these conditions that holds, wherever in the list it does. Places count from 1. The
--- prefixes of one supplier may stand in any order and begin one another.
+-- The fault of the rows: the first of these conditions that holds, anywhere in the list. Positions count from 1. The
+-- prefixes of one supplier may be in any order, and one may begin another.
 abbrev pub fault_of : RegisterRows → Option RegisterFault
 fault_of rows =
     if nat_lt most_suppliers (length rows.suppliers) then Some Many

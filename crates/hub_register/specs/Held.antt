@@ -1,4 +1,4 @@
--- How a register is held: a map from GLNs to rows.
+-- Defines how a register is stored: as a map from GLNs to rows.
 use Rattle.std.specs.Prelude.{◌≡◌, map}
 use Rattle.std.specs.BTreeMap.{keys, values}
 use Rattle.hub_parties.specs.Rows.{RegisterRows, IsRegister}
@@ -13,7 +13,7 @@ rows_of register = record {
   suppliers = values register.suppliers;
 }
 
--- each row stands at its GLN, and the rows are those of a register
+-- each row is stored under its GLN, and the rows form a register
 pub record IsHeld (register : Inside) : Type 0 where
   pub at_gln : keys register.suppliers ≡ map (λ row. row.gln) (values register.suppliers)
   pub right : IsRegister (rows_of register)

@@ -1,4 +1,4 @@
--- What a fault of a register prints.
+-- Defines the text that is printed for a fault of a register.
 use Rattle.std.specs.Prelude.{ℕ, List, ◌++◌, codes}
 use Rattle.std.specs.Fmt.{decimal}
 use Rattle.hub_register.specs.declared.fault.RegisterFault.{RegisterFault}

@@ -1,4 +1,4 @@
-//! The columns of a document's rows, each checked as a whole.
+//! Checks the columns of a document's rows, each column as a whole.
 
 ghost use Rattle.std.specs.Prelude.{◌≡◌, ◌≢◌, true, false, [], IfOk, IfErr, OnOk, map};
 ghost use Rattle.std.specs.BTreeMap.{keys, values};
@@ -35,7 +35,7 @@ fn prefix_of(text: &str) -> Result<Prefix, RegisterFault>
     Prefix::parse(text.as_bytes()).ok_or(RegisterFault::Prefix)
 }
 
-/// The key that a text writes.
+/// Returns the key that a text writes.
 pub(crate) fn key_of(text: &str) -> Result<Key, RegisterFault>
     ensures ok { IfOk result (λ key. (key ≡ text.now) × (is_party_key text.now ≡ true)) }
     ensures err { IfErr result (λ fault. (fault ≡ RegisterFault.Key) × (is_party_key text.now ≡ false)) }
@@ -43,7 +43,7 @@ pub(crate) fn key_of(text: &str) -> Result<Key, RegisterFault>
     Key::parse(text.as_bytes()).ok_or(RegisterFault::Key)
 }
 
-/// Every GLN, the hub's and the retailer's first.
+/// Returns all GLNs, the hub's and the retailer's first.
 pub(crate) fn glns(alloc: Global, document: &Document<'_>) -> Result<Vec<Gln>, RegisterFault>
     ensures ok { IfOk result (λ glns. (glns.items ≡ spec.glns (rows_from document.now))
         × (list_all is_gln (spec.glns (rows_from document.now)) ≡ true)) }
@@ -59,7 +59,7 @@ pub(crate) fn glns(alloc: Global, document: &Document<'_>) -> Result<Vec<Gln>, R
     Ok(glns)
 }
 
-/// Whether one of the GLNs stands twice.
+/// Whether some GLN occurs twice.
 pub(crate) fn has_twice(alloc: Global, glns: &[Gln]) -> Result<bool, RegisterFault>
     ensures ok { IfOk result (λ found. found ≡ twice.has_twice glns.now) }
     ensures err { IfErr result (λ fault. fault ≡ RegisterFault.Memory) }
@@ -73,7 +73,7 @@ pub(crate) fn has_twice(alloc: Global, glns: &[Gln]) -> Result<bool, RegisterFau
     Ok(false)
 }
 
-// The prefixes that texts write.
+// Returns the prefixes that texts write.
 fn prefixes_of(alloc: Global, texts: &[&str]) -> Result<Vec<Prefix>, RegisterFault>
     ensures ok { IfOk result (λ prefixes. prefixes.items ≡ texts_of texts.now) }
     ensures err { IfErr result (λ fault. fault ≢ RegisterFault.Memory →
@@ -86,7 +86,7 @@ fn prefixes_of(alloc: Global, texts: &[&str]) -> Result<Vec<Prefix>, RegisterFau
     Ok(prefixes)
 }
 
-// The prefixes of a supplier.
+// Returns the prefixes of a supplier.
 fn company_prefixes(alloc: Global, texts: &[&str]) -> Result<CompanyPrefixes, RegisterFault>
     ensures ok { IfOk result (λ held. (held ≡ by_bytes (texts_of texts.now))
         × (are_company_prefixes (by_bytes (texts_of texts.now)) ≡ true)) }
@@ -98,7 +98,7 @@ fn company_prefixes(alloc: Global, texts: &[&str]) -> Result<CompanyPrefixes, Re
     found.ok_or(RegisterFault::Prefix)
 }
 
-/// The prefixes of each supplier.
+/// Returns the prefixes of each supplier.
 pub(crate) fn prefixes(
     alloc: Global,
     entries: &[Entry<'_>],
@@ -116,7 +116,7 @@ pub(crate) fn prefixes(
     Ok(prefixes)
 }
 
-// The row of a supplier.
+// Makes the row of a supplier.
 fn row_by(
     alloc: Global,
     gln: Gln,
@@ -130,7 +130,7 @@ fn row_by(
     Ok(SupplierRow { gln, prefixes, key })
 }
 
-// Puts the row of a supplier at its GLN, where its key is one.
+// Stores the row of a supplier under its GLN, if its key is valid.
 fn put_supplier(
     alloc: Global,
     gln: Gln,
@@ -154,7 +154,7 @@ fn put_supplier(
     Ok(())
 }
 
-/// The rows of the suppliers, each with its key checked, by their GLNs.
+/// Returns the rows of the suppliers by their GLNs, after checking each one's key.
 pub(crate) fn suppliers(
     alloc: Global,
     entries: &[Entry<'_>],

@@ -1,4 +1,4 @@
-//! The strings that the text of a register holds, before they are checked.
+//! Reads the strings in the text of a register, before they are checked.
 
 ghost use Rattle.toml.specs.Data.{get_member, as_str};
 ghost use Rattle.toml.specs.View.{table_view, items_view, view};
@@ -10,7 +10,7 @@ use crate::fault::RegisterFault;
 use std::alloc::Global;
 use toml::{Table, Value};
 
-/// A supplier's table.
+/// The strings of a supplier's table.
 #[derive(Drop)]
 pub(crate) struct Entry<'a> {
     pub(crate) gln: &'a str,
@@ -18,7 +18,7 @@ pub(crate) struct Entry<'a> {
     pub(crate) key: &'a str,
 }
 
-/// What the text says.
+/// The strings of a register text.
 #[derive(Drop)]
 pub(crate) struct Document<'a> {
     pub(crate) hub: &'a str,
@@ -27,21 +27,21 @@ pub(crate) struct Document<'a> {
     pub(crate) suppliers: Vec<Entry<'a>>,
 }
 
-// The value at a key of a table.
+// Returns the value at a key of a table.
 fn value_at<'a>(table: &'a Table, key: &str) -> Option<&'a Value>
     ensures { option_map (λ value. view value.now) result ≡ get_member key.now (table_view table.now) }
 {
     table.get(key)
 }
 
-// The string at a key of a table.
+// Returns the string at a key of a table.
 fn string_at<'a>(table: &'a Table, key: &str) -> Option<&'a str>
     ensures { option_map (λ text. text.now) result ≡ spec.string_at key.now (table_view table.now) }
 {
     value_at(table, key)?.as_str()
 }
 
-// The table at a key of a table.
+// Returns the table at a key of a table.
 fn table_at<'a>(table: &'a Table, key: &str) -> Option<&'a Table>
     ensures { option_map (λ found. table_view found.now) result
         ≡ spec.table_at key.now (table_view table.now) }
@@ -49,7 +49,7 @@ fn table_at<'a>(table: &'a Table, key: &str) -> Option<&'a Table>
     value_at(table, key)?.as_table()
 }
 
-// Puts the string that a value is after others.
+// Appends a value to the texts, if it is a string.
 fn put_string<'a>(value: &'a Value, texts: &mut Vec<&'a str>) -> Result<(), RegisterFault>
     ensures ok { OnOk result (option_map (λ text. texts_of texts.old.items ++ text ∷ [])
         (as_str (view value.now)) ≡ Some (texts_of texts.new.items)) }
@@ -63,7 +63,7 @@ fn put_string<'a>(value: &'a Value, texts: &mut Vec<&'a str>) -> Result<(), Regi
     Ok(())
 }
 
-// The strings of an array.
+// Returns the strings of an array.
 fn strings_in<'a>(alloc: Global, values: &'a [Value]) -> Result<Vec<&'a str>, RegisterFault>
     ensures ok { IfOk result (λ texts.
         spec.strings_in (items_view values.now) ≡ Some (texts_of texts.items)) }
@@ -77,7 +77,6 @@ fn strings_in<'a>(alloc: Global, values: &'a [Value]) -> Result<Vec<&'a str>, Re
     Ok(texts)
 }
 
-// One string alone.
 fn one_string<'a>(alloc: Global, text: &'a str) -> Result<Vec<&'a str>, RegisterFault>
     ensures ok { IfOk result (λ texts. texts_of texts.items ≡ text.now ∷ []) }
     ensures err { IfErr result (λ fault. fault ≡ RegisterFault.Memory) }
@@ -87,7 +86,7 @@ fn one_string<'a>(alloc: Global, text: &'a str) -> Result<Vec<&'a str>, Register
     Ok(texts)
 }
 
-// The prefixes that a value says: a string is one, an array has any number of them.
+// Returns the prefixes that a value gives: a string gives one, an array any number.
 fn prefixes_from<'a>(alloc: Global, value: &'a Value) -> Result<Vec<&'a str>, RegisterFault>
     ensures ok { IfOk result (λ texts. spec.prefixes_from (view value.now) ≡ Some (texts_of texts.items)) }
     ensures err { IfErr result (λ fault. fault ≢ RegisterFault.Memory →
@@ -100,7 +99,7 @@ fn prefixes_from<'a>(alloc: Global, value: &'a Value) -> Result<Vec<&'a str>, Re
     }
 }
 
-// The prefixes at the key `prefix` of a table.
+// Returns the prefixes at the key `prefix` of a table.
 fn prefixes_in<'a>(alloc: Global, table: &'a Table) -> Result<Vec<&'a str>, RegisterFault>
     ensures ok { IfOk result (λ texts.
         spec.prefixes_at (codes "prefix") (table_view table.now) ≡ Some (texts_of texts.items)) }
@@ -113,7 +112,7 @@ fn prefixes_in<'a>(alloc: Global, table: &'a Table) -> Result<Vec<&'a str>, Regi
     prefixes_from(alloc, value)
 }
 
-// The strings of a supplier's table.
+// Reads a supplier's table.
 fn entry_in<'a>(alloc: Global, table: &'a Table) -> Result<Entry<'a>, RegisterFault>
     ensures ok { IfOk result (λ entry. spec.supplier_in (table_view table.now) ≡ Some (row_in entry)) }
     ensures err { IfErr result (λ fault. fault ≢ RegisterFault.Memory →
@@ -125,7 +124,7 @@ fn entry_in<'a>(alloc: Global, table: &'a Table) -> Result<Entry<'a>, RegisterFa
     Ok(Entry { gln, prefixes, key })
 }
 
-// Puts the strings of a supplier's table after others.
+// Appends the strings of a supplier's table.
 fn put_entry<'a>(
     alloc: Global,
     value: &'a Value,
@@ -144,7 +143,7 @@ fn put_entry<'a>(
     Ok(())
 }
 
-// The strings of the suppliers' tables.
+// Reads the suppliers' tables.
 fn entries_in<'a>(alloc: Global, values: &'a [Value]) -> Result<Vec<Entry<'a>>, RegisterFault>
     ensures ok { IfOk result (λ entries.
         spec.suppliers_in (items_view values.now) ≡ Some (map row_in entries.items)) }
@@ -158,7 +157,7 @@ fn entries_in<'a>(alloc: Global, values: &'a [Value]) -> Result<Vec<Entry<'a>>, 
     Ok(entries)
 }
 
-// The strings of all suppliers' tables. Where no key `supplier` stands there are none.
+// Reads all suppliers' tables; there are none if there is no key `supplier`.
 fn suppliers_in<'a>(alloc: Global, table: &'a Table) -> Result<Vec<Entry<'a>>, RegisterFault>
     ensures ok { IfOk result (λ entries.
         spec.suppliers_at (codes "supplier") (table_view table.now) ≡ Some (map row_in entries.items)) }
@@ -175,7 +174,7 @@ fn suppliers_in<'a>(alloc: Global, table: &'a Table) -> Result<Vec<Entry<'a>>, R
 }
 
 impl<'a> Document<'a> {
-    /// What the table of a text says.
+    /// Reads the table of a text.
     pub(crate) fn read(alloc: Global, table: &'a Table) -> Result<Document<'a>, RegisterFault>
         ensures ok { IfOk result (λ document.
             spec.rows_in (table_view table.now) ≡ Some (rows_from document)) }

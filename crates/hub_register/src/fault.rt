@@ -2,10 +2,10 @@ use std::alloc::{AllocError, AllocFailed};
 use std::error::Error;
 use std::fmt;
 
-/// Why a text is no register, in the order in which the faults are looked for.
+/// Why a text is not a register, in the order in which the faults are checked.
 #[derive(Clone, Copy, Debug, PartialEq, Eq)]
 pub enum RegisterFault {
-    /// The text is no TOML document, or an entry of the register is missing or of another kind.
+    /// The text is not a TOML document, or an entry of the register is missing or of another type.
     Text,
     /// More than 1,000 suppliers.
     Many,
@@ -17,7 +17,8 @@ pub enum RegisterFault {
     Prefix,
     /// A key is not 8 to 64 bytes of 0x21 to 0x7E.
     Key,
-    /// Two suppliers overlap: a prefix of one begins a prefix of the other. Their places among the suppliers, from 1.
+    /// Two suppliers overlap: a prefix of one begins a prefix of the other. The positions of both in the list, counted
+    /// from 1.
     Overlap(usize, usize),
     /// Out of memory.
     Memory,

@@ -1,8 +1,8 @@
-//! The register: the hub's GLN, the retailer with its key, and the suppliers, each with a GLN, one to eight company prefixes
-//! and a key.
+//! Reads, checks and keeps the register: the hub's GLN, the retailer with its key, and the suppliers, each with a GLN,
+//! one to eight company prefixes and a key.
 //!
-//! A register comes from a TOML text by `Register::from_toml`, or from rows by `Register::of_rows`. So its GLNs, prefixes
-//! and keys are always valid, no GLN stands in it twice, and no prefix of one supplier begins a prefix of another.
+//! A register is made from a TOML text by `Register::from_toml`, or from rows by `Register::of_rows`. So its GLNs,
+//! prefixes and keys are always valid, no GLN occurs twice, and no prefix of one supplier begins a prefix of another.
 #![tactic(auto)]
 
 mod columns;

@@ -30,7 +30,7 @@ use std::collections::btree_map::Values;
 use std::marker::Model;
 use toml::Table;
 
-/// The register: who may ask the hub, and by which key.
+/// The register: the parties that may send requests to the hub, and their keys.
 #[derive(Debug, Drop)]
 pub struct Register {
     hub: Gln,
@@ -51,7 +51,7 @@ impl Model for Register {
     ghost invariant = { IsHeld };
 }
 
-// The register of these parties, of which every register's facts hold.
+// Makes the register of these parties, for which all facts of a register hold.
 fn assembled(
     hub: Gln,
     retailer: Gln,
@@ -71,7 +71,7 @@ fn assembled(
     }
 }
 
-// The register of rows that can be those of one.
+// Makes the register of rows that are known to form one.
 fn held(
     alloc: Global,
     hub: Gln,
@@ -91,7 +91,7 @@ fn held(
     Ok(assembled(hub, retailer, retailer_key, suppliers))
 }
 
-// Every GLN of what a text says, the hub's and the retailer's first, where there are no more suppliers than may be.
+// Returns all GLNs of a document, the hub's and the retailer's first, if it does not have too many suppliers.
 fn glns_of(alloc: Global, document: &Document<'_>) -> Result<Vec<Gln>, RegisterFault>
     ensures few { IfOk result (λ glns.
         nat_lt most_suppliers (length (rows_from document.now).suppliers) ≡ false) }
@@ -107,7 +107,7 @@ fn glns_of(alloc: Global, document: &Document<'_>) -> Result<Vec<Gln>, RegisterF
     Ok(glns)
 }
 
-// The fault of suppliers of which a prefix of one begins one of another. Its places count from 1.
+// Returns the fault of two suppliers of which a prefix of one begins a prefix of the other. Its positions count from 1.
 fn overlap_in(suppliers: &[CompanyPrefixes]) -> Option<RegisterFault>
     ensures value { result
         ≡ option_map (λ places. Overlap (places.0 + 1) (places.1 + 1)) (first_overlap_between suppliers.now) }
@@ -119,7 +119,7 @@ fn overlap_in(suppliers: &[CompanyPrefixes]) -> Option<RegisterFault>
     }
 }
 
-// The register of what a text says.
+// Makes the register of a document.
 fn register_of_document(alloc: Global, document: &Document<'_>) -> Result<Register, RegisterFault>
     ensures ok { IfOk result (λ register. register_of_rows (Some (rows_from document.now)) ≡ Ok register) }
     ensures err { IfErr result (λ fault.
@@ -141,7 +141,7 @@ fn register_of_document(alloc: Global, document: &Document<'_>) -> Result<Regist
     Ok(assembled(glns[0], glns[1], retailer_key, suppliers))
 }
 
-// The table that a text is.
+// Reads a text as a TOML table.
 fn table_of(alloc: Global, text: &str) -> Result<Table, RegisterFault>
     ensures ok { IfOk result (λ table. parse_document text.now ≡ Some (table_view table)) }
     ensures err { IfErr result (λ fault. fault ≢ RegisterFault.Memory →
@@ -159,14 +159,15 @@ fn table_of(alloc: Global, text: &str) -> Result<Table, RegisterFault>
     }
 }
 
-// How many bytes of two texts of one length differ. All are compared, so the time does not tell where the first differs.
+// Returns how many bytes of two texts of the same length differ. It compares all bytes, so the time does not reveal
+// where the first difference is.
 fn differing(one: &[u8], other: &[u8]) -> usize
     ensures { result ≡ length (filter (λ pair. not (pair.0 == pair.1)) (zip one.now other.now)) }
 {
     one.iter().zip(other).filter(|(a, b)| a != b).count()
 }
 
-// Whether these bytes are a party's key.
+// Whether these bytes are the party's key.
 fn is_key(key: &Key, bytes: &[u8]) -> bool
     ensures { result ≡ bytes_eq key.now bytes.now }
 {
@@ -175,9 +176,10 @@ fn is_key(key: &Key, bytes: &[u8]) -> bool
 }
 
 impl Register {
-    /// The register that a TOML text writes: a string `hub`, a table `retailer` with the strings `gln` and `key`, and
-    /// any number of tables `supplier`, each with the strings `gln` and `key` and with `prefix`, a string or an array of
-    /// strings. Else the first fault of the text, in the order of `RegisterFault`, wherever in the list it stands.
+    /// Reads a register from a TOML text: a string `hub`, a table `retailer` with the strings `gln` and `key`, and any
+    /// number of tables `supplier`, each with the strings `gln` and `key` and with `prefix`, a string or an array of
+    /// strings. Otherwise returns the first fault of the text in the order of `RegisterFault`, wherever it is in the
+    /// list.
     pub fn from_toml(alloc: Global, text: &str) -> Result<Register, RegisterFault>
         ensures ok { IfOk result (λ register. register_of text.now ≡ Ok register) }
         ensures err { IfErr result (λ fault.
@@ -189,7 +191,8 @@ impl Register {
         register_of_document(alloc, &document)
     }
 
-    /// The register of these rows, the suppliers as they stand; `None` exactly where they are those of no register.
+    /// Makes the register of these rows, with the suppliers in this order; `None` exactly if they do not form a
+    /// register.
     pub fn of_rows(
         alloc: Global,
         hub: Gln,
@@ -211,7 +214,7 @@ impl Register {
         Ok(Some(register))
     }
 
-    /// The hub's GLN.
+    /// Returns the hub's GLN.
     pub fn hub(&self) -> &Gln
         ensures value { result.now ≡ self.now.hub }
         ensures register { IsRegister self.now }
@@ -219,7 +222,7 @@ impl Register {
         &self.hub
     }
 
-    /// The retailer's GLN.
+    /// Returns the retailer's GLN.
     pub fn retailer(&self) -> &Gln
         ensures value { result.now ≡ self.now.retailer }
         ensures register { IsRegister self.now }
@@ -227,7 +230,7 @@ impl Register {
         &self.retailer
     }
 
-    /// The retailer's key.
+    /// Returns the retailer's key.
     pub fn retailer_key(&self) -> &Key
         ensures value { result.now ≡ self.now.retailer_key }
         ensures register { IsRegister self.now }
@@ -235,7 +238,7 @@ impl Register {
         &self.retailer_key
     }
 
-    /// How many suppliers there are, at most 1,000.
+    /// Returns how many suppliers there are, at most 1,000.
     pub fn supplier_count(&self) -> usize
         ensures value { result ≡ length self.now.suppliers }
         ensures register { IsRegister self.now }
@@ -243,7 +246,7 @@ impl Register {
         self.suppliers.len()
     }
 
-    /// The row of the supplier with this GLN.
+    /// Returns the row of the supplier with this GLN.
     pub fn supplier(&self, gln: &Gln) -> Option<&SupplierRow>
         ensures value { option_copied result ≡ row_of self.now gln.now }
         ensures register { IsRegister self.now }
@@ -251,7 +254,7 @@ impl Register {
         self.suppliers.get(gln)
     }
 
-    /// The rows of the suppliers, by their GLNs.
+    /// Returns the rows of the suppliers, sorted by GLN.
     pub fn suppliers(&self) -> Values<'_, Gln, SupplierRow>
         ensures value { result ≡ self.now.suppliers }
         ensures register { IsRegister self.now }
@@ -273,7 +276,7 @@ impl Register {
         self.supplier(gln).is_some()
     }
 
-    /// Whether one of these prefixes begins a prefix of a supplier, or is begun by it.
+    /// Whether one of these prefixes begins a prefix of a supplier, or begins with one.
     pub fn overlaps(&self, prefixes: &CompanyPrefixes) -> bool
         ensures { result ≡ list_any (λ other. overlap_some prefixes.now other.prefixes) self.now.suppliers }
     {
@@ -283,14 +286,14 @@ impl Register {
         ))
     }
 
-    /// Whether there are as many suppliers as may be.
+    /// Whether the register already has the most suppliers allowed.
     pub fn is_full(&self) -> bool
         ensures { result ≡ nat_le most_suppliers (length self.now.suppliers) }
     {
         MOST_SUPPLIERS <= self.suppliers.len()
     }
 
-    /// Takes a supplier in. Where memory is refused, the register stays as it is.
+    /// Adds a supplier. If memory is refused, the register stays as it is.
     pub fn join(&mut self, row: SupplierRow) -> Result<(), MemoryFault>
         requires { IsRegister (joined_by row self.old) }
         ensures ok { OnOk result (self.new ≡ joined_by row self.old) }
@@ -300,7 +303,7 @@ impl Register {
         Ok(())
     }
 
-    /// Lets the supplier with a GLN go, as if it had never joined. Takes no memory.
+    /// Removes the supplier with this GLN, as if it had never joined, without allocating memory.
     pub fn leave(&mut self, gln: &Gln)
         requires { IsRegister (left_by gln.now self.old) }
         ensures { self.new ≡ left_by gln.now self.old }
@@ -308,8 +311,8 @@ impl Register {
         self.suppliers.remove(gln);
     }
 
-    /// The side of a caller: the retailer's or a supplier's GLN, with that party's own key. `None` where the two do
-    /// not stand together in the register.
+    /// Returns the role of a caller from its GLN and its key, which must belong to the same party. `None` if the
+    /// register does not have the two together.
     pub fn may(&self, gln: &Gln, key: &[u8]) -> Option<Role>
         ensures value { result ≡ role_of self.now gln.now key.now }
         ensures register { IsRegister self.now }
@@ -327,12 +330,12 @@ impl Register {
     }
 }
 
-/// The register of a text has the rows that the text says, each once, and nothing stands against them.
+/// The register of a text has each row of the text once, and these rows have no fault.
 pub fn register_has_its_rows()
     ensures { RegisterHasItsRows }
 {}
 
-/// In the register of a text no prefix of one supplier begins a prefix of another.
+/// In the register of a text, no prefix of one supplier begins a prefix of another.
 pub fn register_of_text_is_prefix_free()
     ensures { RegisterOfTextIsPrefixFree }
 {}

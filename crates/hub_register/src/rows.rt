@@ -1,4 +1,4 @@
-//! Rows that may be those of a register.
+//! Decides whether rows form a register.
 
 ghost use Rattle.std.specs.Prelude.{◌≡◌, true, [], IfOk, IsTrue, OnOk, map};
 ghost use Rattle.std.specs.BTreeMap.{keys, values};
@@ -14,31 +14,31 @@ use hub_parties::SupplierRow;
 use std::alloc::Global;
 use std::collections::BTreeMap;
 
-/// How many suppliers there may be.
+/// The most suppliers that a register may have.
 pub(crate) const MOST_SUPPLIERS: usize = 1000;
 
-// Whether the GLN of a supplier is below another's.
+// Whether a supplier's GLN is lower than another's.
 fn is_below(row: &SupplierRow, other: &SupplierRow) -> bool
     ensures { result ≡ is_lt (bytes_cmp row.now.gln other.now.gln) }
 {
     row.gln < other.gln
 }
 
-// Whether a supplier can stand before another.
+// Whether a supplier may come before another.
 fn goes_before(row: &SupplierRow, other: &SupplierRow) -> bool
     ensures { result ≡ spec.goes_before row.now other.now }
 {
     is_below(row, other) && !overlap_some(row.prefixes.as_slice(), other.prefixes.as_slice())
 }
 
-// Whether a supplier can stand before all these.
+// Whether a supplier may come before all of these.
 fn goes_before_all(row: &SupplierRow, later: &[SupplierRow]) -> bool
     ensures { result ≡ list_all (spec.goes_before row.now) later.now }
 {
     later.iter().all(|other| goes_before(row, other))
 }
 
-// Whether each supplier can stand before all after it.
+// Whether each supplier may come before all after it.
 fn are_in_order(rows: &[SupplierRow]) -> bool
     ensures { result ≡ spec.are_in_order rows.now }
 {
@@ -50,7 +50,7 @@ fn are_in_order(rows: &[SupplierRow]) -> bool
     true
 }
 
-// Whether the GLN of each supplier is below the next one's.
+// Whether each supplier's GLN is lower than the next one's.
 fn glns_rise(rows: &[SupplierRow]) -> bool
     ensures { IsTrue result → Rises bytes_cmp (map (λ row. row.gln) rows.now) }
 {
@@ -62,7 +62,7 @@ fn glns_rise(rows: &[SupplierRow]) -> bool
     true
 }
 
-// The prefixes of all suppliers.
+// Returns the prefixes of all suppliers.
 fn all_prefixes(alloc: Global, rows: &[SupplierRow]) -> Result<Vec<Prefix>, MemoryFault>
     ensures { IfOk result (λ prefixes. prefixes.items ≡ flat_map (λ row. row.prefixes) rows.now) }
 {
@@ -73,8 +73,8 @@ fn all_prefixes(alloc: Global, rows: &[SupplierRow]) -> Result<Vec<Prefix>, Memo
     Ok(prefixes)
 }
 
-// Whether the GLNs rise and no two prefixes overlap, not even two of one supplier. Then each supplier can stand before all
-// after it, and no two suppliers have to be compared, which for a thousand of them takes long.
+// Whether the GLNs rise and no two prefixes overlap, not even two of the same supplier. If so, each supplier may come
+// before all after it, without comparing every two suppliers, which takes long for a thousand of them.
 fn rise_without_overlap(alloc: Global, rows: &[SupplierRow]) -> Result<bool, MemoryFault>
     ensures { IfOk result (λ rise. IsTrue rise → spec.are_in_order rows.now ≡ true) }
 {
@@ -99,14 +99,14 @@ fn are_all_other(hub: &Gln, retailer: &Gln, rows: &[SupplierRow]) -> bool
     rows.iter().all(|row| is_other(hub, retailer, row))
 }
 
-// Whether the hub and the retailer are two, and no supplier is one of them.
+// Whether the hub and the retailer differ, and no supplier is one of them.
 fn are_others(hub: &Gln, retailer: &Gln, rows: &[SupplierRow]) -> bool
     ensures { result ≡ spec.are_others hub.now retailer.now rows.now }
 {
     hub != retailer && are_all_other(hub, retailer, rows)
 }
 
-/// Whether these can be the suppliers of a register with this hub and this retailer, in their order.
+/// Whether these can be the suppliers of a register with this hub and this retailer, in this order.
 pub(crate) fn keep_all(
     alloc: Global,
     hub: &Gln,
@@ -121,7 +121,7 @@ pub(crate) fn keep_all(
     Ok(rise_without_overlap(alloc, rows)? || are_in_order(rows))
 }
 
-// Puts the row of a supplier at its GLN.
+// Stores the row of a supplier under its GLN.
 fn put_row(row: SupplierRow, suppliers: &mut BTreeMap<Gln, SupplierRow>) -> Result<(), MemoryFault>
     requires { keys suppliers.old ≡ map (λ row. row.gln) (values suppliers.old) }
     ensures rows { OnOk result (values suppliers.new ≡ put row (values suppliers.old)) }
@@ -136,7 +136,7 @@ fn put_row(row: SupplierRow, suppliers: &mut BTreeMap<Gln, SupplierRow>) -> Resu
     Ok(())
 }
 
-/// The rows by their GLNs.
+/// Returns the rows by their GLNs.
 pub(crate) fn by_gln(
     alloc: Global,
     rows: Vec<SupplierRow>,

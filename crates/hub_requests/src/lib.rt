@@ -1,4 +1,4 @@
-//! What a hub is asked, and what it answers.
+//! Defines the requests to a hub and its replies.
 #![tactic(auto)]
 
 mod reply;

@@ -1,45 +1,45 @@
-//! What is asked of a hub.
+//! Defines the requests to a hub.
 use edi_base::Items;
 use edi_moment::Moment;
 use gs1_ids::Gln;
 use hub_rules::{Cancel, Join};
 use std::fmt;
 
-/// What a supplier or the retailer asks.
+/// A request of a supplier or of the retailer.
 #[derive(Debug, Drop)]
 pub enum Request {
-    /// To take the messages of an interchange, given by its bytes. Either asks it.
+    /// Accept the messages of an interchange, given as bytes. For suppliers and the retailer.
     Upload(Items<u8>),
-    /// To list the entries of its mailbox above a number that are not taken. A supplier asks it.
+    /// List the entries of the supplier's mailbox that are above a number and not taken. For suppliers.
     MailAfter(u64),
-    /// To give the mailbox entry of a number. A supplier asks it.
+    /// Return the mailbox entry with a number. For suppliers.
     MailItem(u64),
-    /// To mark the mailbox entry of a number as taken. A supplier asks it.
+    /// Mark the mailbox entry with a number as taken. For suppliers.
     MailTaken(u64),
-    /// To report its lines and pallets. A supplier asks it.
+    /// Report the supplier's lines and pallets. For suppliers.
     Status,
-    /// To report the lines and pallets of a supplier. The retailer asks it.
+    /// Report the lines and pallets of a supplier. For the retailer.
     StatusOf(Gln),
-    /// To cancel a quantity of a line. The retailer asks it.
+    /// Cancel a quantity of an order line. For the retailer.
     Cancel(Cancel),
-    /// To let a supplier in. The retailer asks it.
+    /// Register a supplier. For the retailer.
     Join(Join),
 }
 
-/// A request, with who asks it and when. `Debug` does not show the key.
+/// A request, with its caller and its moment. `Debug` does not show the key.
 #[derive(Drop)]
 pub struct Input {
-    /// When it is asked.
+    /// When the request arrived.
     pub moment: Moment,
-    /// Who asks it.
+    /// The GLN of the caller.
     pub caller: Gln,
-    /// The key with which it is asked.
+    /// The key that the caller gave.
     pub key: Items<u8>,
-    /// What is asked.
+    /// The request itself.
     pub request: Request,
 }
 
-// What `Debug` shows of a key.
+// Stands for a key in the output of `Debug`.
 struct UnshownKey;
 
 impl fmt::Debug for UnshownKey {

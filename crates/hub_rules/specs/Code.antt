@@ -1,4 +1,4 @@
--- What is printed for each rule.
+-- Defines the code that is printed for each rule.
 use Rattle.std.specs.Prelude.{ℕ, List, codes}
 use Rattle.hub_rules.specs.declared.code.Code.{Code}
 use Rattle.hub_rules.specs.declared.code.Code.TheVariants.{Buyer, Supplier, OtherContent, OrderKnown, NoOrder, NoLine}

@@ -1,4 +1,4 @@
--- The rules of DESADV (B05, B06, B09 to B13).
+-- Defines the rules of DESADV (B05, B06, B09 to B13).
 use Rattle.std.specs.Prelude.{ℕ, ◌+◌, ◌-◌, nat_lt, Bool, ◌||◌, not, List, [], ◌∷◌}
 use Rattle.gs1_ids.specs.Sscc.{under_some}
 use Rattle.edi_documents.specs.EdiGoods.declared.despatch.Despatch.{Despatch}
@@ -16,12 +16,12 @@ use Rattle.hub_rules.specs.declared.code.Code.TheVariants.{NoOrder, NoLine, Othe
 use Rattle.hub_rules.specs.declared.code.Code.TheVariants.{SsccUsed, AdviceKnown}
 use Rattle.hub_rules.specs.declared.verdict.Verdict.TheVariants.{Accept}
 
--- the lines of a unit with their places on it, which go on from a number
+-- the lines of a unit, each with its place on the unit; the places follow `n`
 abbrev pub placed : ℕ → List DespatchLine → List (ℕ × DespatchLine)
 placed n [] = []
 placed n (line ∷ lines) = (n + 1, line) ∷ placed (n + 1) lines
 
--- B05, B06, B09, B10 at a line; then its quantity moves from open to a content of the pallet
+-- a line: B05, B06, B09, B10; if all pass, its quantity moves from open to a content of the pallet
 abbrev pub judge_despatched : List ℕ → ℕ × DespatchLine → Judge
 judge_despatched sscc (place, said) state =
     refuse_if (not (knows_order state said.order)) NoOrder (
@@ -39,7 +39,8 @@ judge_despatched sscc (place, said) state =
     })
     ∷ [])))))
 
--- B11, B12 at a unit; then the pallet, and its lines. An SSCC is used where the hub has it, or an earlier unit.
+-- a unit: B11, B12; then the pallet and its lines. An SSCC is used if the hub has it already, or an earlier unit has
+-- it.
 abbrev pub judge_unit : SupplierRow → (List ℕ → Bool) → List ℕ → Unit → Judge
 judge_unit s used advice unit state =
     refuse_if (not (under_some unit.sscc s.prefixes)) OtherPrefix (
@@ -52,7 +53,7 @@ judge_unit s used advice unit state =
     }) ∷ []))
     (in_order (judge_despatched unit.sscc) (placed 0 unit.lines)) state))
 
--- B13; then the advice, and its units
+-- B13; then the advice and its units
 abbrev pub judge_new_despatch : SupplierRow → (List ℕ → Bool) → Despatch → Judge
 judge_new_despatch s used despatch state =
     refuse_if (knows_advice state despatch.number) AdviceKnown (

@@ -1,4 +1,4 @@
--- The rules of joins (B18, B19, B20), and what a join is.
+-- Defines what a join is, and the rules of joins (B18, B19, B20).
 use Rattle.std.specs.Prelude.{ℕ, Bool, true, false, ◌&&◌, nat_le, List, length, if◌then◌else◌, Option, None, option_map}
 use Rattle.std.specs.List.{list_any}
 use Rattle.gs1_ids.specs.Gln.{is_gln}
@@ -14,26 +14,26 @@ use Rattle.hub_rules.specs.declared.code.Code.TheVariants.{GlnKnown, PrefixOverl
 use Rattle.hub_rules.specs.declared.verdict.Verdict.{Verdict}
 use Rattle.hub_rules.specs.declared.verdict.Verdict.TheVariants.{Accept, Refuse}
 
--- the row of a supplier that may join: a right GLN, one to eight prefixes, and a right key
+-- whether a supplier with this row may join: its GLN and its key are valid, and it has one to eight valid prefixes
 abbrev pub is_join : SupplierRow → Bool
 is_join row = is_gln row.gln && (are_company_prefixes row.prefixes && is_party_key row.key)
 
--- the join that a GLN, a key and prefixes are, in whatever order these stand
+-- the join with this GLN, this key and these prefixes, which may be in any order
 abbrev pub join_of : List ℕ → List ℕ → List (List ℕ) → Option SupplierRow
 join_of gln key prefixes =
     if is_party_key key
     then option_map (λ prefixes. record { gln = gln; prefixes = prefixes; key = key }) (company_prefixes_of prefixes)
     else None
 
--- the GLN is the hub's, the retailer's or a supplier's
+-- whether the GLN is already the hub's, the retailer's or a supplier's
 abbrev pub is_known : RegisterRows → List ℕ → Bool
 is_known register gln = list_any (same gln) (glns register)
 
--- one of the prefixes begins a supplier's, or is begun by it
+-- whether one of the prefixes begins with another supplier's prefix, or the other way round
 abbrev pub overlap_others : RegisterRows → List (List ℕ) → Bool
 overlap_others register prefixes = list_any (λ other. overlap_some prefixes other.prefixes) register.suppliers
 
--- as many suppliers are registered as may be
+-- whether no further supplier can be registered
 abbrev pub is_full : RegisterRows → Bool
 is_full register = nat_le most_suppliers (length register.suppliers)
 
@@ -49,6 +49,6 @@ abbrev pub is_accepted : Verdict → Bool
 is_accepted (Accept changes) = true
 is_accepted (Refuse code) = false
 
--- the register takes the supplier
+-- whether the register accepts the supplier
 abbrev pub joins : RegisterRows → SupplierRow → Bool
 joins register row = is_join row && is_accepted (judge_join register row)

@@ -1,5 +1,5 @@
--- How rules are put together. A judge looks at a state and accepts with changes, or refuses with the first rule that
--- does not hold; checks stand one under another in the order in which they are asked.
+-- Defines how rules are combined. A judge looks at a state and either accepts with changes or refuses with the code of
+-- the first rule that fails; nested checks run in the order in which they are written.
 use Rattle.std.specs.Prelude.{Bool, true, false, List, [], ◌∷◌, ◌++◌, Option, Some, None}
 use Rattle.hub_tables.specs.Change.{apply_all}
 use Rattle.hub_tables.specs.Tables.{Tables}
@@ -14,12 +14,12 @@ Judge = Tables → Verdict
 abbrev pub gives : List Change → Judge
 gives changes state = Accept changes
 
--- refused where the test holds, else what follows
+-- refuses if the test holds, else goes on with the rest
 abbrev pub refuse_if : Bool → Code → Verdict → Verdict
 refuse_if true code rest = Refuse code
 refuse_if false code rest = rest
 
--- refused where there is none, else what follows with it
+-- refuses if there is no value, else goes on with it
 abbrev pub given : {X : Type 0} → Option X → Code → (X → Verdict) → Verdict
 given None code rest = Refuse code
 given (Some x) code rest = rest x
@@ -32,11 +32,11 @@ abbrev pub goes_on : Verdict → Judge → Judge
 goes_on (Refuse code) second state = Refuse code
 goes_on (Accept first) second state = joined first (second (apply_all first state))
 
--- the second is judged on what the first left
+-- the second judge sees the state that the first one left
 abbrev pub in_turn : Judge → Judge → Judge
 in_turn first second state = goes_on (first state) second state
 
--- each is judged on what the earlier ones left
+-- each judge sees the state that the earlier ones left
 abbrev pub in_order : {X : Type 0} → (X → Judge) → List X → Judge
 in_order judge [] = gives []
 in_order judge (x ∷ xs) = in_turn (judge x) (in_order judge xs)

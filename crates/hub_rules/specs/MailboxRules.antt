@@ -1,4 +1,4 @@
--- Entries of a mailbox, and the rule on their number (B16).
+-- Defines the entries of a mailbox, and the rule that limits their number (B16).
 use Rattle.std.specs.Prelude.{ℕ, ◌+◌, nat_lt, Bool, false, List}
 use Rattle.hub_tables.specs.EdiEnvelope.Mail.{last_number}
 use Rattle.hub_tables.specs.Cases.{kind_letter, truth_number}
@@ -9,11 +9,11 @@ use Rattle.hub_tables.specs.declared.change.Change.{Change}
 use Rattle.hub_tables.specs.declared.change.Change.TheVariants.{AddMail}
 use Rattle.hub_rules.specs.declared.incoming.IncomingMessage.{IncomingMessage}
 
--- a mailbox with so many entries has no number left for one more
+-- whether a mailbox with this many entries has no number left for another
 abbrev pub is_full : ℕ → Bool
 is_full mails = nat_lt last_number (mails + 1)
 
--- an entry with a number
+-- the entry with this number
 abbrev pub mail_entry : List ℕ → ℕ → IncomingMessage → MailKind → List ℕ → List ℕ → Change
 mail_entry supplier number incoming kind document body = AddMail (record {
   supplier = supplier;

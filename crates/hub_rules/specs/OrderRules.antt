@@ -1,4 +1,4 @@
--- The rules of ORDERS (B04, and B16 of MailboxRules).
+-- Defines the rules of ORDERS (B04, and B16 of MailboxRules).
 use Rattle.std.specs.Prelude.{ℕ, List, ◌∷◌, length, map}
 use Rattle.edi_documents.specs.EdiOrders.declared.order.Order.{Order}
 use Rattle.edi_documents.specs.EdiOrders.declared.order.OrderLine.{OrderLine}
@@ -14,7 +14,7 @@ use Rattle.hub_rules.specs.declared.code.Code.TheVariants.{OrderKnown, MailboxFu
 use Rattle.hub_rules.specs.declared.incoming.IncomingMessage.{IncomingMessage}
 use Rattle.hub_rules.specs.declared.verdict.Verdict.TheVariants.{Accept}
 
--- a line of an order: all of it is open, and it waits
+-- a new order line: all of its quantity is open, and it waits for an answer
 abbrev pub new_line : List ℕ → List ℕ → OrderLine → Change
 new_line supplier number line = AddLine (record {
   supplier = supplier;

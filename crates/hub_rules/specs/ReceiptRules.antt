@@ -17,16 +17,16 @@ use Rattle.hub_rules.specs.declared.code.Code.TheVariants.{NoPallet, PalletRecei
 use Rattle.hub_rules.specs.declared.incoming.IncomingMessage.{IncomingMessage}
 use Rattle.hub_rules.specs.declared.verdict.Verdict.TheVariants.{Accept}
 
--- the articles of lines, each once, in the order in which they first come
+-- the articles of the lines, each once, in the order in which they first appear
 abbrev pub gtins : List ReceiptLine → List (List ℕ)
 gtins [] = []
 gtins (line ∷ lines) = line.gtin ∷ filter (λ gtin. not (same gtin line.gtin)) (gtins lines)
 
--- the sum of one kind of quantity over the lines of an article
+-- the total of one quantity over the lines of an article
 abbrev pub total : (ReceiptLine → ℕ) → List ℕ → List ReceiptLine → ℕ
 total kind gtin lines = sum_by kind (filter (λ line. same line.gtin gtin) lines)
 
--- what is received of an article on a pallet
+-- the receipt of one article on a pallet
 abbrev pub new_receipt : List ℕ → List ReceiptLine → List ℕ → Change
 new_receipt sscc lines gtin = AddReceipt (record {
   sscc = sscc;
@@ -36,7 +36,7 @@ new_receipt sscc lines gtin = AddReceipt (record {
   destroyed = total (λ line. line.destroyed) gtin lines;
 })
 
--- what becomes of a pallet: an advice that replaces takes the place of all that was received of it
+-- what happens to a pallet: an advice that replaces deletes the pallet's earlier receipts
 abbrev pub arrival_by : Bool → Arrival
 arrival_by true = Replaced
 arrival_by false = Received
@@ -45,7 +45,7 @@ abbrev pub cleared : Bool → List ℕ → List Change
 cleared true sscc = ClearReceipts sscc ∷ []
 cleared false sscc = []
 
--- B14, and B15 unless it replaces, at a unit; then the pallet is received, with the sums of each article
+-- a unit: B14, and B15 unless the advice replaces; then the pallet is received, with the totals of each article
 abbrev pub judge_received : Bool → ReceiptUnit → Judge
 judge_received replaces unit state =
     given (pallet_of state unit.sscc) NoPallet (λ pallet.
@@ -53,7 +53,7 @@ judge_received replaces unit state =
     Accept (SetPallet (record pallet { received = arrival_number (arrival_by replaces) })
     ∷ cleared replaces unit.sscc ++ map (new_receipt unit.sscc unit.lines) (gtins unit.lines))))
 
--- B16; then the mailbox entry, and the units
+-- B16; then the mailbox entry and the units
 abbrev pub judge_new_receipt : List ℕ → IncomingMessage → List ℕ → Receipt → Judge
 judge_new_receipt supplier incoming body receipt state =
     refuse_if (is_full (length state.mail)) MailboxFull (

@@ -1,5 +1,5 @@
--- The rule on what comes again (B03): what comes once more under its references is repeated, and other content under
--- them is refused.
+-- Defines the rule for repeated messages (B03): the same content under the same references is accepted again without
+-- changes, and other content under them is refused.
 use Rattle.std.specs.Prelude.{ℕ, List, [], ◌∷◌, Option, Some, None, if◌then◌else◌}
 use Rattle.hub_tables.specs.Cases.{side_letter}
 use Rattle.hub_tables.specs.Rows.{same}
@@ -12,7 +12,7 @@ use Rattle.hub_rules.specs.declared.code.Code.TheVariants.{OtherContent}
 use Rattle.hub_rules.specs.declared.verdict.Verdict.{Verdict}
 use Rattle.hub_rules.specs.declared.verdict.Verdict.TheVariants.{Accept, Refuse}
 
--- what a message or a cancellation of a supplier is remembered by
+-- the reference under which a message or a cancellation of a supplier is remembered
 pub record Reference : Type 0 where
   pub supplier : List ℕ
   pub side : Side
@@ -29,12 +29,12 @@ remembered r content =
       content = content;
     }
 
--- repeated, or B03, where something is remembered; else what follows
+-- if something is remembered, a repetition or B03; else goes on with the checks
 abbrev pub once : Option RememberedRow → List ℕ → Verdict → Verdict
 once None content fresh = fresh
 once (Some row) content fresh = if same row.content content then Accept [] else Refuse OtherContent
 
--- the checks that follow B03, and then it is remembered
+-- B03; then the message is remembered, and the other checks follow
 abbrev pub judge_once : Reference → List ℕ → Judge → Judge
 judge_once r content fresh state =
     once (remembered_of state r.side r.control r.message) content

@@ -1,4 +1,4 @@
--- The rules of ORDRSP (B05 to B09).
+-- Defines the rules of ORDRSP (B05 to B09).
 use Rattle.std.specs.Prelude.{ℕ, ◌+◌, ◌-◌, nat_lt, Bool, true, false, ◌||◌, not, List, [], ◌∷◌, map, filter}
 use Rattle.edi_documents.specs.EdiOrders.declared.response.Answer.{Answer}
 use Rattle.edi_documents.specs.EdiOrders.declared.response.Answer.TheVariants.{AllAccepted, AllRefused, Lines}
@@ -17,8 +17,8 @@ use Rattle.hub_rules.specs.Judging.{Judge, refuse_if, given, in_order}
 use Rattle.hub_rules.specs.declared.code.Code.TheVariants.{NoOrder, NoLine, NotWaiting, OutOfRange, OtherArticle}
 use Rattle.hub_rules.specs.declared.verdict.Verdict.TheVariants.{Accept}
 
--- a line of which so much is despatched, after its answer. Refused: what was open. Changed to a quantity: open is
--- that less what is despatched, and what open lost is refused.
+-- The line after its answer, if `sent` of it is despatched. `Refused` refuses all that was open. `Changed` sets open to
+-- the new quantity less what is despatched, and refuses the rest of what was open.
 abbrev pub answered : LineAnswer → ℕ → LineRow → LineRow
 answered Accepted sent line = record line { answer = answer_letter answers.Accepted }
 answered Refused sent line =
@@ -29,13 +29,13 @@ answered (Changed quantity) sent line = record line {
   answer = answer_letter answers.Changed;
 }
 
--- a changed quantity is below what is despatched, or above that and what is open
+-- whether a changed quantity is below what is despatched, or above what is despatched and open together
 abbrev pub is_out_of_range : LineAnswer → ℕ → LineRow → Bool
 is_out_of_range Accepted sent line = false
 is_out_of_range Refused sent line = false
 is_out_of_range (Changed quantity) sent line = nat_lt quantity sent || nat_lt (sent + line.open_qty) quantity
 
--- B06, B07, B08, B09 at a line
+-- a line: B06, B07, B08, B09
 abbrev pub judge_answer : List ℕ → AnswerLine → Judge
 judge_answer order said state =
     given (line_of state order said.order_line said.gtin) NoLine (λ line.
@@ -44,7 +44,7 @@ judge_answer order said state =
     refuse_if (not (same line.gtin said.gtin)) OtherArticle (
     Accept (SetLine (answered said.answer (despatched state line) line) ∷ [])))))
 
--- the lines of an order that wait
+-- the lines of an order that still wait for an answer
 abbrev pub waiting : Tables → List ℕ → List LineRow
 waiting state order = filter waits (lines_of state order)
 
@@ -52,7 +52,7 @@ abbrev pub is_empty : {X : Type 0} → List X → Bool
 is_empty [] = true
 is_empty (x ∷ xs) = false
 
--- B07; then the same answer to every line that waits
+-- B07; then the same answer for every line that waits
 abbrev pub judge_all : LineAnswer → List ℕ → Judge
 judge_all answer order state =
     refuse_if (is_empty (waiting state order)) NotWaiting (

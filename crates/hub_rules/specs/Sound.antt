@@ -1,4 +1,4 @@
--- What the tables of a hub are, and stay. First the rows of one supplier, then those of all.
+-- Defines when the tables of a hub are sound, first for the rows of one supplier, then for all rows.
 use Rattle.std.specs.Prelude.{◌≡◌, ℕ, ◌+◌, ◌==◌, Bool, true, false, not, ◌&&◌, List, [], ◌∷◌, filter, Some, ⊤}
 use Rattle.std.specs.List.{AllByRecursion, list_any}
 use Rattle.gs1_ids.specs.Sscc.{under_some}
@@ -16,16 +16,16 @@ use Rattle.hub_tables.specs.declared.rows.ReceiptRow.{ReceiptRow}
 use Rattle.hub_tables.specs.declared.rows.RememberedRow.{RememberedRow}
 use Rattle.hub_tables.specs.declared.rows.MailRow.{MailRow}
 
--- the line sum: ordered is open, refused, cancelled and despatched together
+-- the line balance: the ordered quantity is what is open, refused, cancelled and despatched together
 abbrev pub Balanced : Tables → LineRow → Type 0
 Balanced state line = line.ordered ≡ line.open_qty + line.refused + line.cancelled + despatched state line
 
--- no two rows are alike
+-- no two rows have the same key
 abbrev pub Single : {X : Type 0} → (X → X → Bool) → List X → Type 0
 Single alike [] = ⊤
 Single alike (x ∷ xs) = (list_any (alike x) xs ≡ false) × Single alike xs
 
--- Rows of one supplier have one key, and contents and receipts of one pallet.
+-- When two rows of one supplier have the same key; contents and receipts are compared within one pallet.
 abbrev pub same_order : OrderRow → OrderRow → Bool
 same_order a b = same a.number b.number
 
@@ -50,16 +50,16 @@ same_reference a b = (a.side == b.side) && (same a.control b.control && same a.m
 abbrev pub knows_line : Tables → List ℕ → ℕ → Bool
 knows_line state number n = list_any (λ line. same line.number number && (line.line == n)) state.lines
 
--- a pallet with the SSCC was received
+-- whether a pallet with this SSCC was received
 abbrev pub was_received : Tables → List ℕ → Bool
 was_received state sscc = list_any (λ pallet. same pallet.sscc sscc && not (is_announced pallet)) state.pallets
 
--- the numbers of mailbox entries go on from n
+-- the mailbox entries are numbered without gaps, from `n` + 1 on
 abbrev pub Numbered : ℕ → List MailRow → Type 0
 Numbered n [] = ⊤
 Numbered n (entry ∷ entries) = (entry.number ≡ n + 1) × Numbered (n + 1) entries
 
--- each row is that of the supplier with a GLN, and each content and receipt is on a pallet that is
+-- each row belongs to the supplier with this GLN, and each content and receipt to one of these pallets
 pub record IsOwn (gln : List ℕ) (state : Tables) : Type 0 where
   pub ordered : Ordered state
   pub hubs : state.hubs ≡ []
@@ -74,8 +74,8 @@ pub record IsOwn (gln : List ℕ) (state : Tables) : Type 0 where
   pub remembered : AllByRecursion (λ row. row.supplier ≡ gln) state.remembered
   pub mail : AllByRecursion (λ entry. entry.supplier ≡ gln) state.mail
 
--- keys are single; lines have their order, contents their line, receipts a pallet that was received; entries are
--- numbered from 1; and every line is balanced
+-- No key occurs twice; each line has its order, each content its line, and each receipt a pallet that was received;
+-- mailbox entries are numbered from 1; and every line is balanced.
 pub record Kept (state : Tables) : Type 0 where
   pub orders : Single same_order state.orders
   pub lines : Single same_line_number state.lines
@@ -90,21 +90,21 @@ pub record Kept (state : Tables) : Type 0 where
   pub receipt_pallets : AllByRecursion (λ receipt. was_received state receipt.sscc ≡ true) state.receipts
   pub balanced : AllByRecursion (Balanced state) state.lines
 
--- a pallet's supplier is known, and its SSCC is under a prefix of that supplier
+-- a pallet's supplier is known, and its SSCC is under one of that supplier's prefixes
 pub record IsRooted (suppliers : List SupplierRow) (pallet : PalletRow) : Type 0 where
   pub supplier : SupplierRow
   pub known : supplier_row suppliers pallet.supplier ≡ Some supplier
   pub is_under : under_some pallet.sscc supplier.prefixes ≡ true
 
--- rows are in key order, each pallet is its supplier's, and each content and receipt has its pallet
+-- rows are in key order, each pallet is rooted, and each content and receipt has its pallet
 pub record Rooted (suppliers : List SupplierRow) (t : Tables) : Type 0 where
   pub ordered : Ordered t
   pub pallets : AllByRecursion (IsRooted suppliers) t.pallets
   pub contents : AllByRecursion (λ content. has_pallet t content.sscc ≡ true) t.contents
   pub receipts : AllByRecursion (λ receipt. has_pallet t receipt.sscc ≡ true) t.receipts
 
--- rows are in key order, each pallet is a registered supplier's and its SSCC under that supplier's prefixes, contents
--- and receipts have their pallet; and what each supplier sees is sound by itself
+-- Rows are in key order, each pallet's supplier is registered and has a prefix for its SSCC, each content and receipt
+-- has its pallet, and what each supplier sees is sound by itself.
 pub record Sound (suppliers : List SupplierRow) (t : Tables) : Type 0 where
   pub rooted : Rooted suppliers t
   pub kept : (gln : List ℕ) → Kept (view gln t)

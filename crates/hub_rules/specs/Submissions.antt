@@ -1,4 +1,5 @@
--- What is submitted to the rules: a message that was read, or a cancellation. Each is judged by the rules of its kind.
+-- Defines what the rules are applied to: a message that was read, or a cancellation, each checked by the rules of its
+-- kind.
 use Rattle.std.specs.Prelude.{◌≡◌, ⊤, ℕ, Bool, false, List, map, Option, Some}
 use Rattle.edi_base.specs.Seen.{has_number_twice}
 use Rattle.edi_documents.specs.declared.document.Document.{Document}
@@ -14,15 +15,15 @@ use Rattle.hub_rules.specs.Rules.{judge_receipt, judge_cancel}
 use Rattle.hub_rules.specs.declared.cancel.Cancel.{Cancel}
 use Rattle.hub_rules.specs.declared.incoming.IncomingMessage.{IncomingMessage}
 
--- what the rules ask beside a document: the retailer's GLN, which SSCCs are used, what came with the message, and the
--- body of its mailbox entry
+-- what the rules need beside a document: the retailer's GLN, which SSCCs are used, the references and the moment of the
+-- message, and the text of its mailbox entry
 pub record Beside : Type 0 where
   pub retailer : List ℕ
   pub used : List ℕ → Bool
   pub incoming : IncomingMessage
   pub body : List ℕ
 
--- a document with what is asked beside it; or a cancellation with its content, which is its five lines
+-- a document with what the rules need beside it; or a cancellation with its content, which is its five lines
 pub data Submission : Type 0 where
   Of : Beside → Document → Submission
   Cancels : List ℕ → Cancel → Submission
@@ -37,7 +38,7 @@ abbrev pub judge : Option SupplierRow → Submission → Judge
 judge supplier (Of b document) = judge_document b supplier document
 judge supplier (Cancels content cancel) = judge_cancel supplier content cancel
 
--- no two lines of an order have one number (M07)
+-- no two lines of an order have the same number (M07)
 abbrev pub HasLinesApart : Document → Type 0
 HasLinesApart (Order order) = has_number_twice (map (λ line. line.line) order.lines) ≡ false
 HasLinesApart document = ⊤
@@ -46,7 +47,7 @@ abbrev pub IsRead : Submission → Type 0
 IsRead (Of b document) = HasLinesApart document
 IsRead (Cancels content cancel) = ⊤
 
--- whose messages are of this kind
+-- the side that sends messages of this kind
 abbrev pub side_of : Document → Side
 side_of (Order order) = sides.Retailer
 side_of (Response response) = sides.Supplier
@@ -65,7 +66,7 @@ supplier_in (Response response) = response.supplier
 supplier_in (Despatch despatch) = despatch.supplier
 supplier_in (Receipt receipt) = receipt.supplier
 
--- the references that it is remembered by, and the content
+-- the references under which a submission is remembered, and its content
 abbrev pub reference_of : SupplierRow → Submission → Reference
 reference_of s (Of b document) = referred_by s (side_of document) b.incoming
 reference_of s (Cancels content cancel) = cancelled_by s cancel
@@ -74,7 +75,7 @@ abbrev pub content_of : Submission → List ℕ
 content_of (Of b document) = b.incoming.content
 content_of (Cancels content cancel) = content
 
--- it is of no other buyer (B01), and of the supplier itself (B02)
+-- the message names no buyer other than the retailer (B01), and names the supplier itself (B02)
 abbrev pub IsAdmitted : SupplierRow → Submission → Type 0
 IsAdmitted s (Of b document) = (is_other_buyer b.retailer (buyer_of document) ≡ false) × (supplier_in document ≡ s.gln)
 IsAdmitted s (Cancels content cancel) = cancel.supplier ≡ s.gln

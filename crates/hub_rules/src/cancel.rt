@@ -1,8 +1,8 @@
-//! Cancellations.
+//! Defines cancellations.
 use edi_base::Items;
 use gs1_ids::Gln;
 
-/// A cancellation by the retailer: so much of what is open of a line of an order.
+/// A cancellation by the retailer: this quantity of what is open of an order line.
 #[derive(Debug, Drop)]
 pub struct Cancel {
     /// The supplier.

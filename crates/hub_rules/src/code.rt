@@ -1,4 +1,4 @@
-//! The codes with which rules refuse.
+//! Defines the codes with which rules refuse.
 ghost use Rattle.std.specs.Prelude.{◌≡◌};
 ghost use Rattle.hub_rules.specs.Code.{code_text};
 
@@ -7,21 +7,21 @@ use std::fmt;
 /// The rule that a message, a cancellation or a join breaks.
 #[derive(Clone, Copy, Debug, PartialEq, Eq)]
 pub enum Code {
-    /// B01: the buyer that is named is not the retailer.
+    /// B01: the message names a buyer that is not the retailer.
     Buyer,
     /// B02: the supplier is not registered, or is not the caller.
     Supplier,
     /// B03: other content is remembered under the same references.
     OtherContent,
-    /// B04: the supplier has an order of this number.
+    /// B04: the supplier already has an order with this number.
     OrderKnown,
     /// B05: the supplier has no such order.
     NoOrder,
-    /// B06: the order has no such line, or not exactly one of the article.
+    /// B06: the order has no such line, or does not have exactly one line of the article.
     NoLine,
     /// B07: the line does not wait for an answer, or no line of the order does.
     NotWaiting,
-    /// B08: a changed quantity is below what is despatched, or above that and what is open.
+    /// B08: a changed quantity is below what is despatched, or above what is despatched and open together.
     OutOfRange,
     /// B09: the line has another article.
     OtherArticle,
@@ -29,28 +29,28 @@ pub enum Code {
     MoreThanOpen,
     /// B11: the SSCC is not under a prefix of the supplier.
     OtherPrefix,
-    /// B12: the SSCC is used.
+    /// B12: the SSCC is already used.
     SsccUsed,
-    /// B13: the supplier has an advice of this number.
+    /// B13: the supplier already has an advice with this number.
     AdviceKnown,
     /// B14: the supplier has no such pallet.
     NoPallet,
-    /// B15: the pallet was received.
+    /// B15: the pallet was already received.
     PalletReceived,
-    /// B16: the mailbox has no number left.
+    /// B16: the mailbox has no number left for another entry.
     MailboxFull,
     /// B17: more is cancelled than is open.
     CancelsMoreThanOpen,
-    /// B18: the GLN that is to join is the hub's, the retailer's or a supplier's.
+    /// B18: the GLN that is to join is already the hub's, the retailer's or a supplier's.
     GlnKnown,
-    /// B19: one of the prefixes begins a prefix of another supplier, or is begun by it.
+    /// B19: one of the prefixes begins a prefix of another supplier, or begins with one.
     PrefixOverlaps,
-    /// B20: as many suppliers are registered as may be.
+    /// B20: the register already has the most suppliers allowed.
     RegisterFull,
 }
 
 impl Code {
-    /// The code that is printed, as `B02`.
+    /// Returns the code that is printed, such as `B02`.
     pub fn code(self) -> &'static str
         ensures { result.now ≡ code_text self }
     {

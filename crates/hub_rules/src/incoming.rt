@@ -1,9 +1,9 @@
-//! What the rules ask of a message, beside what is read of it.
+//! Defines what the rules need of a message beside the document in it.
 use edi_base::Items;
 use edi_moment::Moment;
 
-/// A message that comes in, as the rules see it beside the record that is read of it: under which references, with
-/// which content, and when.
+/// A message as the rules see it beside the document that was read from it: its references, its content, and when it
+/// arrived.
 #[derive(Debug, Drop)]
 pub struct IncomingMessage {
     /// The control reference of its interchange (UNB 0020).
@@ -12,7 +12,7 @@ pub struct IncomingMessage {
     pub message: Items<u8>,
     /// Its content: the canonical text from UNH to UNT.
     pub content: Items<u8>,
-    /// When its interchange came.
+    /// When its interchange arrived.
     pub moment: Moment,
     /// The decimal mark of its interchange.
     pub decimal: u8,

@@ -1,4 +1,4 @@
-//! Joins.
+//! Defines joins.
 ghost use Rattle.std.specs.Prelude.{◌≡◌, IfOk, IsTrue};
 ghost use Rattle.hub_rules.specs.JoinRules as spec;
 
@@ -8,7 +8,7 @@ use hub_parties::{CompanyPrefixes, Key, SupplierRow};
 use std::alloc::Global;
 use std::marker::Model;
 
-/// A supplier that the retailer lets in: its GLN, its key and its company prefixes.
+/// A supplier that the retailer registers: its GLN, its key and its company prefixes.
 #[derive(Debug, Drop)]
 pub struct Join {
     row: SupplierRow,
@@ -27,8 +27,9 @@ impl Model for Join {
 }
 
 impl Join {
-    /// The join of a supplier with this key and these prefixes, in whatever order they stand. `None` where the key is
-    /// not 8 to 64 bytes of 0x21 to 0x7E, where there are no prefixes or more than eight, or where two are equal.
+    /// Makes the join of a supplier with this key and these prefixes, which may be in any order. Returns `None` if the
+    /// key is not 8 to 64 bytes of 0x21 to 0x7E, if there are no prefixes or more than eight, or if two of them are
+    /// equal.
     pub fn new(
         alloc: Global,
         supplier: Gln,
@@ -52,7 +53,7 @@ impl Join {
         }))
     }
 
-    /// The row that the supplier gets.
+    /// Returns the row that the supplier gets.
     pub fn row(&self) -> &SupplierRow
         ensures value { result.now ≡ self.now }
         ensures right { IsTrue (spec.is_join self.now) }

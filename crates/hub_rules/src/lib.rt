@@ -1,5 +1,5 @@
-//! The rules of a hub, as definitions with their laws: by which code a message, a cancellation or a join is refused,
-//! which changes of its supplier's rows come of it else, and what the rows stay.
+//! Defines the rules of a hub, with their laws: the code with which a message, a cancellation or a join is refused, the
+//! changes of its supplier's rows if it is accepted, and what these changes preserve.
 #![tactic(auto)]
 
 mod cancel;

@@ -1,13 +1,14 @@
-//! What comes of a message, a cancellation or a join.
+//! Defines the verdict on a message, a cancellation or a join.
 use crate::code::Code;
 use edi_base::Items;
 use hub_tables::Change;
 
-/// What comes of a message, a cancellation or a join.
+/// The verdict on a message, a cancellation or a join.
 #[derive(Debug, Drop)]
 pub enum Verdict {
-    /// It is accepted, with these changes in their order; without any it repeats one that is remembered. A join has some.
+    /// It is accepted with these changes, in this order. Without changes it repeats one that is already remembered; a
+    /// join always has some.
     Accept(Items<Change>),
-    /// It is refused, and changes nothing.
+    /// It is refused and changes nothing.
     Refuse(Code),
 }

@@ -1,4 +1,5 @@
--- What a stored row says. Its columns are counted from 1, behind the row number.
+-- Defines the row of the hub that a stored row stands for. Columns are counted from 1, because the row number comes
+-- first.
 use Rattle.std.specs.Prelude.{List, map, fold, []}
 use Rattle.std.specs.declared.cmp.Ordering.{Ordering}
 use Rattle.sqlite_value.specs.Order.{Row, column}
@@ -101,11 +102,11 @@ mail_in row = record {
   taken = number_in (column row 8);
 }
 
--- the rows in the order of their keys, put one after another
+-- the rows in the order of their keys, inserted one after another
 abbrev pub in_key_order : {X : Type 0} → (X → X → Ordering) → List X → List X
 in_key_order cmp = fold (λ sorted row. put cmp row sorted) []
 
--- what the rows of all tables say
+-- the hub's tables that the stored rows of all SQL tables stand for
 abbrev pub tables_in : Trees → Tables
 tables_in trees = record {
   hubs = in_key_order hub_cmp (map hub_row_in (trees hub_table.tree));
@@ -121,6 +122,6 @@ tables_in trees = record {
   mail = in_key_order mail_cmp (map mail_in (trees mail_table.tree));
 }
 
--- what the rows of schema 1 say, which has no tables of a register
+-- the tables of a file of schema 1, which has no tables for a register
 abbrev pub traffic_in : Trees → Tables
 traffic_in trees = record (tables_in trees) { hubs = []; keys = []; prefixes = [] }

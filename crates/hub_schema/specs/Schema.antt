@@ -1,6 +1,6 @@
--- The tables of a hub in SQL, and their keys. All bytes are BLOB and all numbers INTEGER; tables are STRICT, no column
--- takes NULL, and the key of each kind is its PRIMARY KEY. Table and column names stay: files that are written have
--- them.
+-- Defines the SQL tables of a hub and their keys. All bytes are BLOB and all numbers INTEGER; the tables are STRICT, no
+-- column accepts NULL, and the key of each kind is its PRIMARY KEY. Never rename a table or a column: existing files
+-- use these names.
 use Rattle.std.specs.Prelude.{ℕ, ◌+◌, List, [], ◌∷◌, ◌++◌, length, map, codes}
 use Rattle.sqlite.specs.Kind.TheVariants.{Integer, Blob}
 use Rattle.sqlite.specs.Schema.{Schema}
@@ -17,18 +17,18 @@ bytes name = strict_column name Blob
 abbrev pub number : List ℕ → Column
 number name = strict_column name Integer
 
--- a table with the keys that it has, the primary one first; columns are counted from 1
+-- a table with its keys, the primary key first; columns are counted from 1
 abbrev pub table_of : ℕ → List ℕ → List Column → List ℕ → List (List ℕ) → Table
 table_of tree name columns primary keys = plain_table tree name columns primary keys (map (λ _. plain) keys)
 
 abbrev pub keyed : ℕ → List ℕ → List Column → List ℕ → Table
 keyed tree name columns primary = table_of tree name columns primary (primary ∷ [])
 
--- the number behind those of a table and its keys
+-- the next free number after a table and its keys
 abbrev pub next_to : Table → ℕ
 next_to table = table.tree + 1 + length table.uniques
 
--- the number of the schema, in its one row
+-- the one row of this table has the schema's number
 abbrev pub schema_table : Table
 schema_table = table_of 0 (codes "schema") (number (codes "number") ∷ []) [] []
 
@@ -44,7 +44,7 @@ line_table = keyed (next_to order_table) (codes "line") (
 abbrev pub advice_table : Table
 advice_table = keyed (next_to line_table) (codes "advice") (bytes (codes "supplier") ∷ bytes (codes "number") ∷ []) (1 ∷ 2 ∷ [])
 
--- a second key, so that the pallets of one supplier are found by it
+-- the second key finds the pallets of one supplier
 abbrev pub pallet_table : Table
 pallet_table = table_of (next_to advice_table) (codes "pallet") (
     bytes (codes "sscc") ∷ bytes (codes "supplier") ∷ bytes (codes "advice") ∷ number (codes "received") ∷ [])
@@ -84,26 +84,26 @@ prefix_table = keyed (next_to supplier_table) (codes "prefix") (bytes (codes "pr
 abbrev pub no_schema : Schema
 no_schema = record { tables = []; indexes = []; views = [] }
 
--- the tables of goods and messages, in the order of their making
+-- the tables of orders, goods and messages, in the order in which they are made
 abbrev pub traffic_tables : List Table
 traffic_tables =
     schema_table ∷ order_table ∷ line_table ∷ advice_table ∷ pallet_table ∷ content_table ∷ receipt_table
     ∷ remembered_table ∷ mail_table ∷ []
 
--- those of the register
+-- the tables of the register
 abbrev pub party_tables : List Table
 party_tables = hub_table ∷ supplier_table ∷ prefix_table ∷ []
 
--- all tables: the register's behind the others
+-- all tables; those of the register come last
 abbrev pub hub_tables : List Table
 hub_tables = traffic_tables ++ party_tables
 
--- an index for each key, with the numbers behind that of the table
+-- an index for each key, numbered after its table
 abbrev pub indexes_of : List Table → List Index
 indexes_of [] = []
 indexes_of (table ∷ tables) = automatics table 0 (table.tree + 1) table.uniques ++ indexes_of tables
 
--- schema 1: the tables of goods and messages alone
+-- schema 1: only the tables of orders, goods and messages
 abbrev pub old_schema : Schema
 old_schema = record { tables = traffic_tables; indexes = indexes_of traffic_tables; views = [] }
 

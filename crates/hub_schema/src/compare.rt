@@ -1,4 +1,4 @@
-//! Whether a schema is one of the hub's.
+//! Decides whether a schema is one of the hub's.
 ghost use Rattle.std.specs.Prelude.{◌≡◌, ◌+◌, ◌↔◌, IsTrue, [], map};
 ghost use Rattle.sql_rows.specs.Tables.{strict_column, plain_table};
 ghost use Rattle.sqlite_value.specs.Keys.{plain};
@@ -13,7 +13,7 @@ use sqlite_schema::schema::{Column, Index, Kind, Schema, Stamps, Table};
 use sqlite_value::keys::{Collation, Order};
 use sqlite_value::value::Value;
 
-// Whether the column takes values of this kind and no NULL.
+// Whether the column has this name and type, and rejects NULL.
 fn is_column(column: &Column, name: &[u8], kind: Kind) -> bool
     ensures { IsTrue result ↔ (column.now ≡ strict_column name.now kind) }
 {
@@ -33,7 +33,7 @@ fn is_none(terms: &Terms) -> bool
     terms.roots.is_empty()
 }
 
-// Whether nothing is stamped.
+// Whether no column is stamped.
 fn is_unstamped(stamps: &Stamps) -> bool
     ensures { IsTrue result ↔ (stamps.now ≡ record { places = []; terms = []; formats = [] }) }
 {
@@ -53,7 +53,7 @@ fn are_columns(columns: &[Column], expected: &[(&str, Kind)]) -> bool
     is_column(column, name.as_bytes(), *kind) && are_columns(columns, expected)
 }
 
-// Whether the column of this name is at this place.
+// Whether the column with this name is at this position.
 fn is_place(place: usize, name: &str, columns: &[(&str, Kind)]) -> bool
     ensures { IsTrue result ↔ (place ≡ place_of (strict_columns columns.now) name.now) }
 {
@@ -67,7 +67,7 @@ fn is_place(place: usize, name: &str, columns: &[(&str, Kind)]) -> bool
     }
 }
 
-// Whether the columns of these names are at these places.
+// Whether the columns with these names are at these positions.
 fn are_places(places: &[usize], names: &[&str], columns: &[(&str, Kind)]) -> bool
     ensures { IsTrue result ↔ (places.now
         ≡ map (λ name. place_of (strict_columns columns.now) name.now) names.now) }
@@ -81,7 +81,7 @@ fn are_places(places: &[usize], names: &[&str], columns: &[(&str, Kind)]) -> boo
     is_place(*place, name, columns) && are_places(places, names, columns)
 }
 
-// Whether this is the key, ascending by its bytes.
+// Whether this is the key, in ascending order of its bytes.
 fn is_key(places: &Items<usize>, order: Order, key: &Key, columns: &[(&str, Kind)]) -> bool
     ensures { IsTrue result ↔
         ((places.now ≡ places_of (strict_columns columns.now) key.now) × (order ≡ plain)) }
@@ -122,7 +122,7 @@ fn is_first(primary: &Items<usize>, keys: &[Items<usize>]) -> bool
     primary.as_slice() == key.as_slice()
 }
 
-// Whether the table has columns and keys, and no other rule.
+// Whether the table has columns and keys, and no other rules.
 fn is_plain(table: &Table, name: &[u8]) -> bool
     ensures { IsTrue result ↔ (table.now
         ≡ plain_table table.now.tree name.now table.now.columns table.now.primary table.now.uniques
@@ -152,14 +152,14 @@ fn is_table(table: &Table, definition: &Definition) -> bool
         && is_first(&table.primary, table.uniques.as_slice())
 }
 
-// Whether the table has the number behind those of another and its keys.
+// Whether the table has the next free number after another table and its keys.
 fn is_next(table: &Table, before: &Table) -> bool
     ensures { IsTrue result ↔ (table.now.tree ≡ next_to before.now) }
 {
     table.tree > before.tree && (table.tree - before.tree - 1) as usize == before.uniques.len()
 }
 
-// Whether the tables are those of the definitions, with the numbers behind a table.
+// Whether the tables are those of the definitions, numbered after the table `before`.
 fn are_behind(before: &Table, tables: &[Table], definitions: &[Definition]) -> bool
     ensures { IsTrue result ↔ (tables.now ≡ numbered (next_to before.now) definitions.now) }
 {
@@ -172,7 +172,7 @@ fn are_behind(before: &Table, tables: &[Table], definitions: &[Definition]) -> b
     is_next(table, before) && is_table(table, definition) && are_behind(table, tables, definitions)
 }
 
-// Whether the tables are those of the definitions, with the numbers from 0 on.
+// Whether the tables are those of the definitions, numbered from 0.
 fn are_tables(tables: &[Table], definitions: &[Definition]) -> bool
     ensures { IsTrue result ↔ (tables.now ≡ numbered 0 definitions.now) }
 {
@@ -185,7 +185,7 @@ fn are_tables(tables: &[Table], definitions: &[Definition]) -> bool
     table.tree == 0 && is_table(table, definition) && are_behind(table, tables, definitions)
 }
 
-// Whether the index is the one of a key of a table, with the number behind this one.
+// Whether the index is that of a key of a table, with the number after `before`.
 fn is_index(index: &Index, table: u32, before: u32, key: &Key, columns: &[(&str, Kind)]) -> bool
     ensures { IsTrue result ↔ (index.now ≡ index_of table (before + 1) (strict_columns columns.now) key.now) }
 {
@@ -197,7 +197,7 @@ fn is_index(index: &Index, table: u32, before: u32, key: &Key, columns: &[(&str,
         && is_key(&index.columns, index.order, key, columns)
 }
 
-// Whether these are the indexes of the keys of a table, from the number behind this one on.
+// Whether these are the indexes of the keys of a table, with the numbers after `before`.
 fn are_own(
     indexes: &[Index],
     table: u32,
@@ -218,7 +218,7 @@ fn are_own(
         && are_own(indexes, table, index.tree, keys, columns)
 }
 
-// Whether each key of these tables has its index, and there is no other.
+// Whether each key of these tables has its index, and there are no others.
 fn are_indexes(indexes: &[Index], tables: &[Table], definitions: &[Definition]) -> bool
     ensures { IsTrue result ↔ (indexes.now ≡ all_indexes tables.now definitions.now) }
 {
@@ -238,7 +238,8 @@ fn are_indexes(indexes: &[Index], tables: &[Table], definitions: &[Definition]) 
     ) && are_indexes(others, tables, definitions)
 }
 
-// Whether the schema has the tables of the definitions and their keys, in the order of their making, and nothing else.
+// Whether the schema has the tables of the definitions and their keys, in the order in which they are made, and nothing
+// else.
 fn is_of(schema: &Schema, definitions: &[Definition]) -> bool
     ensures { IsTrue result ↔ (schema.now ≡ record {
       tables = numbered 0 definitions.now;
@@ -255,21 +256,21 @@ fn is_of(schema: &Schema, definitions: &[Definition]) -> bool
         && schema.views.is_empty()
 }
 
-/// Whether the schema is the hub's: its tables and their keys, in the order of their making, and nothing else.
+/// Whether the schema is the hub's: its tables and their keys, in the order in which they are made, and nothing else.
 pub fn is_hub_schema(schema: &Schema) -> bool
     ensures { IsTrue result ↔ (schema.now ≡ hub_schema) }
 {
     is_of(schema, all())
 }
 
-/// Whether the schema is schema 1: the tables of goods and messages and their keys, and nothing else.
+/// Whether the schema is schema 1: the tables of orders, goods and messages with their keys, and nothing else.
 pub fn is_old_schema(schema: &Schema) -> bool
     ensures { IsTrue result ↔ (schema.now ≡ old_schema) }
 {
     is_of(schema, traffic())
 }
 
-/// Whether the schema has nothing.
+/// Whether the schema is empty.
 pub fn is_no_schema(schema: &Schema) -> bool
     ensures { IsTrue result ↔ (schema.now ≡ no_schema) }
 {

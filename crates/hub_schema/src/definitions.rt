@@ -1,4 +1,4 @@
-//! The definitions of the tables: from them tables are made, and a schema is compared with them.
+//! Defines the hub's tables: these definitions are used both to make tables and to compare a schema with them.
 ghost use Rattle.std.specs.Prelude.{◌≡◌, ◌<◌, ◌^◌, []};
 ghost use Rattle.hub_schema.specs.Definitions.{Make, all_indexes, numbered, trees_of};
 ghost use Rattle.hub_schema.specs.Schema.{hub_tables, indexes_of, party_tables, traffic_tables};
@@ -12,7 +12,7 @@ pub(crate) struct Key {
     pub(crate) columns: &'static [&'static str],
 }
 
-/// A table: its name, the statement that makes it, its columns and its keys, the primary one first.
+/// A table: its name, the statement that makes it, its columns, and its keys with the primary key first.
 #[derive(Clone, Copy, Drop)]
 pub(crate) struct Definition {
     pub(crate) name: &'static str,
@@ -30,8 +30,8 @@ macro_rules! kind {
     };
 }
 
-// A table by its name, its columns, its primary key and its other keys. Names stand in quotes, since some are words of
-// SQL.
+// Defines a table by its name, its columns, its primary key and its other keys. Names are quoted because some are SQL
+// keywords.
 macro_rules! table {
     (
         $name:tt: $head:tt $first:tt $(, $column:tt $kind:tt)*;
@@ -62,7 +62,7 @@ macro_rules! table {
     };
 }
 
-// In the order of their making: those of goods and messages, and behind them those of the register.
+// In the order in which they are made: those of orders, goods and messages, then those of the register.
 static TABLES: [Definition; 12] = [
     table!("schema":
         "number" "INTEGER";
@@ -152,7 +152,7 @@ static TABLES: [Definition; 12] = [
 
 const TRAFFIC: usize = 9;
 
-/// All tables.
+/// Returns all tables.
 pub(crate) fn all() -> &'static [Definition]
     ensures tables { numbered 0 result.now ≡ hub_tables }
     ensures indexes { all_indexes hub_tables result.now ≡ indexes_of hub_tables }
@@ -162,7 +162,7 @@ pub(crate) fn all() -> &'static [Definition]
     &TABLES
 }
 
-/// The tables of goods and messages.
+/// Returns the tables of orders, goods and messages.
 pub(crate) fn traffic() -> &'static [Definition]
     ensures tables { numbered 0 result.now ≡ traffic_tables }
     ensures indexes { all_indexes traffic_tables result.now ≡ indexes_of traffic_tables }
@@ -171,7 +171,7 @@ pub(crate) fn traffic() -> &'static [Definition]
     &TABLES[..TRAFFIC]
 }
 
-/// The tables of the register.
+/// Returns the tables of the register.
 pub(crate) fn parties() -> &'static [Definition]
     ensures { Make traffic_tables result.now party_tables }
 {

@@ -1,4 +1,4 @@
-//! The tables of a hub in SQL: their schema, what their rows say, and their making.
+//! Defines the hub's tables in SQL: their schema, how their rows are read, and how they are made.
 #![tactic(auto)]
 
 mod compare;

@@ -1,4 +1,4 @@
-//! The making of the tables.
+//! Makes the hub's tables.
 ghost use Rattle.std.specs.Prelude.{◌≡◌, ◌⊎◌, ◌++◌, ℕ, List, false, IsTrue, OnOk, OnErr, []};
 ghost use Rattle.sqlite.specs.State.{HasCleanDisk, Survives, KeepsCommit};
 ghost use Rattle.sqlite.specs.Schema.{Schema};
@@ -18,7 +18,6 @@ ghost use Rattle.hub_schema.specs.State.{StatementLeaves};
 use crate::definitions::{Definition, all, parties};
 use sqlite::{Alter, Error, Transaction};
 
-// Makes one table.
 fn create<S: Alter>(tx: &mut Transaction<'_, S>, text: &str) -> Result<usize, Error>
     ensures same_reference { tx.new.conn.ghost_name ≡ tx.old.conn.ghost_name }
     ensures makes { HasCleanDisk (state S.Store tx.new.conn.now) →
@@ -35,7 +34,7 @@ fn create<S: Alter>(tx: &mut Transaction<'_, S>, text: &str) -> Result<usize, Er
     tx.execute(text, &[])
 }
 
-// Makes these tables, one after another.
+// Makes these tables one after another.
 fn make_all<S: Alter>(tx: &mut Transaction<'_, S>, definitions: &[Definition]) -> Result<(), Error>
     ensures same_reference { tx.new.conn.ghost_name ≡ tx.old.conn.ghost_name }
     ensures makes { HasCleanDisk (state S.Store tx.new.conn.now) →
@@ -64,7 +63,7 @@ fn make_all<S: Alter>(tx: &mut Transaction<'_, S>, definitions: &[Definition]) -
     make_all(tx, definitions)
 }
 
-// Puts the number of the schema into its table.
+// Inserts the number of the schema into its table.
 fn put_number<S: Alter>(tx: &mut Transaction<'_, S>) -> Result<usize, Error>
     ensures same_reference { tx.new.conn.ghost_name ≡ tx.old.conn.ghost_name }
     ensures makes { HasCleanDisk (state S.Store tx.new.conn.now) →
@@ -80,7 +79,7 @@ fn put_number<S: Alter>(tx: &mut Transaction<'_, S>) -> Result<usize, Error>
     tx.execute("INSERT INTO schema (number) VALUES (3)", &[])
 }
 
-/// Sets the number of the schema to 3, in the one row of its table. No other row changes.
+/// Sets the number of the schema, the only row of its table, to 3. No other row changes.
 pub fn set_number<S: Alter>(tx: &mut Transaction<'_, S>) -> Result<usize, Error>
     ensures same_reference { tx.new.conn.ghost_name ≡ tx.old.conn.ghost_name }
     ensures makes { HasCleanDisk (state S.Store tx.new.conn.now) → (number : ℕ) (rows : Trees) →
@@ -96,7 +95,7 @@ pub fn set_number<S: Alter>(tx: &mut Transaction<'_, S>) -> Result<usize, Error>
     tx.execute("UPDATE schema SET number = 3", &[])
 }
 
-/// Makes the tables of schema 3 in a database that has none, without rows but the one with the schema's number.
+/// Makes the tables of schema 3 in a database that has no tables. Their only row is the schema's number.
 pub fn make_tables<S: Alter>(tx: &mut Transaction<'_, S>) -> Result<(), Error>
     ensures same_reference { tx.new.conn.ghost_name ≡ tx.old.conn.ghost_name }
     ensures makes { HasCleanDisk (state S.Store tx.new.conn.now) →
@@ -113,8 +112,7 @@ pub fn make_tables<S: Alter>(tx: &mut Transaction<'_, S>) -> Result<(), Error>
     Ok(())
 }
 
-/// Makes in a database of schema 1 the tables of the register, which it has not, without rows, and sets the schema's
-/// number to 3.
+/// Makes the missing tables of the register in a database of schema 1, without rows, and sets the schema's number to 3.
 pub fn make_party_tables<S: Alter>(tx: &mut Transaction<'_, S>) -> Result<(), Error>
     ensures same_reference { tx.new.conn.ghost_name ≡ tx.old.conn.ghost_name }
     ensures makes { HasCleanDisk (state S.Store tx.new.conn.now) → IsOldHub (state S.Store tx.old.conn.now) →

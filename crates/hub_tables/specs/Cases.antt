@@ -1,4 +1,4 @@
--- The numbers that stand in the columns of a row for the cases of an enum.
+-- Defines the number that a row's column holds for each case of an enum.
 use Rattle.std.specs.Prelude.{ℕ, ◌<◌, Bool, true, false, List, [], ◌∷◌}
 use Rattle.std.proofs.Common.{arith}
 use Rattle.hub_tables.specs.declared.cases.Answered.{Answered}
@@ -28,18 +28,18 @@ abbrev pub kind_letter : MailKind → ℕ
 kind_letter kinds.Orders = 0x4F
 kind_letter kinds.Receipt = 0x52
 
--- 0 announced, 1 received, 2 received by an advice that replaces
+-- 0: announced, 1: received, 2: received by an advice that replaces earlier ones
 abbrev pub arrival_number : Arrival → ℕ
 arrival_number arrivals.Announced = 0
 arrival_number arrivals.Received = 1
 arrival_number arrivals.Replaced = 2
 
--- 0 no, 1 yes
+-- 0: no, 1: yes
 abbrev pub truth_number : Bool → ℕ
 truth_number false = 0
 truth_number true = 1
 
--- every case of each
+-- all cases of each enum
 abbrev pub every_answer : List Answered
 every_answer = answers.Waiting ∷ answers.Accepted ∷ answers.NotAccepted ∷ answers.Changed ∷ []
 
@@ -55,7 +55,7 @@ every_arrival = arrivals.Announced ∷ arrivals.Received ∷ arrivals.Replaced �
 abbrev pub every_truth : List Bool
 every_truth = true ∷ false ∷ []
 
--- each number takes one byte
+-- each number fits in one byte
 pub answers_small : (answer : Answered) → answer_letter answer < 256
 answers_small answers.Waiting = omega arith
 answers_small answers.Accepted = omega arith

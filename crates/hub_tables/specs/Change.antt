@@ -1,4 +1,4 @@
--- What changes do to tables.
+-- Defines how changes alter tables.
 use Rattle.std.specs.Prelude.{List, [], ◌∷◌, filter, not}
 use Rattle.hub_parties.specs.KeyOrder.{put, replace}
 use Rattle.hub_tables.specs.Rows.{hub_cmp, key_cmp, prefix_cmp}
@@ -30,7 +30,7 @@ apply (Remember row) t = record t { remembered = put remembered_cmp row t.rememb
 apply (AddMail row) t = record t { mail = put mail_cmp row t.mail }
 apply (SetMail row) t = record t { mail = replace (same_mail row) row t.mail }
 
--- one after another
+-- applies the changes one after another
 abbrev pub apply_all : List Change → Tables → Tables
 apply_all [] t = t
 apply_all (change ∷ changes) t = apply_all changes (apply change t)

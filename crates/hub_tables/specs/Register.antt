@@ -1,4 +1,4 @@
--- The register that tables hold.
+-- Defines the register that tables hold, and the changes that found one.
 use Rattle.std.specs.Prelude.{◌≡◌, ℕ, Bool, true, List, [], ◌∷◌, filter, map, Option}
 use Rattle.std.specs.List.{AllByRecursion, list_any, flat_map}
 use Rattle.std.specs.declared.cmp.Ordering.{Ordering}
@@ -14,11 +14,11 @@ use Rattle.hub_tables.specs.declared.rows.HubRow.{HubRow}
 use Rattle.hub_tables.specs.declared.rows.KeyRow.{KeyRow}
 use Rattle.hub_tables.specs.declared.rows.PrefixRow.{PrefixRow}
 
--- a supplier has the key
+-- whether the supplier has a key
 abbrev pub has_key : List KeyRow → List ℕ → Bool
 has_key keys supplier = list_any (λ row. same row.supplier supplier) keys
 
--- the row of a supplier, from its key and its prefixes
+-- the row of a supplier, built from its key and its prefixes
 abbrev pub row_in : List PrefixRow → KeyRow → SupplierRow
 row_in prefixes row = record {
   gln = row.supplier;
@@ -29,11 +29,11 @@ row_in prefixes row = record {
 abbrev pub suppliers_of : Tables → List SupplierRow
 suppliers_of t = map (row_in t.prefixes) t.keys
 
--- suppliers stand by their GLNs
+-- suppliers are in the order of their GLNs
 abbrev pub supplier_cmp : SupplierRow → SupplierRow → Ordering
 supplier_cmp a b = bytes_cmp a.gln b.gln
 
--- the hub's row; where there is none, no digits stand in the place of GLNs
+-- the hub's row, or one with empty GLNs and no key if there is none
 abbrev pub hub_in : List HubRow → HubRow
 hub_in [] = record { hub = []; retailer = []; key = [] }
 hub_in (row ∷ rows) = row
@@ -48,12 +48,12 @@ register_of t = register_by (hub_in t.hubs) (suppliers_of t)
 abbrev pub parties_in : Tables → Parties
 parties_in t = parties_of (register_of t)
 
--- the row of the supplier with a GLN; a supplier's own rows have it as all tables do
+-- the row of the supplier with this GLN; that supplier's own rows give the same one as all tables do
 abbrev pub row_at : List ℕ → Tables → Option SupplierRow
 row_at gln t = supplier_row (suppliers_of t) gln
 
--- The tables hold a register: one row of the hub; each prefix's supplier has its key; no supplier and no prefix stands
--- twice; and the rows are those of a register.
+-- The tables hold a register: they have exactly one hub row, each supplier and each prefix once, and a key for each
+-- prefix's supplier, and together these rows are a valid register.
 pub record HoldsRegister (t : Tables) : Type 0 where
   pub hub : HubRow
   pub one_hub : t.hubs ≡ hub ∷ []
@@ -62,7 +62,7 @@ pub record HoldsRegister (t : Tables) : Type 0 where
   pub prefixes_had : AllByRecursion (λ row. has_key t.keys row.supplier ≡ true) t.prefixes
   pub right : IsRegister (register_of t)
 
--- Founding: the changes that make a register's rows.
+-- The changes that add a register's rows.
 abbrev pub prefix_changes : List ℕ → List (List ℕ) → List Change
 prefix_changes supplier prefixes =
     map (λ prefix. AddPrefix (record { prefix = prefix; supplier = supplier })) prefixes
@@ -78,6 +78,6 @@ register_changes register =
     AddHub (record { hub = register.hub; retailer = register.retailer; key = register.retailer_key })
     ∷ suppliers_changes register.suppliers
 
--- tables with the rows of a register alone
+-- tables that have a register's rows and no others
 abbrev pub founded : RegisterRows → Tables
 founded register = apply_all (register_changes register) empty

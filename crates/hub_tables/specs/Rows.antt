@@ -1,4 +1,4 @@
--- The rows of the eleven kinds: the order of each by its key, and when two have one key.
+-- Defines how the rows of each of the eleven kinds are ordered by key, and when two rows have the same key.
 use Rattle.std.specs.Prelude.{ℕ, ◌==◌, Bool, ◌&&◌, List}
 use Rattle.std.specs.Str.{bytes_eq}
 use Rattle.std.specs.declared.cmp.Ordering.{Ordering}
@@ -57,7 +57,7 @@ remembered_cmp a b =
 abbrev pub mail_cmp : MailRow → MailRow → Ordering
 mail_cmp a b = ordering_then (bytes_cmp a.supplier b.supplier) (nat_cmp a.number b.number)
 
--- an old row has the key of a new one, for the kinds of which rows are set
+-- whether an old row has the key of a new one, for each kind whose rows can be replaced
 abbrev pub same_hub : HubRow → HubRow → Bool
 same_hub new old = same old.hub new.hub
 

@@ -1,4 +1,4 @@
--- Tables as sets of rows, and which changes leave them so.
+-- Defines when tables are sets of rows, and which changes keep them so.
 use Rattle.std.specs.Prelude.{◌≡◌, ◌⊎◌, ⊤, Bool, true, false, List, [], ◌∷◌}
 use Rattle.hub_parties.specs.KeyOrder.{Rises}
 use Rattle.hub_tables.specs.Change.{apply}
@@ -9,7 +9,7 @@ use Rattle.hub_tables.specs.Rows.{order_cmp, line_cmp, advice_cmp, pallet_cmp, c
 use Rattle.hub_tables.specs.Rows.{mail_cmp}
 use Rattle.hub_tables.specs.Tables.{Tables}
 
--- the row is one of the list
+-- the row is in the list
 abbrev pub Has : {X : Type 0} → List X → X → Type 0
 Has [] x = ⊥
 Has (y ∷ ys) x = (x ≡ y) ⊎ Has ys x
@@ -18,7 +18,7 @@ pub record SameSet {X : Type 0} (xs ys : List X) : Type 0 where
   pub there : (x : X) → Has xs x → Has ys x
   pub back : (x : X) → Has ys x → Has xs x
 
--- each kind rises strictly by its key
+-- the keys of each kind rise strictly
 pub record Rising (t : Tables) : Type 0 where
   pub hubs : Rises hub_cmp t.hubs
   pub keys : Rises key_cmp t.keys
@@ -32,18 +32,18 @@ pub record Rising (t : Tables) : Type 0 where
   pub remembered : Rises remembered_cmp t.remembered
   pub mail : Rises mail_cmp t.mail
 
--- rows go by it
+-- whether the change deletes rows
 abbrev pub clears : Change → Bool
 clears (ClearReceipts sscc) = true
 clears change = false
 
--- where rows go, the tables rise by their keys
+-- before a change that deletes rows, the keys of each kind rise strictly
 abbrev pub RisesAt : Change → Tables → Type 0
 RisesAt (ClearReceipts sscc) t = Rising t
 RisesAt change t = ⊤
 
--- Changes fit where the tables rise by their keys after all of them, and before each by which rows go, so that each key
--- that they add is new: a row that is added twice does not fit because it goes later.
+-- Changes fit if the keys of each kind rise strictly after all of them, and before each change that deletes rows. So
+-- each key that they add is new: a row that is added twice does not fit, even if a later change deletes it.
 abbrev pub Fit : List Change → Tables → Type 0
 Fit [] t = Rising t
 Fit (change ∷ changes) t = RisesAt change t × Fit changes (apply change t)

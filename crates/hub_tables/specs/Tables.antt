@@ -1,5 +1,6 @@
--- The content of a store: a set of rows for each kind, and what of it one supplier sees. Each set is the list of its
--- rows in the order of their keys, so that equal sets are equal values. A supplier's state has the same shape.
+-- Defines what a store contains, a set of rows for each kind, and which of these rows one supplier sees. Each set is
+-- the list of its rows in the order of their keys, so equal sets are equal values. A supplier's view has the same
+-- shape.
 use Rattle.std.specs.Prelude.{ℕ, Bool, ◌&&◌, List, [], filter}
 use Rattle.std.specs.List.{list_any}
 use Rattle.hub_parties.specs.KeyOrder.{InOrder}
@@ -45,15 +46,15 @@ pub record Ordered (t : Tables) : Type 0 where
   pub remembered : InOrder remembered_cmp t.remembered
   pub mail : InOrder mail_cmp t.mail
 
--- a pallet has the SSCC
+-- whether some pallet has this SSCC
 abbrev pub has_pallet : Tables → List ℕ → Bool
 has_pallet t sscc = list_any (λ pallet. same pallet.sscc sscc) t.pallets
 
--- a pallet of the supplier has it
+-- whether some pallet of the supplier has this SSCC
 abbrev pub holds : List ℕ → List PalletRow → List ℕ → Bool
 holds supplier pallets sscc = list_any (λ pallet. same pallet.supplier supplier && same pallet.sscc sscc) pallets
 
--- what a supplier sees: nothing of the hub's row; contents and receipts are those of its pallets
+-- the rows that a supplier sees: not the hub's row, and only the contents and receipts of its own pallets
 abbrev pub view : List ℕ → Tables → Tables
 view supplier t = record {
   hubs = [];

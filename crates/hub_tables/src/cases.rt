@@ -1,10 +1,10 @@
-//! The enums whose cases stand in rows.
+//! Defines the enums whose cases are stored in rows.
 use crate::column::Case;
 
-/// How a line of an order was answered.
+/// The answer to an order line.
 #[derive(Clone, Copy, Debug, PartialEq, Eq)]
 pub enum Answered {
-    /// W: not yet.
+    /// W: not answered yet.
     Waiting,
     /// A: accepted without amendment (LIN 1229 5, BGM 1225 29).
     Accepted,
@@ -42,7 +42,7 @@ impl Case for Answered {
     }
 }
 
-/// Whose message or request is remembered.
+/// The kind of message or request that is remembered.
 #[derive(Clone, Copy, Debug, PartialEq, Eq)]
 pub enum Side {
     /// R: a message of the retailer.
@@ -105,14 +105,14 @@ impl Case for MailKind {
     }
 }
 
-/// How far a pallet has come.
+/// The state of a pallet.
 #[derive(Clone, Copy, Debug, PartialEq, Eq)]
 pub enum Arrival {
     /// 0: announced by a despatch advice.
     Announced,
     /// 1: received.
     Received,
-    /// 2: received by an advice that takes the place of those before, if there were any.
+    /// 2: received by an advice that replaces earlier ones, if there were any.
     Replaced,
 }
 

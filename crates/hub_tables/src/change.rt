@@ -1,16 +1,16 @@
-//! Changes of rows.
+//! Defines the changes of rows.
 use crate::rows::{
     AdviceRow, ContentRow, HubRow, KeyRow, LineRow, MailRow, OrderRow, PalletRow, PrefixRow,
     ReceiptRow, RememberedRow,
 };
 use gs1_ids::Sscc;
 
-/// A row that is added, one that is set in the place of the one that has its key, or rows that go.
+/// A row to add, a row that replaces the one with the same key, or rows to delete.
 #[derive(Debug, Drop)]
 pub enum Change {
     /// The hub and its retailer.
     AddHub(HubRow),
-    /// The hub with a new key of its retailer.
+    /// The hub with a new key for its retailer.
     SetHub(HubRow),
     /// A new supplier's key.
     AddKey(KeyRow),
@@ -34,12 +34,12 @@ pub enum Change {
     AddContent(ContentRow),
     /// A new receipt of an article.
     AddReceipt(ReceiptRow),
-    /// All receipts of a pallet go.
+    /// Deletes all receipts of a pallet.
     ClearReceipts(Sscc),
-    /// A message or cancellation that is remembered.
+    /// A message or a cancellation to remember.
     Remember(RememberedRow),
     /// A new entry of a mailbox.
     AddMail(MailRow),
-    /// An entry that is taken.
+    /// An entry that the supplier has taken.
     SetMail(MailRow),
 }

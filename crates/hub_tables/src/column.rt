@@ -1,11 +1,11 @@
-//! Columns whose cases are those of an enum.
+//! Stores the cases of an enum in a column, as numbers.
 ghost use Rattle.std.specs.Prelude.{◌≡◌, ◌==◌, true, false};
 ghost use Rattle.std.specs.List.{list_any};
 ghost use Rattle.std.specs.Option.{IfNone, IfSome};
 
 use std::marker::Model;
 
-/// The cases that may stand in a column, each with its number.
+/// An enum whose cases are stored in a column, each as a number.
 pub trait Case: Sized + 'static {
     ghost use Rattle.std.specs.Prelude.{ℕ, ◌<◌, List};
 
@@ -14,19 +14,20 @@ pub trait Case: Sized + 'static {
     /// The cases that a row may have.
     ghost every: { List Self };
 
-    /// A number takes one byte.
+    /// Each number fits in one byte.
     ghost small: { (case : Self) → number case < 256 };
 
-    /// The number of a case.
+    /// Returns the number of the case.
     fn code(self) -> u8
         ensures { result ≡ number self };
 
-    /// The cases that a row may have.
+    /// Returns the cases that a row may have.
     fn all() -> &'static [Self]
         ensures { result.now ≡ every };
 }
 
-/// A case in a row. Contracts see its number, so that they can also speak of a stored row with a number that no case has.
+/// A case in a row. Contracts see only its number, so they can also describe a stored row whose number belongs to no
+/// case.
 #[derive(Debug, Drop)]
 pub struct Column<C: Case> {
     case: C,
@@ -41,14 +42,14 @@ impl<C: Case> Model for Column<C> {
 }
 
 impl<C: Case + Copy> Column<C> {
-    /// The column of a case.
+    /// Makes the column that holds a case.
     pub fn of(case: C) -> Self
         ensures { result ≡ C.number case }
     {
         Column { case }
     }
 
-    /// The column with a number; `None` where no case has it.
+    /// Makes the column from a number; `None` if no case has this number.
     pub fn with_code(code: u64) -> Option<Self>
         ensures some { IfSome result (λ column. column ≡ code) }
         ensures right { IfSome result (λ column. list_any (λ case. column == C.number case) C.every ≡ true) }
@@ -62,14 +63,14 @@ impl<C: Case + Copy> Column<C> {
         None
     }
 
-    /// The number of the case.
+    /// Returns the number of the case.
     pub fn code(&self) -> u8
         ensures { result ≡ self.now }
     {
         self.case.code()
     }
 
-    /// The case.
+    /// Returns the case.
     pub fn case(&self) -> C
         ensures { C.number result ≡ self.now }
     {

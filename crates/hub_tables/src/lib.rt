@@ -1,5 +1,5 @@
-//! The tables of a hub: rows of eleven kinds in the order of their keys, the changes of them, and what each supplier sees of
-//! them.
+//! Defines the tables of a hub (rows of eleven kinds, each sorted by key), their changes, and what each supplier sees
+//! of them.
 #![tactic(auto)]
 
 mod cases;

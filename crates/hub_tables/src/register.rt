@@ -1,4 +1,4 @@
-//! The changes that make the rows of a register.
+//! Makes the changes that add a register's rows.
 ghost use Rattle.std.specs.Prelude.{◌≡◌, ◌++◌, IfOk, OnOk};
 ghost use Rattle.hub_tables.specs.Register as spec;
 
@@ -9,7 +9,7 @@ use gs1_ids::{Gln, Prefix};
 use hub_parties::SupplierRow;
 use std::alloc::Global;
 
-// Puts a change for each prefix behind others.
+// Appends a change for each prefix.
 fn put_prefixes(
     supplier: Gln,
     prefixes: &[Prefix],
@@ -27,7 +27,7 @@ fn put_prefixes(
     Ok(())
 }
 
-/// Puts the changes that make the rows of a supplier behind others: its key, and each of its prefixes.
+/// Appends the changes that add a supplier: its key, then each of its prefixes.
 pub fn put_row_changes(row: &SupplierRow, changes: &mut Vec<Change>) -> Result<(), MemoryFault>
     ensures { OnOk result (changes.new.items ≡ changes.old.items ++ spec.row_changes row.now) }
 {
@@ -38,7 +38,7 @@ pub fn put_row_changes(row: &SupplierRow, changes: &mut Vec<Change>) -> Result<(
     put_prefixes(row.gln, row.prefixes.as_slice(), changes)
 }
 
-/// The changes that make the rows of a supplier.
+/// Returns the changes that add a supplier: its key, then each of its prefixes.
 pub fn row_changes(alloc: Global, row: &SupplierRow) -> Result<Vec<Change>, MemoryFault>
     ensures { IfOk result (λ changes. changes.items ≡ spec.row_changes row.now) }
 {

@@ -1,5 +1,5 @@
-//! The rows of the eleven kinds. Contracts see texts as lists of numbers and columns of cases as numbers, so that a row of a
-//! store can be spoken of that no row here is.
+//! Defines the rows of the eleven kinds. Contracts see texts as lists of numbers and enum columns as numbers, so they
+//! can also describe stored rows that these types do not allow.
 use crate::cases::{Answered, Arrival, MailKind, Side};
 use crate::column::Column;
 use edi_base::Items;
@@ -23,7 +23,7 @@ pub struct HubRow {
 pub struct KeyRow {
     /// The supplier.
     pub supplier: Gln,
-    /// The key by which it is known to the hub.
+    /// The key with which it identifies itself to the hub.
     pub key: Key,
 }
 
@@ -58,13 +58,13 @@ pub struct LineRow {
     pub gtin: Gtin,
     /// The quantity ordered, 1 to 999,999,999.
     pub ordered: u32,
-    /// What is still to be despatched.
+    /// The quantity that is still to be despatched.
     pub open_qty: u32,
-    /// What the supplier refused.
+    /// The quantity that the supplier refused.
     pub refused: u32,
-    /// What the retailer cancelled.
+    /// The quantity that the retailer cancelled.
     pub cancelled: u32,
-    /// How the line was answered.
+    /// The supplier's answer to the line.
     pub answer: Column<Answered>,
 }
 
@@ -86,11 +86,11 @@ pub struct PalletRow {
     pub supplier: Gln,
     /// The number of the advice that announced it.
     pub advice: Items<u8>,
-    /// How far it has come.
+    /// Whether it is announced or received.
     pub received: Column<Arrival>,
 }
 
-/// What an advice said of a line of an order to be on a pallet. Key: the pallet's SSCC and the place.
+/// What an advice says is on a pallet, for one order line. Key: the pallet's SSCC and the place.
 #[derive(Debug, Drop)]
 pub struct ContentRow {
     /// The pallet's SSCC.
@@ -120,18 +120,18 @@ pub struct ReceiptRow {
     pub destroyed: u32,
 }
 
-/// A message or cancellation that was accepted. Key: supplier, side and both references.
+/// A message or a cancellation that was accepted. Key: supplier, side and both references.
 #[derive(Debug, Drop)]
 pub struct RememberedRow {
     /// The supplier.
     pub supplier: Gln,
-    /// Whose message it was.
+    /// Whether the retailer or the supplier sent it, or it is a cancellation.
     pub side: Column<Side>,
     /// The control reference of its interchange, or the cancellation's reference, 1 to 14 bytes.
     pub control: Items<u8>,
-    /// The message reference, 1 to 14 bytes; of a cancellation none.
+    /// The message reference, 1 to 14 bytes; empty for a cancellation.
     pub message: Items<u8>,
-    /// What it said: the canonical text of the message from UNH to UNT, or the five lines of the cancellation.
+    /// Its content: the canonical text of the message from UNH to UNT, or the five lines of the cancellation.
     pub content: Items<u8>,
 }
 
@@ -142,9 +142,9 @@ pub struct MailRow {
     pub supplier: Gln,
     /// The entry's number in the mailbox, from 1.
     pub number: u64,
-    /// When the message came.
+    /// When the message arrived.
     pub moment: Moment,
-    /// The decimal mark of its interchange.
+    /// The decimal mark of the message's interchange.
     pub decimal: u8,
     /// The type of the message.
     pub kind: Column<MailKind>,

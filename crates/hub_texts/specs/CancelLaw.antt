@@ -1,4 +1,4 @@
--- When a body says a cancellation, apart from any way to read it.
+-- Defines which bodies are valid cancellations, independently of how they are read.
 use Rattle.std.specs.Prelude.{◌≡◌, ℕ, true, List, [], ◌∷◌, Some}
 use Rattle.std.specs.List.{flat_map}
 use Rattle.edi_envelope.specs.Limits.{is_reference}
@@ -8,13 +8,13 @@ use Rattle.hub_law.specs.Widths.{line}
 use Rattle.hub_law.specs.HubRules.declared.cancel.Cancel.{Cancel}
 use Rattle.hub_texts.specs.Cancel.{positive}
 
--- five fields, each a line
+-- five fields, each on its own line
 abbrev pub five_lines : List ℕ → List ℕ → List ℕ → List ℕ → List ℕ → List ℕ
 five_lines supplier reference order number quantity =
     flat_map (λ field. line (field ∷ [])) (supplier ∷ reference ∷ order ∷ number ∷ quantity ∷ [])
 
--- the body is five lines: the supplier, a GLN; the cancellation's own reference; the order number; and 1 to 6 digits
--- of the line number and 1 to 9 digits of the quantity, neither of them zero
+-- the body has five lines: the supplier, a GLN; the cancellation's own reference; the order number; the line number in
+-- 1 to 6 digits; and the quantity in 1 to 9 digits. Neither number is zero.
 pub record Says (body : List ℕ) (c : Cancel) : Type 0 where
   pub number : List ℕ
   pub quantity : List ℕ

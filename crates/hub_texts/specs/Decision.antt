@@ -1,11 +1,11 @@
--- What is decided of a message or a cancellation, in the words of the laws.
+-- Translates the decision on a message or a cancellation into the result that the laws use.
 use Rattle.edi_messages.specs.Fault as message_faults
 use Rattle.hub_law.specs.HubRules.Code as rules
 use Rattle.hub_law.specs.Told as law
 use Rattle.hub_texts.specs.declared.decision.Decision.{Decision}
 use Rattle.hub_texts.specs.declared.decision.Decision.TheVariants.{Accepted, Repeated, Refused, Unread}
 
--- refused with the code that is printed for the rule, or for the fault of the message
+-- a refusal gets the code that is printed for the rule, or for the fault of the message
 abbrev pub told_of : Decision → law.Told
 told_of Accepted = law.Accepted
 told_of Repeated = law.Repeated

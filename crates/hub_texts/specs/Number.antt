@@ -1,4 +1,4 @@
--- Numbers in requests: of mailbox entries, and of seconds.
+-- Defines how the numbers in requests are read: those of mailbox entries, and seconds.
 use Rattle.std.specs.Prelude.{ℕ, if◌then◌else◌, List, Option, Some, None}
 use Rattle.edi_base.specs.Limits.{are_digits, number_of}
 

@@ -1,4 +1,4 @@
-//! The article that a content of a pallet has.
+//! Finds the article of a content on a pallet.
 ghost use Rattle.std.specs.Prelude.{◌≡◌, ◌==◌, ◌&&◌};
 ghost use Rattle.std.specs.List.{prefix_len};
 ghost use Rattle.hub_tables.specs.Rows.{same};
@@ -9,7 +9,7 @@ ghost use Rattle.hub_texts.specs.Articles as spec;
 use gs1_ids::Gtin;
 use hub_tables::{ContentRow, LineRow};
 
-// Whether a line stands before the one that a content names.
+// Whether a line comes before the one that the content names.
 fn precedes_named(row: &LineRow, content: &ContentRow) -> bool
     ensures { result ≡ spec.precedes_named content.now row.now }
 {
@@ -20,7 +20,7 @@ fn precedes_named(row: &LineRow, content: &ContentRow) -> bool
         .is_lt()
 }
 
-// How many lines stand before the one that a content names.
+// Returns how many lines come before the one that the content names.
 fn count_before(lines: &[LineRow], content: &ContentRow) -> usize
     requires { Rises place_cmp lines.now }
     ensures { result ≡ prefix_len (spec.precedes_named content.now) lines.now }
@@ -28,14 +28,14 @@ fn count_before(lines: &[LineRow], content: &ContentRow) -> usize
     lines.partition_point(|row| precedes_named(row, content))
 }
 
-// Whether a line is the one that a content names.
+// Whether the line is the one that the content names.
 fn is_named(row: &LineRow, content: &ContentRow) -> bool
     ensures { result ≡ (same row.now.number content.now.number && (row.now.line == content.now.line)) }
 {
     row.number.as_slice() == content.number.as_slice() && row.line == content.line
 }
 
-/// The article of the line that a content names.
+/// Returns the article of the line that the content names, or `None` if there is no such line.
 pub(crate) fn article_of(lines: &[LineRow], content: &ContentRow) -> Option<Gtin>
     requires { Rises place_cmp lines.now }
     ensures { result ≡ spec.article_among lines.now content.now }

@@ -1,4 +1,4 @@
-//! Cancellations and their texts.
+//! Reads and writes the texts of cancellations.
 ghost use Rattle.std.specs.Prelude.{◌≡◌, ◌≢◌, ◌++◌, ◌∷◌, ◌≤◌, not, [], None, length, IfOk, OnOk, OnErr};
 ghost use Rattle.std.specs.Fmt.{decimal};
 ghost use Rattle.std.specs.Option.{IfSome, IfNone};
@@ -17,7 +17,7 @@ use hub_law::Cancel;
 use itoa::Buffer;
 use std::alloc::Global;
 
-// Appends a line of a number.
+// Appends a line that has only a number.
 fn put_number_line(out: &mut Vec<u8>, number: u32) -> Result<(), MemoryFault>
     ensures { OnOk result (out.new.items ≡ out.old.items ++ line (decimal number ∷ [])) }
 {
@@ -26,7 +26,8 @@ fn put_number_line(out: &mut Vec<u8>, number: u32) -> Result<(), MemoryFault>
     put_line(out, text.as_bytes())
 }
 
-/// The text of a cancellation, its content where it is remembered: five lines, with numbers without leading zeros.
+/// Returns the text of a cancellation, which is what is remembered of it: five lines, with numbers without leading
+/// zeros.
 pub fn cancel_text(alloc: Global, cancel: &Cancel) -> Result<Items<u8>, MemoryFault>
     ensures { IfOk result (λ text. text ≡ law.cancel_text cancel.now) }
 {
@@ -39,7 +40,7 @@ pub fn cancel_text(alloc: Global, cancel: &Cancel) -> Result<Items<u8>, MemoryFa
     Ok(Items::from_vec(out))
 }
 
-// How many bytes stand before the first end of a line.
+// Returns how many bytes come before the first line end.
 fn line_len(text: &[u8]) -> usize
     ensures within { result ≤ length text.now }
     ensures value { result ≡ prefix_len (λ byte. not (is_end byte)) text.now }
@@ -52,7 +53,7 @@ fn line_len(text: &[u8]) -> usize
     text.len()
 }
 
-// The first line of a text without its end, and what stands after it.
+// Returns the first line of a text without its end, and what follows it; `None` if there is no line end.
 fn first_line(text: &[u8]) -> Option<(&[u8], &[u8])>
     ensures some { IfSome result (λ parts.
         slice_split is_end text.now ≡ parts.0.now ∷ slice_split is_end parts.1.now) }
@@ -75,7 +76,7 @@ struct Fields<'a> {
     quantity: &'a [u8],
 }
 
-// The five lines of a body, where there are so many and nothing after them.
+// Returns the five lines of a body; `None` if it has fewer or more, or anything after the last line end.
 fn fields_of(body: &[u8]) -> Option<Fields<'_>>
     ensures some { IfSome result (λ fields.
         slice_split is_end body.now ≡ fields.supplier.now ∷ fields.reference.now
@@ -99,7 +100,7 @@ fn fields_of(body: &[u8]) -> Option<Fields<'_>>
     })
 }
 
-// The number of 1 to so many digits, which is not zero.
+// Returns the number of 1 to `most` digits, unless it is zero.
 fn positive(most: usize, digits: &[u8]) -> Option<u32>
     requires { most ≤ 9 }
     ensures { result ≡ spec.positive most digits.now }
@@ -111,21 +112,21 @@ fn positive(most: usize, digits: &[u8]) -> Option<u32>
     if number == 0 { None } else { Some(number) }
 }
 
-// Whether these are 1 to 14 bytes of 0x20 to 0x7E.
+// Whether the text has 1 to 14 bytes of 0x20 to 0x7E.
 fn is_reference(bytes: &[u8]) -> bool
     ensures { result ≡ envelope.is_reference bytes.now }
 {
     has_length(1, 14, bytes) && all_printable(bytes)
 }
 
-// Whether these are 1 to 35 bytes of 0x20 to 0x7E.
+// Whether the text has 1 to 35 bytes of 0x20 to 0x7E.
 fn is_document_number(bytes: &[u8]) -> bool
     ensures { result ≡ values.is_document_number bytes.now }
 {
     has_length(1, 35, bytes) && all_printable(bytes)
 }
 
-// The cancellation of five lines.
+// Makes the cancellation of five lines; `None` if one of them breaks its limits.
 fn cancel_with(alloc: Global, fields: &Fields<'_>) -> Result<Option<Cancel>, MemoryFault>
     ensures value { IfOk result (λ found.
         found ≡ spec.cancel_with fields.now.supplier.now fields.now.reference.now fields.now.order.now
@@ -155,9 +156,9 @@ fn cancel_with(alloc: Global, fields: &Fields<'_>) -> Result<Option<Cancel>, Mem
     }))
 }
 
-/// The cancellation that a body says: supplier, reference, order number, line number and quantity, five lines that each
-/// end with a line feed. `None` where one of them is against its limits, or the body is anything else, and that takes no
-/// memory.
+/// Returns the cancellation that a body contains: supplier, reference, order number, line number and quantity, in five
+/// lines that each end with a line feed. Returns `None`, without allocating memory, if one of them breaks its limits or
+/// the body is anything else.
 pub fn read_cancel(alloc: Global, body: &[u8]) -> Result<Option<Cancel>, MemoryFault>
     ensures value { IfOk result (λ found. found ≡ cancel_of body.now) }
     ensures memory { OnErr result (cancel_of body.now ≢ None) }

@@ -1,4 +1,4 @@
-//! What is told of a message or a cancellation.
+//! Defines the decision on a message or a cancellation.
 ghost use Rattle.std.specs.Prelude.{◌≡◌};
 ghost use Rattle.hub_law.specs.Told as law;
 ghost use Rattle.hub_texts.specs.Decision.{told_of};
@@ -6,14 +6,14 @@ ghost use Rattle.hub_texts.specs.Decision.{told_of};
 use edi_messages::MessageFault;
 use hub_law::Code;
 
-/// What is told of a message or a cancellation.
+/// The decision on a message or a cancellation.
 #[derive(Clone, Copy, Debug, PartialEq, Eq)]
 pub enum Decision {
     /// It is accepted.
     Accepted,
-    /// It repeats what was accepted.
+    /// It repeats one that was accepted.
     Repeated,
-    /// It is against a rule.
+    /// It breaks a rule.
     Refused(Code),
     /// The message has a fault.
     Unread(MessageFault),

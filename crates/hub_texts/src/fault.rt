@@ -1,16 +1,16 @@
-//! Why a text of a pallet is not written.
+//! Defines why the text of a pallet cannot be written.
 ghost use Rattle.std.specs.Prelude.{◌≡◌};
 ghost use Rattle.hub_texts.specs.declared.fault.TextFault.TheVariants.{Memory};
 
 use edi_base::MemoryFault;
 use std::alloc::AllocFailed;
 
-/// Why a text of a pallet is not written.
+/// Why the text of a pallet cannot be written.
 #[derive(Clone, Copy, Debug, PartialEq, Eq)]
 pub enum TextFault {
     /// Out of memory.
     Memory,
-    /// A content names no line, or a sum of pieces is past 64 bits.
+    /// A content names no line, or a sum of quantities does not fit 64 bits.
     Unclean,
 }
 

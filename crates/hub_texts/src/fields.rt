@@ -1,4 +1,4 @@
-//! Fields of a line.
+//! Writes the fields of a line.
 ghost use Rattle.std.specs.Prelude.{◌≡◌, ◌≤◌, ◌++◌, ◌∷◌, [], length, take, OnOk};
 ghost use Rattle.std.specs.Fmt.{decimal};
 ghost use Rattle.hub_law.specs.Widths.{blanks, left, line, right};
@@ -6,14 +6,14 @@ ghost use Rattle.hub_law.specs.Widths.{blanks, left, line, right};
 use edi_base::MemoryFault;
 use itoa::write_digits;
 
-/// Blanks to copy, and to write digits over.
+/// Blanks to copy, and to write digits into.
 const BLANKS: [u8; 48] = [b' '; 48];
 
-/// Where such digits end: any number fits before it, behind a blank.
+/// The position where digits end: any number fits before it, after a blank.
 const FIELD: usize = 24;
 
-// Appends the first bytes of a slice, so many. It copies all of them and cuts off the rest, since a copy of a known
-// size takes a few moves, and another one a call.
+// Appends the first `count` bytes of a slice. It copies the whole slice and cuts off the rest, because a copy of a
+// fixed size takes a few moves, and any other copy takes a call.
 #[inline]
 fn put_first(out: &mut Vec<u8>, bytes: &[u8], count: usize) -> Result<(), MemoryFault>
     requires { count ≤ length bytes.now }
@@ -24,7 +24,7 @@ fn put_first(out: &mut Vec<u8>, bytes: &[u8], count: usize) -> Result<(), Memory
     Ok(())
 }
 
-// Appends so many blanks, one by one.
+// Appends `count` blanks, one by one.
 fn put_many_blanks(out: &mut Vec<u8>, count: usize) -> Result<(), MemoryFault>
     ensures { OnOk result (out.new.items ≡ out.old.items ++ blanks count) }
 {
@@ -34,7 +34,7 @@ fn put_many_blanks(out: &mut Vec<u8>, count: usize) -> Result<(), MemoryFault>
     Ok(())
 }
 
-/// Appends so many blanks.
+/// Appends `count` blanks.
 pub(crate) fn put_blanks(out: &mut Vec<u8>, count: usize) -> Result<(), MemoryFault>
     ensures { OnOk result (out.new.items ≡ out.old.items ++ blanks count) }
 {
@@ -53,7 +53,7 @@ pub(crate) fn put_next(out: &mut Vec<u8>, field: &[u8]) -> Result<(), MemoryFaul
     Ok(())
 }
 
-/// Appends a field at the left of so many places, after another one.
+/// Appends a field, left-aligned in `width` columns, after another one.
 pub(crate) fn put_left(out: &mut Vec<u8>, width: usize, field: &[u8]) -> Result<(), MemoryFault>
     ensures { OnOk result (out.new.items ≡ out.old.items ++ 0x20 ∷ left width field.now) }
 {
@@ -62,7 +62,7 @@ pub(crate) fn put_left(out: &mut Vec<u8>, width: usize, field: &[u8]) -> Result<
     Ok(())
 }
 
-/// Appends a field at the right of so many places.
+/// Appends a field, right-aligned in `width` columns.
 pub(crate) fn put_right(out: &mut Vec<u8>, width: usize, field: &[u8]) -> Result<(), MemoryFault>
     ensures { OnOk result (out.new.items ≡ out.old.items ++ right width field.now) }
 {
@@ -71,7 +71,7 @@ pub(crate) fn put_right(out: &mut Vec<u8>, width: usize, field: &[u8]) -> Result
     Ok(())
 }
 
-// Appends a number at the right of so many places, after a gap of one blank or none.
+// Appends a number, right-aligned in `width` columns, after `gap` blanks.
 fn put_digits(out: &mut Vec<u8>, gap: usize, width: usize, number: u64) -> Result<(), MemoryFault>
     requires { gap ≤ 1 }
     ensures { OnOk result (out.new.items ≡ out.old.items ++ (blanks gap ++ right width (decimal number))) }
@@ -86,7 +86,7 @@ fn put_digits(out: &mut Vec<u8>, gap: usize, width: usize, number: u64) -> Resul
     put_first(out, &field[from..from + FIELD], FIELD - from)
 }
 
-/// Appends a number at the right of so many places.
+/// Appends a number, right-aligned in `width` columns.
 pub(crate) fn put_first_number(
     out: &mut Vec<u8>,
     width: usize,
@@ -97,14 +97,14 @@ pub(crate) fn put_first_number(
     put_digits(out, 0, width, number)
 }
 
-/// Appends a number at the right of so many places, after a field.
+/// Appends a number, right-aligned in `width` columns, after another field.
 pub(crate) fn put_number(out: &mut Vec<u8>, width: usize, number: u64) -> Result<(), MemoryFault>
     ensures { OnOk result (out.new.items ≡ out.old.items ++ 0x20 ∷ right width (decimal number)) }
 {
     put_digits(out, 1, width, number)
 }
 
-/// Appends a line of one field.
+/// Appends a line that has only one field.
 pub(crate) fn put_line(out: &mut Vec<u8>, field: &[u8]) -> Result<(), MemoryFault>
     ensures { OnOk result (out.new.items ≡ out.old.items ++ line (field.now ∷ [])) }
 {

@@ -1,5 +1,5 @@
-//! Laws of the body of a cancellation, and of the lines in a status report, each the contract of a function without a
-//! body.
+//! States laws of the body of a cancellation, and of the lines in a status report, each as the contract of a function
+//! without a body.
 ghost use Rattle.std.specs.Prelude.{◌≡◌, ◌↔◌, ℕ, List, Some};
 ghost use Rattle.std.specs.List.{AllByRecursion};
 ghost use Rattle.hub_parties.specs.declared.row.SupplierRow.{SupplierRow};
@@ -12,15 +12,15 @@ ghost use Rattle.hub_law.specs.HubRules.declared.cancel.Cancel.{Cancel};
 ghost use Rattle.hub_texts.specs.Cancel.{cancel_of};
 ghost use Rattle.hub_texts.specs.CancelLaw.{Says};
 
-/// A body says a cancellation exactly where it is five lines within their limits that give the cancellation's fields,
-/// the numbers perhaps with leading zeros.
+/// A body is read as a cancellation exactly if it is five lines within their limits that give the cancellation's
+/// fields, with or without leading zeros in the numbers.
 pub fn cancel_is_five_lines()
     ensures read { (body : List ℕ) (c : Cancel) → Says body c → cancel_of body ≡ Some c }
     ensures said { (body : List ℕ) (c : Cancel) → cancel_of body ≡ Some c → Says body c }
 {}
 
-/// The text of a cancellation that some body says is read as that cancellation. So two bodies have the same content
-/// exactly where they say the same.
+/// The text of a cancellation that was read from a body is read as the same cancellation. So two bodies have the same
+/// content exactly if they give the same cancellation.
 pub fn cancel_is_written_back()
     ensures back { (body : List ℕ) (c : Cancel) → cancel_of body ≡ Some c →
         cancel_of (cancel_text c) ≡ Some c }
@@ -29,8 +29,8 @@ pub fn cancel_is_written_back()
         (cancel_text c ≡ cancel_text d) ↔ (c ≡ d) }
 {}
 
-/// What `with_lines` and `with_pallet` ask of lines is there: of sound tables, the lines that a supplier sees rise by
-/// order number and line number, and each is balanced.
+/// Sound tables meet what `with_lines` and `with_pallet` require: the lines that a supplier sees rise by order number
+/// and line number, and each is balanced.
 pub fn status_is_given_what_it_asks()
     ensures rise { (suppliers : List SupplierRow) (gln : List ℕ) (t : Tables) →
         Sound suppliers t → Rises place_cmp (view gln t).lines }

@@ -1,5 +1,5 @@
-//! The texts of a hub's replies, from rows and records: lines of replies, mailbox entries and lists of them, the status
-//! report, and cancellations, which are read here too.
+//! Writes the texts of a hub's replies from rows and records: lines of replies, mailbox entries and lists of them, and
+//! the status report. Also reads and writes cancellations.
 #![tactic(auto)]
 
 mod articles;

@@ -1,4 +1,4 @@
-//! The lines of orders in the status report.
+//! Writes the order lines of the status report.
 ghost use Rattle.std.specs.Prelude.{◌≡◌, ◌++◌, IfOk, OnOk};
 ghost use Rattle.std.specs.List.{AllByRecursion, flat_map};
 ghost use Rattle.hub_tables.specs.Tables.{Tables};
@@ -10,7 +10,7 @@ use crate::fields::{put_end, put_left, put_next, put_number};
 use edi_base::MemoryFault;
 use hub_tables::LineRow;
 
-// What of a line is neither open nor refused nor cancelled.
+// Returns what is neither open nor refused nor cancelled of a line.
 fn rest_of(row: &LineRow) -> u32
     ensures { result ≡ spec.rest_of row.now }
 {
@@ -66,8 +66,8 @@ fn put_rows(out: &mut Vec<u8>, rows: &[LineRow]) -> Result<(), MemoryFault>
     Ok(())
 }
 
-/// A text with the lines of the status report behind it for lines of orders, each of which is balanced: what of a line is
-/// despatched is what is neither open nor refused nor cancelled. Where memory runs out the text is gone.
+/// Appends the status report's lines for order lines to a text. Each order line must be balanced: what is despatched of
+/// it is what is neither open nor refused nor cancelled. If memory runs out, the text is lost.
 pub fn with_lines(lines: &[LineRow], text: Vec<u8>) -> Result<Vec<u8>, MemoryFault>
     ensures { (state : Tables) → AllByRecursion (Balanced state) lines.now →
         IfOk result (λ whole. whole.items ≡ text.items ++ flat_map (line_text state) lines.now) }

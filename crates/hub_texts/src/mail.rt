@@ -1,4 +1,4 @@
-//! Mailbox entries, and lists of them.
+//! Writes mailbox entries and lists of them.
 ghost use Rattle.std.specs.Prelude.{◌≡◌, ◌+◌, ◌++◌, List, codes, length, map, nat_lt, take, if◌then◌else◌, IfOk, OnOk};
 ghost use Rattle.std.specs.List.{flat_map};
 ghost use Rattle.edi_moment.specs.Moment.{date_text, time_text};
@@ -17,13 +17,12 @@ use hub_tables::{MailKind, MailRow};
 use itoa::Buffer;
 use std::alloc::Global;
 
-/// How many entries a list has at most.
+/// The most entries that a list shows.
 pub const LIST_LIMIT: usize = 100;
 
-/// How many bytes of an entry stand round its message at most: the service string, UNB and UNZ.
+/// The most bytes that an entry has beside its message: the service string, UNB and UNZ.
 const FRAME: usize = 114;
 
-// The type of an entry's message.
 fn type_of(head: &MailHead) -> &'static str
     ensures { result.now ≡ spec.type_of head.now.kind }
 {
@@ -54,7 +53,7 @@ fn put_heads(out: &mut Vec<u8>, heads: &[MailHead]) -> Result<(), MemoryFault>
     Ok(())
 }
 
-// The entries that a list has.
+// Returns the entries that a list shows.
 fn listed(heads: &[MailHead]) -> &[MailHead]
     ensures { result.now ≡ take spec.list_limit heads.now }
 {
@@ -65,7 +64,7 @@ fn listed(heads: &[MailHead]) -> &[MailHead]
     }
 }
 
-// The word that ends a list.
+// Returns the word that ends a list.
 fn last_word(heads: &[MailHead]) -> &'static str
     ensures { result.now ≡ (if nat_lt spec.list_limit (length heads.now) then codes "more" else codes "end") }
 {
@@ -76,7 +75,8 @@ fn last_word(heads: &[MailHead]) -> &'static str
     }
 }
 
-/// The list of the entries of a mailbox that are not taken, by what it shows of the first of them: one more than a list has.
+/// Returns the list of a mailbox's entries that are not taken. `heads` gives what the list shows of the first of them,
+/// and of one more than the list's limit if there are that many.
 pub fn list_text(alloc: Global, heads: &[MailHead]) -> Result<Items<u8>, MemoryFault>
     ensures { IfOk result (λ text. (all : List MailRow) →
         take (spec.list_limit + 1) (map head_of all) ≡ heads.now → text ≡ spec.list_text all) }
@@ -124,7 +124,8 @@ fn put_trailer(out: &mut Vec<u8>, number: &[u8]) -> Result<(), MemoryFault>
     Ok(())
 }
 
-/// The text of a mailbox entry: the hub's interchange to its owner, with its moment, number and decimal mark.
+/// Returns the text of a mailbox entry: an interchange from the hub to its owner, with the entry's moment, number and
+/// decimal mark.
 pub fn entry_text(alloc: Global, hub: &Gln, entry: &MailRow) -> Result<Items<u8>, MemoryFault>
     ensures { IfOk result (λ text. text ≡ spec.entry_text hub.now entry.now) }
 {

@@ -1,4 +1,4 @@
-//! The pallets in the status report.
+//! Writes the pallets of the status report.
 ghost use Rattle.std.specs.Prelude.{◌≡◌, ◌+◌, ◌++◌, ◌∷◌, Err, IfOk, OnOk};
 ghost use Rattle.std.specs.Fmt.{decimal};
 ghost use Rattle.std.specs.List.{flat_map};
@@ -21,14 +21,13 @@ use hub_tables::{Arrival, ContentRow, LineRow, PalletRow, ReceiptRow};
 use itoa::Buffer;
 use std::alloc::Global;
 
-// Whether a pallet is announced.
 fn is_announced(pallet: &PalletRow) -> bool
     ensures { result ≡ is_announced pallet.now }
 {
     pallet.received.case() == Arrival::Announced
 }
 
-// The letter of a pallet's arrival.
+// Returns the letter of a pallet's state.
 fn letter_of(pallet: &PalletRow) -> &'static str
     ensures { result.now ≡ law.arrival_text pallet.now }
 {
@@ -39,7 +38,7 @@ fn letter_of(pallet: &PalletRow) -> &'static str
     }
 }
 
-// Appends a number with its sign at the right of 15 places, after a field.
+// Appends a number with its sign, right-aligned in 15 columns, after another field.
 fn put_signed(out: &mut Vec<u8>, sign: u8, number: u128) -> Result<(), MemoryFault>
     ensures { OnOk result (out.new.items ≡ out.old.items ++ 0x20 ∷ right 15 (sign ∷ decimal number)) }
 {
@@ -52,7 +51,7 @@ fn put_signed(out: &mut Vec<u8>, sign: u8, number: u128) -> Result<(), MemoryFau
     Ok(())
 }
 
-// Appends the difference of what is received and what is despatched.
+// Appends the difference between what is received and what is despatched.
 fn put_difference(
     out: &mut Vec<u8>,
     pallet: &PalletRow,
@@ -71,7 +70,7 @@ fn put_difference(
     }
 }
 
-// Appends the beginning of an article's line, up to the arrival.
+// Appends the beginning of an article's line, up to the pallet's state.
 fn put_article_start(out: &mut Vec<u8>, pallet: &PalletRow, gtin: &Gtin) -> Result<(), MemoryFault>
     ensures { OnOk result (out.new.items ≡ out.old.items ++ spec.article_start pallet.now gtin.now) }
 {
@@ -93,7 +92,7 @@ fn put_totals(out: &mut Vec<u8>, totals: &Totals) -> Result<(), MemoryFault>
     Ok(())
 }
 
-// What is received of an article in all.
+// Returns all that is received of an article.
 fn received(totals: &Totals) -> u128
     ensures { result ≡ totals.now.accepted + totals.now.returned + totals.now.destroyed }
 {
@@ -131,9 +130,9 @@ fn put_articles(
     Ok(())
 }
 
-/// A text with the lines of the status report behind it for a pallet with its contents and receipts, among all lines of
-/// its supplier. `Unclean` where a content names none of the lines, or a sum of pieces is past 64 bits. At a fault the text
-/// is gone.
+/// Appends the status report's lines for a pallet with its contents and receipts to a text; `lines` are all lines of
+/// its supplier. Fails with `Unclean` if a content names none of the lines, or if a sum of quantities does not fit 64
+/// bits. After a fault, the text is lost.
 pub fn with_pallet(
     alloc: Global,
     lines: &[LineRow],

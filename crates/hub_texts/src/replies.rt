@@ -1,4 +1,4 @@
-//! The lines of replies to uploads and cancellations.
+//! Writes the lines of replies to uploads and cancellations.
 ghost use Rattle.std.specs.Prelude.{◌≡◌, ◌++◌, ◌∷◌, [], codes, IfOk, OnOk};
 ghost use Rattle.hub_law.specs.Replies as spec;
 ghost use Rattle.hub_law.specs.Replies.{told_words};
@@ -12,10 +12,10 @@ use edi_envelope::{Interchange, RawMessage};
 use itoa::Buffer;
 use std::alloc::Global;
 
-/// The line of what is stopped.
+/// The line that reports a stop.
 pub const STOPPED: &[u8] = b"stopped\n";
 
-// Appends the line that tells a refusal with its code.
+// Appends the line that reports a refusal with its code.
 fn put_refused(out: &mut Vec<u8>, code: &str) -> Result<(), MemoryFault>
     ensures { OnOk result (out.new.items ≡ out.old.items ++ line (codes "refused" ∷ code.now ∷ [])) }
 {
@@ -25,7 +25,7 @@ fn put_refused(out: &mut Vec<u8>, code: &str) -> Result<(), MemoryFault>
     Ok(())
 }
 
-// Appends the line of what is told.
+// Appends the line that reports a decision.
 fn put_told(out: &mut Vec<u8>, told: Decision) -> Result<(), MemoryFault>
     ensures { OnOk result (out.new.items ≡ out.old.items ++ line (told_words (told_of told))) }
 {
@@ -37,7 +37,7 @@ fn put_told(out: &mut Vec<u8>, told: Decision) -> Result<(), MemoryFault>
     }
 }
 
-/// The first line of the reply to an upload: the reference of its interchange, and how many messages it has.
+/// Returns the first line of the reply to an upload: the reference of its interchange, and how many messages it has.
 pub fn interchange_line(alloc: Global, interchange: &Interchange) -> Result<Vec<u8>, MemoryFault>
     ensures { IfOk result (λ text. text.items ≡ spec.interchange_line interchange.now) }
 {
@@ -51,7 +51,7 @@ pub fn interchange_line(alloc: Global, interchange: &Interchange) -> Result<Vec<
     Ok(out)
 }
 
-/// The line of a message in the reply to its upload: its reference, its type, and what is told of it.
+/// Returns the line of a message in the reply to its upload: its reference, its type and the decision.
 pub fn message_line(
     alloc: Global,
     message: &RawMessage,
@@ -67,7 +67,7 @@ pub fn message_line(
     Ok(out)
 }
 
-/// The line that tells what becomes of a cancellation.
+/// Returns the line that reports the decision on a cancellation.
 pub fn told_line(alloc: Global, told: Decision) -> Result<Items<u8>, MemoryFault>
     ensures { IfOk result (λ text. text ≡ line (told_words (told_of told))) }
 {
@@ -76,7 +76,7 @@ pub fn told_line(alloc: Global, told: Decision) -> Result<Items<u8>, MemoryFault
     Ok(Items::from_vec(text))
 }
 
-/// The line that tells a refusal with its code.
+/// Returns the line that reports a refusal with its code.
 pub fn refused_line(alloc: Global, code: &str) -> Result<Items<u8>, MemoryFault>
     ensures { IfOk result (λ text. text ≡ line (codes "refused" ∷ code.now ∷ [])) }
 {

@@ -1,4 +1,4 @@
-//! What is announced and received of the articles on a pallet.
+//! Totals what is announced and received of the articles on a pallet.
 ghost use Rattle.std.specs.Prelude.{◌≡◌, ◌+◌, ◌^◌, ◌≤◌, List, [], Err, sum_by, IfOk, IfErr, OnOk, OnErr};
 ghost use Rattle.std.specs.BTreeMap.{insert_entry};
 ghost use Rattle.hub_parties.specs.KeyOrder.{bytes_cmp, Rises};
@@ -14,7 +14,7 @@ use hub_tables::{ContentRow, LineRow, ReceiptRow};
 use std::alloc::Global;
 use std::collections::BTreeMap;
 
-/// What is announced and received of an article on a pallet, in pieces.
+/// The quantities of an article on a pallet that are announced and received, in pieces.
 #[derive(Clone, Copy, Debug)]
 pub(crate) struct Totals {
     pub(crate) despatched: u64,
@@ -26,7 +26,7 @@ pub(crate) struct Totals {
 /// Totals by article.
 pub(crate) type ArticleTotals = BTreeMap<Gtin, Totals>;
 
-// The totals of an article; nothing where it has none.
+// Returns the totals of an article, all zero if it has none.
 fn totals_of(table: &ArticleTotals, gtin: &Gtin) -> Totals
     ensures { result ≡ spec.totals_at table.now.entries gtin.now }
 {
@@ -41,7 +41,7 @@ fn totals_of(table: &ArticleTotals, gtin: &Gtin) -> Totals
     }
 }
 
-// A sum, where it fits in 64 bits.
+// Returns the sum, or `Unclean` if it does not fit 64 bits.
 fn sum_of(first: u64, second: u64) -> Result<u64, TextFault>
     ensures ok { IfOk result (λ sum. sum ≡ first + second) }
     ensures err { OnErr result (2 ^ 64 ≤ first + second) }
@@ -52,7 +52,7 @@ fn sum_of(first: u64, second: u64) -> Result<u64, TextFault>
     }
 }
 
-// Totals with one content more.
+// Adds one content to the totals.
 fn with_content(totals: Totals, content: &ContentRow) -> Result<Totals, TextFault>
     ensures ok { IfOk result (λ more. more ≡ spec.with_content content.now totals) }
     ensures err { OnErr result (2 ^ 64 ≤ totals.despatched + content.now.quantity) }
@@ -65,7 +65,7 @@ fn with_content(totals: Totals, content: &ContentRow) -> Result<Totals, TextFaul
     })
 }
 
-// Totals with one receipt more.
+// Adds one receipt to the totals.
 fn with_receipt(totals: Totals, receipt: &ReceiptRow) -> Result<Totals, TextFault>
     ensures ok { IfOk result (λ more. more ≡ spec.with_receipt receipt.now totals) }
     ensures err { OnErr result (2 ^ 64 ≤ spec.received totals + spec.pieces_of receipt.now) }
@@ -78,7 +78,6 @@ fn with_receipt(totals: Totals, receipt: &ReceiptRow) -> Result<Totals, TextFaul
     })
 }
 
-// Sets the totals of an article.
 fn set_totals(table: &mut ArticleTotals, gtin: Gtin, totals: Totals) -> Result<(), TextFault>
     ensures ok { OnOk result (table.new.entries ≡ insert_entry bytes_cmp table.old.entries gtin totals) }
     ensures err { IfErr result (λ fault. fault ≡ Memory) }
@@ -87,7 +86,7 @@ fn set_totals(table: &mut ArticleTotals, gtin: Gtin, totals: Totals) -> Result<(
     Ok(())
 }
 
-// Counts a content.
+// Adds a content to the totals of its article.
 fn count_content(
     table: &mut ArticleTotals,
     lines: &[LineRow],
@@ -105,7 +104,7 @@ fn count_content(
     set_totals(table, gtin, totals)
 }
 
-// Counts a receipt.
+// Adds a receipt to the totals of its article.
 fn count_receipt(table: &mut ArticleTotals, receipt: &ReceiptRow) -> Result<(), TextFault>
     ensures ok { OnOk result (table.new.entries ≡ spec.count_receipt receipt.now table.old.entries) }
     ensures unclean { result ≡ Err Unclean →
@@ -116,7 +115,7 @@ fn count_receipt(table: &mut ArticleTotals, receipt: &ReceiptRow) -> Result<(), 
     set_totals(table, gtin, totals)
 }
 
-// Counts receipts of a pallet, from the last one on.
+// Adds the receipts of a pallet, beginning with the last.
 fn count_receipts(table: &mut ArticleTotals, receipts: &[ReceiptRow]) -> Result<(), TextFault>
     requires { table.old.entries ≡ [] }
     ensures ok { (lines : List LineRow) →
@@ -131,7 +130,7 @@ fn count_receipts(table: &mut ArticleTotals, receipts: &[ReceiptRow]) -> Result<
     Ok(())
 }
 
-// Counts contents of a pallet with these receipts, from the last one on.
+// Adds the contents of a pallet with these receipts, beginning with the last.
 fn count_contents(
     table: &mut ArticleTotals,
     lines: &[LineRow],
@@ -151,8 +150,8 @@ fn count_contents(
     Ok(())
 }
 
-/// The articles on a pallet with their totals, by their digits. The time grows with contents and receipts, times a
-/// logarithm of these and of the lines.
+/// Returns the articles on a pallet with their totals, in the order of their digits. The time grows with the number of
+/// contents and receipts, times a logarithm of that number and of the number of lines.
 pub(crate) fn article_totals(
     alloc: Global,
     lines: &[LineRow],

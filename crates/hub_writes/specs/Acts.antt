@@ -1,4 +1,4 @@
--- What the statements of some changes do inside a transaction.
+-- Defines what the statements for a list of changes do inside a transaction.
 use Rattle.std.specs.Prelude.{◌≡◌, ◌⊎◌, ◌↔◌, ◌^◌, ◌++◌, ◌∷◌, nat_le, Bool, true, false, ◌||◌, IsTrue, List, Result}
 use Rattle.std.specs.Prelude.{Err, OnOk, OnErr}
 use Rattle.std.specs.List.{list_any}
@@ -15,18 +15,18 @@ use Rattle.hub_store.specs.declared.fault.StoreFault.TheVariants.{Unclean}
 use Rattle.hub_schema.specs.Rows.{tables_in}
 use Rattle.hub_schema.specs.State.{IsHub, IsUndone, Makes, Never, ShowsTheSame}
 
--- a place, and an entry, whose number SQL has not
+-- whether a content's place, or a mailbox entry's number, is too large for SQL
 abbrev pub great_place : ContentRow → Bool
 great_place row = nat_le (2 ^ 63) row.place
 
 abbrev pub great_entry : MailRow → Bool
 great_entry row = nat_le (2 ^ 63) row.number
 
--- some row has such a number
+-- whether some row has such a number
 abbrev pub has_great : Tables → Bool
 has_great t = list_any great_place t.contents || list_any great_entry t.mail
 
--- some first changes are made, nothing of the one behind them, which failed, and none of the others
+-- the changes before the failed one are made; the failed one and those after it have no effect
 pub record MakesFirst (changes : List Change) (old new : State) : Type 0 where
   pub made : List Change
   pub failed : Change
@@ -35,10 +35,10 @@ pub record MakesFirst (changes : List Change) (old new : State) : Type 0 where
   pub makes : IsHub old → Makes (apply_all made) old new
   pub is_open : new.is_open ≡ old.is_open
 
--- At Ok all changes are made, in the transaction alone, they fit, and each row that is set had one in its place. `Unclean` comes
--- where a key is there that is to be added, where a row is to be set that is not there, or where SQL does not
--- have a number. After a fault the transaction stands with the changes before the one that failed, or it is undone; where it had
--- ended before, nothing is done at all. At no time is anything committed.
+-- At Ok all changes are made, but only inside the transaction; they fit, and each row that is set existed before.
+-- `Unclean` means that a key to be added exists already, that a row to be set does not exist, or that a number is too
+-- large for SQL. After a fault the transaction is still open with the changes before the failed one, or it is undone;
+-- if it had ended before, nothing is done at all. Nothing is committed at any time.
 pub record Acts (changes : List Change) (old new : State) (result : Result (Unit {0}) StoreFault) : Type 0 where
   pub makes : HasCleanDisk new → IsHub old → IsTrue old.in_transaction → OnOk result (Makes (apply_all changes) old new)
   pub places :
@@ -59,7 +59,7 @@ pub record Acts (changes : List Change) (old new : State) (result : Result (Unit
   pub kept : HasCleanDisk new → KeepsCommit old new
   pub survives : Survives old new Never
 
--- some of the changes are made, and these are left
+-- some of the changes are made, and `left` are still to be made
 pub record IsUnderWay (all left : List Change) (old now : State) : Type 0 where
   pub hub : IsHub now
   pub tables : apply_all left (tables_in now.now.trees) ≡ apply_all all (tables_in old.now.trees)

@@ -1,4 +1,4 @@
--- What an error of SQL means for a change.
+-- Defines which store fault an SQL error means for a change.
 use Rattle.std.specs.Prelude.{ℕ, ◌==◌, if◌then◌else◌, Result, Ok, Err}
 use Rattle.sqlite.specs.declared.error.Error.{Error}
 use Rattle.sqlite.specs.declared.error.Error.TheVariants.{SqliteFailure}
@@ -8,13 +8,13 @@ use Rattle.hub_store.specs.declared.fault.StoreFault.{StoreFault}
 use Rattle.hub_store.specs.declared.fault.StoreFault.TheVariants.{Memory, Disk, Unclean}
 pub use Rattle.hub_schema.specs.Faults.{fault_of}
 
--- a row whose key is there does not fit
+-- a row whose key exists already does not fit
 abbrev pub refusal_of : Error → StoreFault
 refusal_of (SqliteFailure code.OutOfMemory) = Memory
 refusal_of (SqliteFailure (code.ConstraintViolation Unique)) = Unclean
 refusal_of _ = Disk
 
--- what an INSERT, and what a statement without effect or a COMMIT comes to
+-- the result of an INSERT; and of a COMMIT or a statement whose effect is not counted
 abbrev pub inserted : Result ℕ Error → Result (Unit {0}) StoreFault
 inserted (Ok count) = Ok tt
 inserted (Err e) = Err (refusal_of e)
@@ -23,7 +23,7 @@ abbrev pub ended : {X : Type 0} → Result X Error → Result (Unit {0}) StoreFa
 ended (Ok x) = Ok tt
 ended (Err e) = Err (fault_of e)
 
--- what an UPDATE comes to that is to meet a row
+-- the result of an UPDATE that must find a row
 abbrev pub placed : Result ℕ Error → Result (Unit {0}) StoreFault
 placed (Ok count) = if count == 0 then Err Unclean else Ok tt
 placed (Err e) = Err (fault_of e)

@@ -1,4 +1,4 @@
--- A pallet as the values of a statement.
+-- Defines the values that a statement binds for a pallet.
 use Rattle.std.specs.Prelude.{◌<◌, ◌^◌, pos, [], ◌∷◌}
 use Rattle.sqlite_value.specs.declared.value.Value.TheVariants.{Int, Blob}
 use Rattle.sqlite_value.specs.Order.{Row}
@@ -8,6 +8,6 @@ use Rattle.hub_tables.specs.declared.rows.PalletRow.{PalletRow}
 abbrev pub cells : PalletRow → Row
 cells row = Blob row.sscc ∷ Blob row.supplier ∷ Blob row.advice ∷ Int (pos row.received) ∷ []
 
--- its numbers are those of a u64
+-- its number fits a u64
 abbrev pub IsLow : PalletRow → Type 0
 IsLow row = row.received < 2 ^ 64

@@ -1,4 +1,4 @@
--- The hub's row and the keys of suppliers as the values of a statement.
+-- Defines the values that a statement binds for the hub's row and for a supplier's key.
 use Rattle.std.specs.Prelude.{[], ◌∷◌}
 use Rattle.sqlite_value.specs.declared.value.Value.TheVariants.{Blob}
 use Rattle.sqlite_value.specs.Order.{Row}

@@ -1,4 +1,4 @@
-//! Despatch advices.
+//! Writes despatch advices.
 ghost use Rattle.std.specs.Prelude.{◌≡◌, ◌∷◌, []};
 ghost use Rattle.sqlite.specs.Held.{state};
 ghost use Rattle.hub_tables.specs.declared.change.Change.TheVariants.{AddAdvice};

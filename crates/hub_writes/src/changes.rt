@@ -1,4 +1,4 @@
-//! Changes, one statement each.
+//! Makes changes, each with one statement.
 ghost use Rattle.std.specs.Prelude.{◌≡◌, ◌∷◌, [], IsTrue, OnOk};
 ghost use Rattle.sqlite.specs.Held.{state};
 ghost use Rattle.sqlite.specs.State.{HasCleanDisk};
@@ -18,7 +18,7 @@ use hub_store::StoreFault;
 use hub_tables::Change;
 use sqlite::{Alter, Transaction};
 
-/// Whether the connection is open, told by a statement that does nothing.
+/// Runs a statement that does nothing, which fails if the connection is not open.
 fn touch<S: Alter>(tx: &mut Transaction<'_, S>) -> Result<(), StoreFault>
     ensures same_reference { tx.new.conn.ghost_name ≡ tx.old.conn.ghost_name }
     ensures acts { Acts [] (state S.Store tx.old.conn.now) (state S.Store tx.new.conn.now) result }
@@ -56,7 +56,7 @@ pub fn apply<S: Alter>(tx: &mut Transaction<'_, S>, change: &Change) -> Result<(
     }
 }
 
-/// Makes the changes in their order, up to the first that fails.
+/// Makes the changes in order, up to the first that fails.
 pub fn apply_all<S: Alter>(
     tx: &mut Transaction<'_, S>,
     changes: &[Change],

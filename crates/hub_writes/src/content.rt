@@ -1,4 +1,4 @@
-//! Contents of pallets.
+//! Writes contents of pallets.
 ghost use Rattle.std.specs.Prelude.{◌≡◌, ◌∷◌, []};
 ghost use Rattle.sqlite.specs.Held.{state};
 ghost use Rattle.hub_tables.specs.declared.change.Change.TheVariants.{AddContent};

@@ -1,4 +1,4 @@
-//! What errors of SQL mean for the hub.
+//! Maps the results of statements, and their errors, to faults of the store.
 ghost use Rattle.std.specs.Prelude.{◌≡◌};
 ghost use Rattle.hub_writes.specs.Faults.{refusal_of, inserted, placed, ended};
 
@@ -7,7 +7,7 @@ use hub_store::StoreFault;
 use sqlite::{Error, ErrorCode};
 use sqlite_schema::schema::Constraint;
 
-/// A row whose key is there does not fit.
+/// Returns the fault for an error; a row whose key exists already does not fit.
 fn refusal_by(error: &Error) -> StoreFault
     ensures { result ≡ refusal_of error.now }
 {
@@ -19,7 +19,7 @@ fn refusal_by(error: &Error) -> StoreFault
     }
 }
 
-/// What an INSERT comes to.
+/// Returns the result of an INSERT.
 pub(crate) fn insert_ended(given: Result<usize, Error>) -> Result<(), StoreFault>
     ensures { result ≡ inserted given }
 {
@@ -29,7 +29,7 @@ pub(crate) fn insert_ended(given: Result<usize, Error>) -> Result<(), StoreFault
     }
 }
 
-/// What an UPDATE comes to that is to meet a row: one that meets none does not fit.
+/// Returns the result of an UPDATE that must find a row: `Unclean` if it finds none.
 pub(crate) fn update_ended(given: Result<usize, Error>) -> Result<(), StoreFault>
     ensures { result ≡ placed given }
 {
@@ -40,7 +40,7 @@ pub(crate) fn update_ended(given: Result<usize, Error>) -> Result<(), StoreFault
     }
 }
 
-/// What a statement comes to whatever rows it met.
+/// Returns the result of a statement that may find any number of rows.
 pub(crate) fn statement_ended(given: Result<usize, Error>) -> Result<(), StoreFault>
     ensures { result ≡ ended given }
 {
@@ -50,7 +50,7 @@ pub(crate) fn statement_ended(given: Result<usize, Error>) -> Result<(), StoreFa
     }
 }
 
-/// What a call without a count comes to: the making of tables, or a COMMIT.
+/// Returns the result of a call that gives no count: making tables, or a COMMIT.
 pub(crate) fn call_ended(given: Result<(), Error>) -> Result<(), StoreFault>
     ensures { result ≡ ended given }
 {

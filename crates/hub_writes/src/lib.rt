@@ -1,4 +1,5 @@
-//! Changes of the hub's tables as statements of SQL; all changes of a commit, and a founding, in one transaction.
+//! Writes changes of the hub's tables with SQL statements; all changes of a commit, or of a founding, in one
+//! transaction.
 #![tactic(auto)]
 
 mod advice;

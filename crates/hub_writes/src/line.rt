@@ -1,4 +1,4 @@
-//! Lines of orders.
+//! Writes order lines.
 ghost use Rattle.std.specs.Prelude.{◌≡◌, ◌∷◌, []};
 ghost use Rattle.sqlite.specs.Held.{state};
 ghost use Rattle.hub_tables.specs.declared.change.Change.TheVariants.{AddLine, SetLine};
@@ -13,7 +13,7 @@ use hub_tables::LineRow;
 use sqlite::{Alter, Transaction};
 use sqlite_value::value::ValueRef;
 
-// The values of a line.
+// Returns the values of a line.
 fn cells(row: &LineRow) -> [ValueRef<'_>; 9]
     ensures cells { bound result ≡ spec.cells row.now }
     ensures low { spec.IsLow row.now }
@@ -32,7 +32,7 @@ fn cells(row: &LineRow) -> [ValueRef<'_>; 9]
     ]
 }
 
-/// Adds a line of an order.
+/// Adds an order line.
 pub fn add_line<S: Alter>(tx: &mut Transaction<'_, S>, row: &LineRow) -> Result<(), StoreFault>
     ensures same_reference { tx.new.conn.ghost_name ≡ tx.old.conn.ghost_name }
     ensures acts { Acts (AddLine row.now ∷ [])
@@ -45,7 +45,7 @@ pub fn add_line<S: Alter>(tx: &mut Transaction<'_, S>, row: &LineRow) -> Result<
     ))
 }
 
-/// Sets what stands under the key of a line.
+/// Replaces the values of the line with this key.
 pub fn set_line<S: Alter>(tx: &mut Transaction<'_, S>, row: &LineRow) -> Result<(), StoreFault>
     ensures same_reference { tx.new.conn.ghost_name ≡ tx.old.conn.ghost_name }
     ensures acts { Acts (SetLine row.now ∷ [])

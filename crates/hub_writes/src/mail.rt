@@ -1,4 +1,4 @@
-//! Entries of mailboxes.
+//! Writes mailbox entries.
 ghost use Rattle.std.specs.Prelude.{◌≡◌, ◌<◌, ◌^◌, ◌∷◌, []};
 ghost use Rattle.sqlite.specs.Held.{state};
 ghost use Rattle.hub_tables.specs.declared.change.Change.TheVariants.{AddMail, SetMail};
@@ -16,7 +16,7 @@ use hub_tables::MailRow;
 use sqlite::{Alter, Transaction};
 use sqlite_value::value::ValueRef;
 
-// The values of an entry.
+// Returns the values of an entry.
 fn cells(row: &MailRow) -> [ValueRef<'_>; 8]
     requires { row.now.number < 2 ^ 63 }
     ensures cells { bound result ≡ spec.cells row.now }
@@ -35,7 +35,7 @@ fn cells(row: &MailRow) -> [ValueRef<'_>; 8]
     ]
 }
 
-/// Adds an entry of a mailbox.
+/// Adds a mailbox entry; `Unclean` if SQL cannot store its number.
 pub fn add_mail<S: Alter>(tx: &mut Transaction<'_, S>, row: &MailRow) -> Result<(), StoreFault>
     ensures same_reference { tx.new.conn.ghost_name ≡ tx.old.conn.ghost_name }
     ensures acts { Acts (AddMail row.now ∷ [])
@@ -50,7 +50,7 @@ pub fn add_mail<S: Alter>(tx: &mut Transaction<'_, S>, row: &MailRow) -> Result<
     ))
 }
 
-/// Sets what stands under the key of an entry. None of the kinds has a number that SQL has not.
+/// Replaces the values of the entry with this key; `Unclean` if SQL cannot store its number, so there is no such entry.
 pub fn set_mail<S: Alter>(tx: &mut Transaction<'_, S>, row: &MailRow) -> Result<(), StoreFault>
     ensures same_reference { tx.new.conn.ghost_name ≡ tx.old.conn.ghost_name }
     ensures acts { Acts (SetMail row.now ∷ [])

@@ -1,4 +1,4 @@
-//! Orders.
+//! Writes orders.
 ghost use Rattle.std.specs.Prelude.{◌≡◌, ◌∷◌, []};
 ghost use Rattle.sqlite.specs.Held.{state};
 ghost use Rattle.hub_tables.specs.declared.change.Change.TheVariants.{AddOrder};

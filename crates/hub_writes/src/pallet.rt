@@ -1,4 +1,4 @@
-//! Pallets.
+//! Writes pallets.
 ghost use Rattle.std.specs.Prelude.{◌≡◌, ◌∷◌, []};
 ghost use Rattle.sqlite.specs.Held.{state};
 ghost use Rattle.hub_tables.specs.declared.change.Change.TheVariants.{AddPallet, SetPallet};
@@ -13,7 +13,7 @@ use hub_tables::PalletRow;
 use sqlite::{Alter, Transaction};
 use sqlite_value::value::ValueRef;
 
-// The values of a pallet.
+// Returns the values of a pallet.
 fn cells(row: &PalletRow) -> [ValueRef<'_>; 4]
     ensures cells { bound result ≡ spec.cells row.now }
     ensures low { spec.IsLow row.now }
@@ -37,7 +37,7 @@ pub fn add_pallet<S: Alter>(tx: &mut Transaction<'_, S>, row: &PalletRow) -> Res
     ))
 }
 
-/// Sets what stands under the key of a pallet.
+/// Replaces the values of the pallet with this key.
 pub fn set_pallet<S: Alter>(tx: &mut Transaction<'_, S>, row: &PalletRow) -> Result<(), StoreFault>
     ensures same_reference { tx.new.conn.ghost_name ≡ tx.old.conn.ghost_name }
     ensures acts { Acts (SetPallet row.now ∷ []) (state S.Store tx.old.conn.now)

@@ -1,4 +1,4 @@
-//! The hub's row, the keys of suppliers and their company prefixes.
+//! Writes the hub's row, the suppliers' keys and their company prefixes.
 ghost use Rattle.std.specs.Prelude.{◌≡◌, ◌∷◌, []};
 ghost use Rattle.sqlite.specs.Held.{state};
 ghost use Rattle.hub_tables.specs.declared.change.Change.TheVariants.{AddHub, SetHub, AddKey, SetKey, AddPrefix};
@@ -13,7 +13,6 @@ use hub_tables::{HubRow, KeyRow, PrefixRow};
 use sqlite::{Alter, Transaction};
 use sqlite_value::value::ValueRef;
 
-// The values of the hub's row.
 fn hub_cells(row: &HubRow) -> [ValueRef<'_>; 3]
     ensures { bound result ≡ spec.hub_cells row.now }
 {
@@ -35,7 +34,7 @@ pub fn add_hub<S: Alter>(tx: &mut Transaction<'_, S>, row: &HubRow) -> Result<()
     ))
 }
 
-/// Sets what stands under the hub's GLN.
+/// Replaces the values of the hub's row with this key.
 pub fn set_hub<S: Alter>(tx: &mut Transaction<'_, S>, row: &HubRow) -> Result<(), StoreFault>
     ensures same_reference { tx.new.conn.ghost_name ≡ tx.old.conn.ghost_name }
     ensures acts { Acts (SetHub row.now ∷ [])
@@ -47,7 +46,6 @@ pub fn set_hub<S: Alter>(tx: &mut Transaction<'_, S>, row: &HubRow) -> Result<()
     ))
 }
 
-// The values of a supplier's key.
 fn key_cells(row: &KeyRow) -> [ValueRef<'_>; 2]
     ensures { bound result ≡ spec.key_cells row.now }
 {

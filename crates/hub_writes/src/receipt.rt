@@ -1,4 +1,4 @@
-//! Receipts of articles.
+//! Writes receipts of articles.
 ghost use Rattle.std.specs.Prelude.{◌≡◌, ◌∷◌, []};
 ghost use Rattle.sqlite.specs.Held.{state};
 ghost use Rattle.hub_tables.specs.declared.change.Change.TheVariants.{AddReceipt, ClearReceipts};
@@ -31,7 +31,7 @@ pub fn add_receipt<S: Alter>(
     ))
 }
 
-/// Takes out all receipts of a pallet.
+/// Deletes all receipts of a pallet.
 pub fn clear_receipts<S: Alter>(tx: &mut Transaction<'_, S>, sscc: &Sscc) -> Result<(), StoreFault>
     ensures same_reference { tx.new.conn.ghost_name ≡ tx.old.conn.ghost_name }
     ensures acts { Acts (ClearReceipts sscc.now ∷ []) (state S.Store tx.old.conn.now)

@@ -1,4 +1,4 @@
-//! Messages and cancellations that are remembered.
+//! Remembers messages and cancellations.
 ghost use Rattle.std.specs.Prelude.{◌≡◌, ◌∷◌, []};
 ghost use Rattle.sqlite.specs.Held.{state};
 ghost use Rattle.hub_tables.specs.declared.change.Change.TheVariants.{Remember};

@@ -1,4 +1,4 @@
-//! Columns of rows as SQL takes them.
+//! Turns columns of rows into SQL values.
 ghost use Rattle.std.specs.Prelude.{nat_le, ◌≡◌, ◌<◌, ◌^◌, pos};
 ghost use Rattle.sqlite_value.specs.declared.value.Value.TheVariants.{Int, Blob};
 ghost use Rattle.sqlite_value.specs.Value.{owned};
@@ -52,14 +52,14 @@ pub(crate) fn text_value(text: &Items<u8>) -> ValueRef<'_>
     ValueRef::Blob(text.as_slice())
 }
 
-/// Whether SQL has not the number.
+/// Whether the number is too large for SQL.
 pub(crate) fn is_great(number: u64) -> bool
     ensures { result ≡ nat_le (2 ^ 63) number }
 {
     number >= 0x8000_0000_0000_0000
 }
 
-/// A number. SQL has none from 2^63 on.
+/// A number below 2^63, the limit of SQL.
 pub(crate) fn number_value<'a>(number: u64) -> ValueRef<'a>
     requires { number < 2 ^ 63 }
     ensures { owned result ≡ Int (pos number) }
@@ -74,7 +74,7 @@ pub(crate) fn count_value<'a>(count: u32) -> ValueRef<'a>
     number_value(u64::from(count))
 }
 
-/// A byte, as its number.
+/// A byte, as a number.
 pub(crate) fn byte_value<'a>(byte: u8) -> ValueRef<'a>
     ensures { owned result ≡ Int (pos byte) }
 {
@@ -113,7 +113,7 @@ pub(crate) fn kind_value<'a>(kind: &Column<MailKind>) -> ValueRef<'a>
     byte_value(kind.code())
 }
 
-/// How far a pallet has come.
+/// The number of a pallet's state.
 pub(crate) fn arrival_value<'a>(arrival: &Column<Arrival>) -> ValueRef<'a>
     ensures value { owned result ≡ Int (pos arrival.now) }
     ensures low { arrival.now < 256 }

@@ -1,4 +1,4 @@
--- An index: keys of rows in another order than theirs.
+-- Defines an index: keys of rows, in another order than the rows.
 use Rattle.std.proofs.Common.{◌≡◌, ℕ, Bool, true, not, List, filter, map, refl, sym, ap, ◌∙◌}
 use Rattle.std.specs.Cmp.{IsTotalOrder}
 use Rattle.std.specs.Ordering.{nat_cmp, ordering_then, is_eq}
@@ -15,7 +15,7 @@ use Rattle.trial_rows.specs.Alike.{both, same_bytes}
 use Rattle.trial_lists.specs.declared.index.EntryKey.{EntryKey}
 use Rattle.trial_lists.specs.declared.index.PalletKey.{PalletKey}
 
--- the index rises, and has of each supplier the keys of its rows that are listed, in their order
+-- the index rises, and for each supplier it has the keys of the listed rows, in their order
 pub record IsIndex {X K : Type 0} (cmp : K → K → Ordering) (supplier : K → List ℕ) (key : X → K) (listed : X → Bool)
     (index : List K) (rows : List X) : Type 0 where
   pub rises : Rises cmp index
@@ -23,7 +23,7 @@ pub record IsIndex {X K : Type 0} (cmp : K → K → Ordering) (supplier : K →
       filter (λ k. same (supplier k) gln) index
       ≡ map key (filter listed (filter (λ row. same (supplier (key row)) gln) rows))
 
--- The entries that are not taken, and the pallets of each supplier.
+-- The indexes of entries that are not taken, and of the pallets of each supplier.
 
 abbrev pub entry_cmp : EntryKey → EntryKey → Ordering
 entry_cmp a b = ordering_then (bytes_cmp a.supplier b.supplier) (nat_cmp a.number b.number)

@@ -1,11 +1,11 @@
--- How a store of lists keeps its rows.
+-- Defines how a store in lists keeps its rows.
 use Rattle.std.specs.Prelude.{ℕ, ◌+◌, ◌≤◌, true, vec_len, vec_capacity}
 use Rattle.hub_tables.specs.Sets.{Rising}
 use Rattle.hub_tables.specs.Tables.{Tables}
 use Rattle.trial_lists.specs.Index.{IsIndex, entry_cmp, entry_key, is_untaken, owned_cmp, owned_key}
 use Rattle.trial_lists.specs.declared.lists.Lists.{Lists}
 
--- what the lists hold
+-- the tables that the lists hold
 abbrev pub tables_in : Lists → Tables
 tables_in s = record {
   hubs = s.hubs.items;
@@ -21,13 +21,13 @@ tables_in s = record {
   mail = s.mail.items;
 }
 
--- the rows of each kind rise by their keys, and the indexes list what they are to list
+-- the keys of each kind rise, and each index lists exactly the rows that it should
 pub record AreInOrder (s : Lists) : Type 0 where
   pub rising : Rising (tables_in s)
   pub untaken : IsIndex entry_cmp (λ key. key.supplier) entry_key is_untaken s.untaken.items s.mail.items
   pub owned : IsIndex owned_cmp (λ key. key.supplier) owned_key (λ pallet. true) s.owned.items s.pallets.items
 
--- each list has room for so many rows more
+-- each list has room for `n` more rows
 pub record Room (n : ℕ) (s : Lists) : Type 0 where
   pub hubs : vec_len s.hubs + n ≤ vec_capacity s.hubs
   pub keys : vec_len s.keys + n ≤ vec_capacity s.keys

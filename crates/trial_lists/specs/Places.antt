@@ -1,4 +1,4 @@
--- Where rows stand to what is looked for.
+-- Defines the place of a row relative to what is searched for: below it, at it or above it.
 use Rattle.std.proofs.Common.{◌≡◌, ℕ, true, false, ◌==◌, cond, refl, sym, ap, ap₂, ◌∙◌}
 use Rattle.std.specs.Prelude.{nat_lt}
 use Rattle.std.specs.Cmp.{IsTotalOrder}
@@ -9,13 +9,13 @@ use Rattle.std.proofs.lemmas.Bool.{both_ways}
 use Rattle.std.proofs.lemmas.Cmp.{alike_right, nat_cmp_total}
 use Rattle.trial_lists.specs.Search.{may_precede, KeepsPlaces}
 
--- below where the other is not less, and else at it
+-- `Equal` if the first compares as less, else `Less`
 abbrev pub at_less : Ordering → Ordering
 at_less Less = Equal
 at_less Equal = Less
 at_less Greater = Less
 
--- at each number above one
+-- `Equal` for each number above this one, `Less` for the others
 abbrev pub above : ℕ → ℕ → Ordering
 above number n = at_less (nat_cmp number n)
 
@@ -29,7 +29,7 @@ is_above number n =
       ]
     ]
 
--- That places are kept.
+-- Sorted rows keep the order of their places.
 
 precedes_greater : (o : Ordering) → may_precede o Greater ≡ true
 precedes_greater Less = refl
@@ -46,7 +46,7 @@ not_above Less b h = refl
 not_above Equal b h = refl
 not_above Greater b h = h
 
--- the places to a first part of a key
+-- comparing with the first part of a key keeps places
 pub first_part : {X : Type 0} (c d : X → X → Ordering) (p : X → Ordering) → KeepsPlaces c p
     → KeepsPlaces (λ x y. ordering_then (c x y) (d x y)) p
 first_part c d p keeps x y h = keeps x y (not_above (c x y) (d x y) h)
@@ -72,7 +72,7 @@ module _ {X K : Type 0} {cmp : K → K → Ordering} (total : IsTotalOrder cmp) 
   alike Equal p q h = h
   alike Greater p q h = refl
 
-  -- the places to a key
+  -- comparing with a key keeps places
   pub by_key : KeepsPlaces (λ x y. cmp (key x) (key y)) (λ x. cmp (key x) k)
   by_key x y h =
       elim (cmp (key x) (key y)) as (λ o. cmp (key x) (key y) ≡ o → is_gt o ≡ false
@@ -88,7 +88,7 @@ module _ {X K : Type 0} {cmp : K → K → Ordering} (total : IsTotalOrder cmp) 
       at less Equal e = ap (λ a. may_precede a Equal) (sym (alike_right total (key y) k (key x) e) ∙ less)
       at less Greater e = precedes_greater (cmp (key x) k)
 
-  -- the places to a first part of a key, and then to the others
+  -- comparing with the first part of a key, and then with the rest, keeps places
   pub then_part : (d : X → X → Ordering) (p : X → Ordering) → KeepsPlaces d p
       → KeepsPlaces (λ x y. ordering_then (cmp (key x) (key y)) (d x y)) (λ x. ordering_then (cmp (key x) k) (p x))
   then_part d p keeps x y h =
@@ -100,7 +100,7 @@ module _ {X K : Type 0} {cmp : K → K → Ordering} (total : IsTotalOrder cmp) 
         | Greater ↦ λ e g. absurd (both_ways true g refl)
       ] refl h
 
--- the places to the numbers above one
+-- being above a number keeps places
 pub above_kept : {X : Type 0} (key : X → ℕ) (number : ℕ)
     → KeepsPlaces (λ x y. nat_cmp (key x) (key y)) (λ x. above number (key x))
 above_kept key number x y h =

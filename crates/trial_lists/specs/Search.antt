@@ -1,11 +1,11 @@
--- How rows that rise by their keys are searched: each stands below what is looked for, at it, or above it.
+-- Defines how sorted rows are searched: each row is below what is searched for, at it, or above it.
 use Rattle.std.specs.Prelude.{◌≡◌, Bool, true, false, List, [], ◌∷◌, ⊤}
 use Rattle.std.specs.List.{AllByRecursion}
 use Rattle.std.specs.declared.cmp.Ordering.{Ordering}
 use Rattle.std.specs.declared.cmp.Ordering.TheVariants.{Less, Equal, Greater}
 use Rattle.std.specs.Ordering.{is_gt}
 
--- a row at the first place may stand before one at the second
+-- whether a row at the first place may come before one at the second
 abbrev pub may_precede : Ordering → Ordering → Bool
 may_precede Less later = true
 may_precede Equal Less = false
@@ -15,7 +15,7 @@ may_precede Greater Less = false
 may_precede Greater Equal = false
 may_precede Greater Greater = true
 
--- rows in an order stand in that of their places
+-- sorted rows are also in the order of their places
 abbrev pub KeepsPlaces : {X : Type 0} → (X → X → Ordering) → (X → Ordering) → Type 0
 KeepsPlaces {X} cmp place = (x y : X) → is_gt (cmp x y) ≡ false → may_precede (place x) (place y) ≡ true
 

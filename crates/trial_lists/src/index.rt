@@ -1,4 +1,4 @@
-//! Indexes: keys of rows in another order than that of the rows, or of some of the rows alone.
+//! Keeps indexes: the keys of all rows, or of some, in another order than the rows.
 ghost use Rattle.std.specs.Prelude.{◌≡◌, ℕ, ◌+◌, ◌<◌, ◌≤◌, Bool, true, false, if◌then◌else◌, refl, List, vec_len, vec_capacity};
 ghost use Rattle.std.specs.List.{list_any};
 ghost use Rattle.std.specs.Ordering.{is_eq};
@@ -15,14 +15,14 @@ use std::alloc::Global;
 use std::cmp::Ordering;
 use trial_rows::{Row, Settable};
 
-/// The key of an entry of a supplier's mailbox.
+/// The key of a supplier's mailbox entry.
 #[derive(Clone, Copy, Debug)]
 pub(crate) struct EntryKey {
     pub(crate) supplier: Gln,
     pub(crate) number: u64,
 }
 
-/// A supplier, and the SSCC of a pallet of it.
+/// A supplier, and the SSCC of one of its pallets.
 #[derive(Clone, Copy, Debug)]
 pub(crate) struct PalletKey {
     pub(crate) supplier: Gln,
@@ -67,16 +67,16 @@ impl Row for PalletKey {
 
 /// A row that an index may list.
 pub(crate) trait Indexed<K: Row>: Settable {
-    /// What the index lists of a row.
+    /// The key that the index lists for a row.
     ghost key: { Self → K };
 
-    /// Whether it lists the row.
+    /// Whether the index lists the row.
     ghost listed: { Self → Bool };
 
-    /// Whose a key is.
+    /// The supplier to whom a key belongs.
     ghost supplier: { K → List ℕ };
 
-    /// What the index lists of the row.
+    /// Returns the key that the index lists for the row.
     fn index_key(&self) -> K
         ensures { result ≡ key self.now };
 
@@ -84,10 +84,10 @@ pub(crate) trait Indexed<K: Row>: Settable {
     fn is_listed(&self) -> bool
         ensures { result ≡ listed self.now };
 
-    /// Keys that are compared as equal are of one supplier.
+    /// Keys that compare as equal belong to the same supplier.
     ghost tied: { (a b : K) → is_eq (K.compared a b) ≡ true → supplier a ≡ supplier b };
 
-    /// The keys of one supplier stand in the order of its rows.
+    /// The keys of one supplier are in the order of its rows.
     ghost in_order: { (x y : Self) → supplier (key x) ≡ supplier (key y) →
         K.compared (key x) (key y) ≡ Self.compared x y };
 }
@@ -142,7 +142,7 @@ impl Indexed<PalletKey> for PalletRow {
     ghost in_order = { owned_in_order };
 }
 
-// Puts the key of a row into an index, for which there is room, where that lists the row.
+// Adds a row's key to an index that has room for it, if the index lists the row.
 fn list_key<T: Indexed<K>, K: Row>(index: &mut Vec<K>, row: &T)
     requires room { vec_len index.old < vec_capacity index.old }
     requires rises { Rises K.compared index.old.items }
@@ -157,8 +157,8 @@ fn list_key<T: Indexed<K>, K: Row>(index: &mut Vec<K>, row: &T)
     }
 }
 
-/// Puts a row at its place, and into the index where that lists it; for both there is room. Where a row has its key,
-/// it is left out.
+/// Inserts a row at its place, and into the index if that lists it; both must have room. If the row's key exists
+/// already, the row is left out.
 pub(crate) fn put_indexed<T: Indexed<K>, K: Row>(rows: &mut Vec<T>, index: &mut Vec<K>, row: T)
     requires room { vec_len rows.old < vec_capacity rows.old }
     requires index_room { vec_len index.old < vec_capacity index.old }
@@ -181,8 +181,8 @@ pub(crate) fn put_indexed<T: Indexed<K>, K: Row>(rows: &mut Vec<T>, index: &mut 
     put_row(rows, row);
 }
 
-/// Sets a row in the place of the one that has its key, and in the index, where there is room for one more. Where no
-/// row has its key, it is left out.
+/// Replaces the row with the same key, also in the index, which must have room for one more. If no row has the key, the
+/// new row is left out.
 pub(crate) fn set_indexed<T: Indexed<K>, K: Row>(rows: &mut Vec<T>, index: &mut Vec<K>, row: T)
     requires index_room { vec_len index.old < vec_capacity index.old }
     requires rises { Rises T.compared rows.old.items }

@@ -1,4 +1,4 @@
-//! What rows are looked up by.
+//! Defines the keys by which rows are looked up.
 ghost use Rattle.std.specs.Prelude.{◌≡◌, Bool, ◌&&◌, ◌==◌, nat_lt};
 ghost use Rattle.std.specs.Ordering.{nat_cmp, ordering_then, is_eq};
 ghost use Rattle.std.specs.declared.cmp.Ordering.{Ordering as Order};
@@ -19,22 +19,22 @@ use hub_tables::{
 use std::cmp::Ordering;
 use trial_rows::Row;
 
-/// What rows are looked up by: a key, a first part of one, or all keys above one.
+/// What is searched for: a key, the first part of one, or all keys above one.
 pub(crate) trait Key<T: Row> {
-    /// Where a row stands to it.
+    /// The place of a row relative to the key.
     ghost place: { Self → T → Order };
 
-    /// Whether a row is looked for.
+    /// Whether the row is searched for.
     ghost wanted: { Self → T → Bool };
 
-    /// Where a row stands: below what is looked for, at it or above.
+    /// Returns the place of a row: below what is searched for, at it or above it.
     fn place_of(&self, row: &T) -> Ordering
         ensures { result ≡ place self.now row.now };
 
-    /// The rows at it are those that are looked for.
+    /// The rows at it are those that are searched for.
     ghost exact: { (key : Self) (row : T) → is_eq (place key row) ≡ wanted key row };
 
-    /// Rows in the order of their keys stand in that of their places.
+    /// Sorted rows are also in the order of their places.
     ghost kept: { (key : Self) → KeepsPlaces T.compared (place key) };
 }
 
@@ -57,7 +57,7 @@ pub(crate) struct Numbered<'a> {
     pub(crate) number: &'a [u8],
 }
 
-/// The line of a supplier's order with a line number.
+/// The line of a supplier's order with this line number.
 #[derive(Drop)]
 pub(crate) struct LineAt<'a> {
     pub(crate) supplier: &'a Gln,
@@ -65,13 +65,13 @@ pub(crate) struct LineAt<'a> {
     pub(crate) line: u32,
 }
 
-/// The pallet of an SSCC, and what is on it.
+/// The pallet with an SSCC, and what is on it.
 #[derive(Drop)]
 pub(crate) struct OnPallet<'a> {
     pub(crate) sscc: &'a Sscc,
 }
 
-/// What is remembered of a side of a supplier under two references.
+/// What is remembered for a side of a supplier under two references.
 #[derive(Drop)]
 pub(crate) struct Reference<'a> {
     pub(crate) supplier: &'a Gln,
@@ -134,7 +134,7 @@ impl<'a> Key<MailRow> for OfSupplier<'a> {
 }
 
 impl<'a> Numbered<'a> {
-    // Where a supplier's number stands.
+    // Compares a supplier and a number with those that are searched for.
     fn compare(&self, supplier: &Gln, number: &[u8]) -> Ordering
         ensures { result ≡ ordering_then (bytes_cmp supplier.now self.now.supplier.now)
             (bytes_cmp number.now self.now.number.now) }

@@ -1,4 +1,4 @@
-//! A store of plain lists, in memory.
+//! Keeps the tables of a hub in memory, in plain lists.
 #![tactic(auto)]
 
 mod index;

@@ -1,4 +1,4 @@
-//! A list of rows for each kind, and changes of them.
+//! Keeps a list of rows for each kind, and changes the lists.
 ghost use Rattle.std.specs.Prelude.{◌≡◌, ℕ, ◌+◌, length, IfOk, OnOk};
 ghost use Rattle.hub_tables.specs.Change.{apply, apply_all};
 ghost use Rattle.hub_tables.specs.Sets.{Rising, Fit};
@@ -32,7 +32,7 @@ pub(crate) struct Lists {
     pub(crate) owned: Vec<PalletKey>,
 }
 
-/// Takes the room for so many rows more of each kind.
+/// Reserves room for `count` more rows of each kind.
 pub(crate) fn take_room(lists: &mut Lists, count: usize) -> Result<(), MemoryFault>
     requires kept { AreInOrder lists.old }
     ensures kept { AreInOrder lists.new }
@@ -55,7 +55,7 @@ pub(crate) fn take_room(lists: &mut Lists, count: usize) -> Result<(), MemoryFau
     Ok(())
 }
 
-/// A copy of a change.
+/// Copies a change.
 pub(crate) fn copy_of(alloc: Global, change: &Change) -> Result<Change, MemoryFault>
     ensures { IfOk result (λ copy. copy ≡ change.now) }
 {
@@ -110,7 +110,7 @@ pub(crate) fn apply_one(lists: &mut Lists, change: Change)
     }
 }
 
-/// Copies of changes.
+/// Copies changes.
 pub(crate) fn copies_of(alloc: Global, changes: &[Change]) -> Result<Vec<Change>, MemoryFault>
     ensures { IfOk result (λ copies. copies.items ≡ changes.now) }
 {
@@ -121,7 +121,7 @@ pub(crate) fn copies_of(alloc: Global, changes: &[Change]) -> Result<Vec<Change>
     Ok(copies)
 }
 
-/// Makes changes one after another, for which there is room. Each that does not fit to the rows is left out.
+/// Makes changes for which there is room, one after another. Each that does not fit the rows is left out.
 pub(crate) fn apply_each(lists: &mut Lists, changes: Vec<Change>)
     requires room { Room (length changes.items) lists.old }
     requires kept { AreInOrder lists.old }

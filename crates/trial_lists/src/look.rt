@@ -1,4 +1,4 @@
-//! Look-ups in lists of rows, of which each rises by its key.
+//! Looks up rows in lists that are sorted by key.
 ghost use Rattle.std.specs.Prelude.{◌≡◌, ◌≤◌, ◌==◌, ◌&&◌, true, None, filter, find, length};
 ghost use Rattle.std.specs.Prelude.{◌++◌, map, take, slice_get, option_map, nat_lt, not, IfOk, OnOk};
 ghost use Rattle.std.specs.List.{list_any, last_or, filter_map, flat_map};
@@ -26,7 +26,7 @@ use std::alloc::Global;
 use std::collections::BTreeSet;
 use trial_rows::Row;
 
-// Copies of rows.
+// Copies rows.
 fn copies<T: Row>(alloc: Global, rows: &[T]) -> Result<Items<T>, MemoryFault>
     ensures { IfOk result (λ copies. copies ≡ rows.now) }
 {
@@ -37,7 +37,7 @@ fn copies<T: Row>(alloc: Global, rows: &[T]) -> Result<Items<T>, MemoryFault>
     Ok(copies)
 }
 
-// A copy of the first row.
+// Copies the first row.
 fn first_copy<T: Row>(alloc: Global, rows: &[T]) -> Result<Option<T>, MemoryFault>
     ensures { IfOk result (λ first. first ≡ slice_get rows.now 0) }
 {
@@ -47,7 +47,7 @@ fn first_copy<T: Row>(alloc: Global, rows: &[T]) -> Result<Option<T>, MemoryFaul
     }
 }
 
-// Copies of the rows that keys look for, the first for each.
+// Copies the rows that the keys search for, the first for each key.
 fn copies_at<T: Row, K: Key<T>>(
     alloc: Global,
     rows: &[T],
@@ -65,7 +65,7 @@ fn copies_at<T: Row, K: Key<T>>(
     Ok(found)
 }
 
-// What a list shows of a mailbox entry.
+// Returns what a list shows of a mailbox entry.
 fn head(alloc: Global, entry: &MailRow) -> Result<MailHead, MemoryFault>
     ensures { IfOk result (λ head. head ≡ head_of entry.now) }
 {
@@ -76,7 +76,7 @@ fn head(alloc: Global, entry: &MailRow) -> Result<MailHead, MemoryFault>
     })
 }
 
-// What a list shows of the entries that keys look for, of the first for each.
+// Returns what a list shows of the entries that the keys search for, the first for each key.
 fn heads_at(
     alloc: Global,
     mail: &[MailRow],
@@ -95,7 +95,7 @@ fn heads_at(
     Ok(heads)
 }
 
-/// The content that is remembered of a side of a supplier under two references.
+/// Returns the content that is remembered for a side of a supplier under two references.
 pub(crate) fn remembered_with(
     alloc: Global,
     rows: &[RememberedRow],
@@ -113,7 +113,7 @@ pub(crate) fn remembered_with(
     }
 }
 
-/// Whether a supplier has an order of a number.
+/// Whether the supplier has an order with this number.
 #[tactic(auto, using(crate::proofs::Filters::any_of_both))]
 pub(crate) fn has_order(orders: &[OrderRow], supplier: &Gln, number: &[u8]) -> bool
     requires { Rises order_cmp orders.now }
@@ -123,7 +123,7 @@ pub(crate) fn has_order(orders: &[OrderRow], supplier: &Gln, number: &[u8]) -> b
     !rows_at(orders, &Numbered { supplier, number }).is_empty()
 }
 
-/// Whether a supplier has an advice of a number.
+/// Whether the supplier has an advice with this number.
 #[tactic(auto, using(crate::proofs::Filters::any_of_both))]
 pub(crate) fn has_advice(advices: &[AdviceRow], supplier: &Gln, number: &[u8]) -> bool
     requires { Rises advice_cmp advices.now }
@@ -133,7 +133,7 @@ pub(crate) fn has_advice(advices: &[AdviceRow], supplier: &Gln, number: &[u8]) -
     !rows_at(advices, &Numbered { supplier, number }).is_empty()
 }
 
-/// The lines of an order of a supplier.
+/// Returns the lines of a supplier's order.
 pub(crate) fn lines_with(
     alloc: Global,
     lines: &[LineRow],
@@ -147,7 +147,7 @@ pub(crate) fn lines_with(
     copies(alloc, rows_at(lines, &Numbered { supplier, number }))
 }
 
-// The lines of an order of a supplier with a line number.
+// Returns the lines of a supplier's order that have this line number.
 fn lines_at_number(
     alloc: Global,
     lines: &[LineRow],
@@ -161,7 +161,6 @@ fn lines_at_number(
     copies(alloc, rows_at(lines, at))
 }
 
-// Puts rows after others.
 fn put_rows(found: &mut Items<LineRow>, rows: Items<LineRow>) -> Result<(), MemoryFault>
     ensures { OnOk result (found.new ≡ found.old ++ rows) }
 {
@@ -171,7 +170,7 @@ fn put_rows(found: &mut Items<LineRow>, rows: Items<LineRow>) -> Result<(), Memo
     Ok(())
 }
 
-/// The lines of an order of a supplier that have one of these line numbers, number by number.
+/// Returns the lines of a supplier's order that have one of these line numbers, number by number.
 pub(crate) fn lines_at(
     alloc: Global,
     lines: &[LineRow],
@@ -196,7 +195,7 @@ pub(crate) fn lines_at(
     Ok(found)
 }
 
-/// The lines of a supplier.
+/// Returns the lines of a supplier.
 pub(crate) fn lines_from(
     alloc: Global,
     lines: &[LineRow],
@@ -208,7 +207,7 @@ pub(crate) fn lines_from(
     copies(alloc, rows_at(lines, &OfSupplier { supplier }))
 }
 
-/// Whether any supplier has a pallet of an SSCC.
+/// Whether any supplier has a pallet with this SSCC.
 #[tactic(auto, using(crate::proofs::Filters::any_filtered))]
 pub(crate) fn has_sscc(pallets: &[PalletRow], sscc: &Sscc) -> bool
     requires { Rises pallet_cmp pallets.now }
@@ -217,14 +216,14 @@ pub(crate) fn has_sscc(pallets: &[PalletRow], sscc: &Sscc) -> bool
     !rows_at(pallets, &OnPallet { sscc }).is_empty()
 }
 
-// Whether one of the pallets is a supplier's.
+// Whether one of the pallets is the supplier's.
 fn any_from(pallets: &[PalletRow], supplier: &Gln) -> bool
     ensures { result ≡ list_any (λ pallet. same pallet.supplier supplier.now) pallets.now }
 {
     pallets.iter().any(|pallet| pallet.supplier == *supplier)
 }
 
-// Whether a supplier has the pallet of an SSCC.
+// Whether the supplier has a pallet with this SSCC.
 fn holds_pallet(pallets: &[PalletRow], supplier: &Gln, sscc: &Sscc) -> bool
     requires { Rises pallet_cmp pallets.now }
     ensures { result ≡ holds supplier.now pallets.now sscc.now }
@@ -232,7 +231,7 @@ fn holds_pallet(pallets: &[PalletRow], supplier: &Gln, sscc: &Sscc) -> bool
     any_from(rows_at(pallets, &OnPallet { sscc }), supplier)
 }
 
-// The first pallet of a supplier.
+// Returns the first pallet of a supplier.
 fn first_from<'a>(pallets: &'a [PalletRow], supplier: &Gln) -> Option<&'a PalletRow>
     ensures { option_map (λ pallet. pallet.now) result
         ≡ find (λ pallet. same pallet.supplier supplier.now) pallets.now }
@@ -240,7 +239,7 @@ fn first_from<'a>(pallets: &'a [PalletRow], supplier: &Gln) -> Option<&'a Pallet
     pallets.iter().find(|pallet| pallet.supplier == *supplier)
 }
 
-/// The pallet of an SSCC, where it is the supplier's.
+/// Returns the pallet with an SSCC, if it is the supplier's.
 #[tactic(auto, using(crate::proofs::Filters::find_of_either))]
 pub(crate) fn pallet_with(
     alloc: Global,
@@ -258,7 +257,7 @@ pub(crate) fn pallet_with(
     }
 }
 
-/// The pallets of a supplier, by an index of each supplier's pallets.
+/// Returns the pallets of a supplier, using an index of each supplier's pallets.
 pub(crate) fn pallets_from(
     alloc: Global,
     pallets: &[PalletRow],
@@ -273,7 +272,7 @@ pub(crate) fn pallets_from(
     copies_at(alloc, pallets, rows_at(owned, &OfSupplier { supplier }))
 }
 
-/// The contents of a pallet of whatever supplier.
+/// Returns the contents of a pallet, whichever supplier has it.
 pub(crate) fn contents_on(
     alloc: Global,
     contents: &[ContentRow],
@@ -285,7 +284,7 @@ pub(crate) fn contents_on(
     copies(alloc, rows_at(contents, &OnPallet { sscc }))
 }
 
-/// The contents of a pallet, where it is the supplier's.
+/// Returns the contents of a pallet, if it is the supplier's.
 pub(crate) fn contents_of(
     alloc: Global,
     contents: &[ContentRow],
@@ -304,7 +303,7 @@ pub(crate) fn contents_of(
     contents_on(alloc, contents, sscc)
 }
 
-/// What was received of a pallet of whatever supplier.
+/// Returns the receipts of a pallet, whichever supplier has it.
 pub(crate) fn receipts_on(
     alloc: Global,
     receipts: &[ReceiptRow],
@@ -316,7 +315,7 @@ pub(crate) fn receipts_on(
     copies(alloc, rows_at(receipts, &OnPallet { sscc }))
 }
 
-/// What was received of a pallet, where it is the supplier's.
+/// Returns the receipts of a pallet, if it is the supplier's.
 pub(crate) fn receipts_of(
     alloc: Global,
     receipts: &[ReceiptRow],
@@ -335,7 +334,7 @@ pub(crate) fn receipts_of(
     receipts_on(alloc, receipts, sscc)
 }
 
-/// The number of the last entry of a supplier's mailbox, 0 where there is none.
+/// Returns the number of the last entry of a supplier's mailbox, or 0 if there is none.
 #[tactic(auto, using(crate::proofs::Filters::last_is))]
 pub(crate) fn last_number(mail: &[MailRow], supplier: &Gln) -> u64
     requires { Rises mail_cmp mail.now }
@@ -348,7 +347,7 @@ pub(crate) fn last_number(mail: &[MailRow], supplier: &Gln) -> u64
     }
 }
 
-/// The entry of a number in a supplier's mailbox.
+/// Returns the entry with this number in a supplier's mailbox.
 pub(crate) fn entry_with(
     alloc: Global,
     mail: &[MailRow],
@@ -366,8 +365,8 @@ pub(crate) fn entry_with(
     first_copy(alloc, rows_at(mail, &key))
 }
 
-/// What a list shows of the first so many entries above a number in a supplier's mailbox that are not taken, by an index of
-/// these.
+/// Returns what a list shows of the first `limit` entries above a number in a supplier's mailbox that are not taken,
+/// using an index of these.
 pub(crate) fn heads_after(
     alloc: Global,
     mail: &[MailRow],

@@ -1,4 +1,4 @@
-//! Rows found by a key.
+//! Searches sorted rows for a key.
 ghost use Rattle.std.specs.Prelude.{◌≡◌, ◌≤◌, length, filter};
 ghost use Rattle.std.specs.List.{prefix_len};
 ghost use Rattle.std.specs.Ordering.{is_lt, is_le};
@@ -7,24 +7,24 @@ ghost use Rattle.hub_parties.specs.KeyOrder.{Rises};
 use crate::key::Key;
 use trial_rows::Row;
 
-// How many rows are looked through before all others.
+// The number of rows that are searched before all others.
 const NEAR: usize = 16;
 
-// Whether a row stands below a key.
+// Whether a row is below a key.
 fn is_below<T: Row, K: Key<T>>(row: &T, key: &K) -> bool
     ensures { result ≡ is_lt (K.place key.now row.now) }
 {
     key.place_of(row).is_lt()
 }
 
-// Whether a row stands below a key or at it.
+// Whether a row is below a key or at it.
 fn is_within<T: Row, K: Key<T>>(row: &T, key: &K) -> bool
     ensures { result ≡ is_le (K.place key.now row.now) }
 {
     key.place_of(row).is_le()
 }
 
-/// How many rows stand below a key.
+/// Returns how many rows are below a key.
 pub(crate) fn count_below<T: Row, K: Key<T>>(rows: &[T], key: &K) -> usize
     requires { Rises T.compared rows.now }
     ensures within { result ≤ length rows.now }
@@ -33,7 +33,7 @@ pub(crate) fn count_below<T: Row, K: Key<T>>(rows: &[T], key: &K) -> usize
     rows.partition_point(|row| is_below(row, key))
 }
 
-// How many rows stand below a key or at it, looked for among all.
+// Returns how many rows are below a key or at it, by a search among all rows.
 fn count_among<T: Row, K: Key<T>>(rows: &[T], key: &K) -> usize
     requires { Rises T.compared rows.now }
     ensures within { result ≤ length rows.now }
@@ -42,7 +42,7 @@ fn count_among<T: Row, K: Key<T>>(rows: &[T], key: &K) -> usize
     rows.partition_point(|row| is_within(row, key))
 }
 
-// How many rows stand below a key or at it, looked for among the first rows, as mostly they are few.
+// Returns how many rows are below a key or at it, by a search among the first rows, because usually they are few.
 #[tactic(auto, using(crate::proofs::Searching::rises_take))]
 fn count_within<T: Row, K: Key<T>>(rows: &[T], key: &K) -> usize
     requires { Rises T.compared rows.now }
@@ -57,7 +57,7 @@ fn count_within<T: Row, K: Key<T>>(rows: &[T], key: &K) -> usize
     count_among(rows, key)
 }
 
-/// The rows that a key looks for, in their order.
+/// Returns the rows that a key searches for, in their order.
 #[tactic(auto, using(crate::proofs::Searching::rises_drop))]
 pub(crate) fn rows_at<'a, T: Row, K: Key<T>>(rows: &'a [T], key: &K) -> &'a [T]
     requires { Rises T.compared rows.now }

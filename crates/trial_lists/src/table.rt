@@ -1,4 +1,4 @@
-//! Rows of one kind, which rise by their keys.
+//! Changes the rows of one kind, which are sorted by key.
 ghost use Rattle.std.specs.Prelude.{◌≡◌, ◌+◌, ◌<◌, ◌≤◌, false, not, filter, vec_len, vec_capacity};
 ghost use Rattle.std.specs.List.{insert, list_any};
 ghost use Rattle.std.specs.Ordering.{is_eq};
@@ -11,7 +11,7 @@ use gs1_ids::Sscc;
 use hub_tables::ReceiptRow;
 use trial_rows::{Row, Settable};
 
-/// Whether a row has the key of this one.
+/// Whether some row has the key of this one.
 #[tactic(auto, using(crate::proofs::Filters::any_filtered))]
 pub(crate) fn has_key<T: Row>(rows: &[T], row: &T) -> bool
     requires { Rises T.compared rows.now }
@@ -20,7 +20,7 @@ pub(crate) fn has_key<T: Row>(rows: &[T], row: &T) -> bool
     !rows_at(rows, &SameKey { row }).is_empty()
 }
 
-// Puts a row at a place, for which there is room.
+// Inserts a row for which there is room.
 fn insert_at<T>(rows: &mut Vec<T>, at: usize, row: T)
     requires place { at ≤ vec_len rows.old }
     requires room { vec_len rows.old < vec_capacity rows.old }
@@ -31,7 +31,7 @@ fn insert_at<T>(rows: &mut Vec<T>, at: usize, row: T)
     rows.insert(at, row).unwrap();
 }
 
-/// Puts a row at its place, for which there is room. Where a row has its key, it is left out.
+/// Inserts a row for which there is room at its place. If the row's key exists already, the row is left out.
 pub(crate) fn put_row<T: Row>(rows: &mut Vec<T>, row: T)
     requires room { vec_len rows.old < vec_capacity rows.old }
     requires rises { Rises T.compared rows.old.items }
@@ -51,7 +51,7 @@ pub(crate) fn put_row<T: Row>(rows: &mut Vec<T>, row: T)
     }
 }
 
-/// Takes out the row that has the key of this one, where there is one.
+/// Removes the row that has the key of this one, if there is one.
 pub(crate) fn drop_row<T: Row>(rows: &mut Vec<T>, row: &T)
     requires { Rises T.compared rows.old.items }
     ensures rises { Rises T.compared rows.new.items }
@@ -67,7 +67,7 @@ pub(crate) fn drop_row<T: Row>(rows: &mut Vec<T>, row: &T)
     }
 }
 
-/// Takes out all receipts of a pallet.
+/// Removes all receipts of a pallet.
 pub(crate) fn clear_receipts(receipts: &mut Vec<ReceiptRow>, sscc: &Sscc)
     requires { Rises receipt_cmp receipts.old.items }
     ensures rises { Rises receipt_cmp receipts.new.items }
@@ -78,7 +78,7 @@ pub(crate) fn clear_receipts(receipts: &mut Vec<ReceiptRow>, sscc: &Sscc)
     receipts.retain(|row| row.sscc != *sscc);
 }
 
-/// Sets a row in the place of the one that has its key. Where none has, it is left out.
+/// Replaces the row with the same key. If there is none, the new row is left out.
 pub(crate) fn set_row<T: Settable>(rows: &mut Vec<T>, row: T)
     requires { Rises T.compared rows.old.items }
     ensures rises { Rises T.compared rows.new.items }

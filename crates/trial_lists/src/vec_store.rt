@@ -1,4 +1,4 @@
-//! A store of plain lists.
+//! Stores the tables of a hub in plain lists.
 ghost use Rattle.std.specs.Prelude.{◌≡◌, IfOk};
 ghost use Rattle.hub_tables.specs.Register.{founded};
 ghost use Rattle.hub_tables.specs.Tables.{empty};
@@ -17,12 +17,13 @@ use std::alloc::Global;
 use std::collections::BTreeSet;
 use std::marker::Model;
 
-/// A store of plain lists, in memory. It has no fault but `StoreFault::Memory`: of look-ups where the rows that are
-/// answered find no memory, of a commit where the copies of its changes find none. Of the changes of a commit, a row
-/// that is added under a key that is there is left out, and so is a row that is set where none has its key.
+/// A store of plain lists, in memory. Its faults are `StoreFault::Memory`, of a look-up whose result finds no memory
+/// and of a commit whose changes find none, and `StoreFault::Unclean`, of `register` if the rows do not form a
+/// register. A commit leaves out rows to add whose key exists already, and rows to set whose key does not exist.
 ///
-/// A look-up takes a binary search and a copy of what it answers; `lines_at` searches for each number, and `all_pallets`
-/// and `mail_after` search in an index, and then for each row that they answer. A commit moves the rows and keys that
+/// A look-up takes a binary search and a copy of its result; `lines_at` searches for each number, and `all_pallets` and
+/// `mail_after` search in an index, and then for each row of their result. A commit moves the rows and keys that come
+/// after a new one.
 /// stand behind a new one.
 #[derive(Debug, Drop)]
 pub struct VecStore {
@@ -41,7 +42,7 @@ impl Model for VecStore {
     ghost invariant = { λ store. AreInOrder store.lists };
 }
 
-// Lists without rows. Takes no memory.
+// Makes lists without rows, without allocating memory.
 fn no_rows(alloc: Global) -> Lists
     ensures none { tables_in result ≡ empty }
     ensures kept { AreInOrder result }
@@ -64,7 +65,7 @@ fn no_rows(alloc: Global) -> Lists
 }
 
 impl VecStore {
-    /// The rows of a register alone.
+    /// Makes a store that has only the rows of a register.
     pub fn new(alloc: Global, register: &Register) -> Result<VecStore, MemoryFault>
         ensures { IfOk result (λ store. store ≡ founded register.now) }
     {

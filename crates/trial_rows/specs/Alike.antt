@@ -1,4 +1,4 @@
--- What is compared as equal is alike.
+-- Shows that what compares as equal is the same.
 use Rattle.std.proofs.Common.{◌≡◌, ℕ, Bool, ◌&&◌, ◌==◌, List, sym}
 use Rattle.std.specs.Cmp.{both_tied, unsigned_tied}
 use Rattle.std.specs.Ordering.{nat_cmp, ordering_then, is_eq}

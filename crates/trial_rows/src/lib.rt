@@ -1,4 +1,4 @@
-//! Rows as a store keeps them in vectors: their order by their keys, copies of them, and which has the key of another.
+//! Compares and copies rows that a store keeps in vectors, and tells which have the same key.
 #![tactic(auto)]
 
 mod row;

@@ -1,4 +1,4 @@
-//! Rows as lists keep them: their order, and copies.
+//! Compares and copies the rows that lists keep.
 ghost use Rattle.std.specs.Prelude.{◌≡◌, Bool, IfOk};
 ghost use Rattle.std.specs.Cmp.{IsTotalOrder};
 ghost use Rattle.std.specs.Ordering.{is_eq};
@@ -17,15 +17,15 @@ pub trait Row: Drop {
     /// The order of the keys.
     ghost compared: { Self → Self → Order };
 
-    /// By the key.
+    /// Compares the keys.
     fn compare(&self, other: &Self) -> Ordering
         ensures { result ≡ compared self.now other.now };
 
-    /// A copy.
+    /// Copies the row.
     fn copy(&self, alloc: Global) -> Result<Self, MemoryFault>
         ensures { IfOk result (λ row. row ≡ self.now) };
 
-    /// It is an order.
+    /// The order is total.
     ghost total: { IsTotalOrder compared };
 }
 
@@ -294,16 +294,16 @@ impl Row for MailRow {
     ghost total = { mail_total };
 }
 
-/// A row that is set in the place of the one that has its key.
+/// A row that replaces the one with the same key.
 pub trait Settable: Row {
     /// Whether an old row has the key of a new one.
     ghost alike: { Self → Self → Bool };
 
-    /// Whether an old row has this one's key.
+    /// Whether an old row has the same key.
     fn is_alike(&self, old: &Self) -> bool
         ensures { result ≡ alike self.now old.now };
 
-    /// They have one key where they are compared as equal.
+    /// Two rows have the same key if they compare as equal.
     ghost same_key: { (new old : Self) → is_eq (Self.compared old new) ≡ alike new old };
 }
 

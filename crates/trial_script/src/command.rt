@@ -1,7 +1,7 @@
-//! What a line of a script does that asks nothing.
+//! Defines the commands of a script: lines that make no request.
 use crate::fault::ScriptFault;
 
-/// What a line does, by its first word.
+/// The command of a line, given by its first word.
 #[derive(Clone, Copy)]
 pub enum Command {
     /// `hub`
@@ -23,7 +23,7 @@ pub enum Command {
 }
 
 impl Command {
-    /// The command of this word.
+    /// Returns the command of this word.
     pub fn of(word: &[u8]) -> Result<Command, ScriptFault> {
         match word {
             b"hub" => Ok(Command::Hub),

@@ -1,19 +1,19 @@
-//! Why a script was not played to its end.
+//! Defines why a script could not be run to its end.
 use edi_base::{ReadFault, WriteFault};
 use hub_register::RegisterFault;
 use std::alloc::AllocError;
 use std::fmt;
 
-/// Why a script was not played to its end.
+/// Why a script could not be run to its end.
 #[derive(Clone, Copy)]
 pub enum ScriptFault {
-    /// A line that no script has, or bytes that are cut.
+    /// A line that no script may have, or bytes that are cut short.
     Line,
-    /// A text that is no register.
+    /// A text that is not a register.
     Register,
-    /// A failed read or write.
+    /// A read or write failed.
     File,
-    /// Out of memory, for the script or for what is printed.
+    /// Memory ran out, for the script or for what is printed.
     Memory,
 }
 

@@ -1,37 +1,38 @@
-//! Plays a script on a hub, and prints each reply: `trial_script < script` over lists in memory, `trial_script sql < script`
-//! over tables of SQL in memory, and `trial_script file PATH < script` over tables of SQL in a file. `trial_script stop-file C`
-//! and `trial_script stop-log C` play it over a database file and its log in memory, of which the one or the other fails
-//! each call after C, as where the machine stops; what it keeps is there once it is opened anew. `stop-file C PATH` and
-//! `stop-log C PATH` do so over a copy of the database file at PATH, as one of schema 1.
+//! Runs a script on a hub, and prints each reply: `trial_script < script` keeps the rows in lists in memory,
+//! `trial_script sql < script` in SQL tables in memory, and `trial_script file PATH < script` in SQL tables in a file.
+//! `trial_script stop-file C` and `trial_script stop-log C` use a database file and its log in memory; each call of the
+//! file, or of the log, fails after the first C, as if the machine had stopped, and what was kept is there again once
+//! it is reopened. `stop-file C PATH` and `stop-log C PATH` do this with a copy of the database file at PATH, such as
+//! one of schema 1.
 //!
-//! A script is lines of words, each parted from the next by one blank. Where a line names a number of bytes, they
-//! follow it, and then a line end.
+//! A script is lines of words, separated by single blanks. If a line names a number of bytes, these bytes follow it,
+//! and then a line end.
 //!
 //! The lines:
 //!
-//! - `hub N`, `hub N memory C` and `hub N disk C` make a hub, of the register whose text the N bytes are and without further
-//!   rows; but of a file that has tables with its rows, or with what a file kept that stopped while it was opened, and of
-//!   the register that these hold. Beside the rows of a file of schema 1 it is founded with the register of the text. Its
-//!   store fails with this fault at the call after C others; the one that gives its register does not count. Where the
-//!   store is not opened, prints `store` and the fault.
-//! - `as MOMENT GLN KEY` says who asks from now on, and when, in seconds.
-//! - `upload N`, `after N`, `item N`, `taken N`, `status`, `status-of GLN` and `cancel N` ask; the bytes of `upload` and
-//!   `cancel` follow.
-//! - `join GLN KEY PREFIX[,PREFIX..]` asks that a supplier be let in with this key and these company prefixes. A line that
-//!   is no join, as one with nine prefixes, is a fault of the script.
-//! - `run` and `end` put what is asked between them into one run.
-//! - `connection N`, then `piece P`, `reads R`, `takes T`, `writes W` and `interrupted` where they are wanted, serves a
-//!   connection of HTTP whose bytes the N are, at the moment of the last `as`. A read gives at most P bytes, and the one
-//!   after R others fails; a write takes at most T bytes, and the one after W others fails, by an interruption where that
-//!   is said. Prints `served` with the status or `fault` with its kind, the length of what went out, a line end, and that.
-//! - `mend` opens the store anew, with its rows, or what a crash leaves of a file that stopped; no call of it fails. Where
-//!   it is not opened, prints `store` and the fault.
-//! - `counts` prints how many look-ups and commits there were since the hub was made or its store opened anew.
-//! - `quiet` and `loud` print no reply from here on, or each again.
+//! - `hub N`, `hub N memory C` and `hub N disk C` make a hub with the register in the text of N bytes and no other
+//!   rows. A file that already has tables, or that kept something when it stopped during opening, gives its own rows
+//!   and register instead. A file of schema 1 keeps its rows, and the register of the text is founded beside them. The
+//!   hub's store fails with the named fault after C calls; the call that returns its register does not count. If the
+//!   store cannot be opened, prints `store` and the fault.
+//! - `as MOMENT GLN KEY` sets the caller of the requests that follow, and their moment in seconds.
+//! - `upload N`, `after N`, `item N`, `taken N`, `status`, `status-of GLN` and `cancel N` make a request; the bytes of
+//!   `upload` and `cancel` follow.
+//! - `join GLN KEY PREFIX[,PREFIX..]` asks to register a supplier with this key and these company prefixes. A line that
+//!   is not a valid join, such as one with nine prefixes, is a fault of the script.
+//! - `run` and `end` combine the requests between them into one run.
+//! - `connection N`, then any of `piece P`, `reads R`, `takes T`, `writes W` and `interrupted`, serves an HTTP
+//!   connection whose N bytes follow, at the moment of the last `as`. A read returns at most P bytes, and fails after R
+//!   others; a write accepts at most T bytes, and fails after W others; with `interrupted`, they fail with an
+//!   interruption. Prints `served` with the status or `fault` with its kind, the length of what was sent, a line end,
+//!   and what was sent.
+//! - `mend` reopens the store with its rows, or with what a crash leaves of a file that stopped; from then on no call
+//!   fails. If it cannot be opened, prints `store` and the fault.
+//! - `counts` prints how many look-ups and commits there were since the hub was made or its store was reopened.
+//! - `quiet` stops printing replies, and `loud` starts again.
 //!
-//! Of each reply it prints the outcome, `refused` where something was refused, the length of the body, a line end, and
-//! the body. The exit status is 0, or 1 where the script has a fault, and 3 where memory ran out for it, or a read or write
-//! failed.
+//! For each reply it prints the outcome, `refused` if something was refused, the length of the body, a line end, and
+//! the body. The exit status is 0; 1 if the script has a fault; or 3 if memory ran out, or a read or write failed.
 #![tactic(auto)]
 
 mod command;
@@ -64,7 +65,7 @@ use trial_lists::VecStore;
 /// The longest script, in bytes.
 const SCRIPT_LIMIT: usize = 64 << 20;
 
-// Plays the script on standard input.
+// Runs the script on standard input.
 fn play<S: Store + Drop, O: Opener<S>>(rt: &HostRuntime, opener: O) -> Result<(), ScriptFault> {
     let text = read_to_limit(rt.alloc(), &mut OfRead::new(rt.stdin()), SCRIPT_LIMIT)?;
     let mut trial = Trial::<S, O>::new(rt.alloc(), opener)?;
@@ -79,7 +80,7 @@ fn over_sql(rt: &HostRuntime) -> Result<(), ScriptFault> {
     over_tables::<MemStore, InMemory>(rt, InMemory)
 }
 
-// Plays it over tables of SQL, wherever they are kept.
+// Runs it on SQL tables, wherever they are kept.
 fn over_tables<A: Alter + Drop, O: Opener<SqliteStore<A>>>(
     rt: &HostRuntime,
     opener: O,
@@ -108,7 +109,7 @@ fn over_stopping<D: Stopping>(
     )
 }
 
-// Plays it over files of which one stops after so many calls. The database file holds these bytes at first.
+// Runs it on files of which one stops after this many calls. The database file holds these bytes at first.
 fn over_stopped(
     rt: &HostRuntime,
     word: &str,
@@ -123,13 +124,13 @@ fn over_stopped(
     }
 }
 
-// The bytes of a file.
+// Returns the bytes of a file.
 fn bytes_of(rt: &HostRuntime, path: &str) -> Result<Vec<u8>, ScriptFault> {
     let file = File::open(rt, path).map_err(|_| ScriptFault::File)?;
     Ok(read_to_limit(rt.alloc(), &mut OfRead::new(file), SCRIPT_LIMIT)?)
 }
 
-// Plays it over the store that the words name.
+// Runs it on the store that the arguments name.
 fn over_named(rt: &HostRuntime, words: &[String]) -> Result<(), ScriptFault> {
     match words {
         [] | [_] => over_lists(rt),

@@ -1,4 +1,4 @@
-//! How the store of a hub is opened.
+//! Opens the store of a hub.
 use hub_register::Register;
 use hub_sql::{FoundFault, SqliteStore};
 use hub_store::{Store, StoreFault};
@@ -9,20 +9,20 @@ use sqlite_trees::memory::MemStore;
 use std::alloc::Global;
 use trial_lists::VecStore;
 
-/// How the store of a hub is opened.
+/// Opens the store of a hub.
 pub trait Opener<S: Store>: Drop {
-    /// The store, anew: with the rows that it has, or founded with those of this register.
+    /// Opens the store, with the rows that it has, or founded with those of this register.
     fn open(&mut self, rt: &HostRuntime, register: &Register) -> Result<S, FoundFault>;
 
-    /// A store that stood, opened anew with what it keeps; one that stopped before it was founded, with the rows of this
+    /// Reopens a store with what it kept; one that stopped before it was founded is founded with the rows of this
     /// register.
     fn again(&mut self, rt: &HostRuntime, register: &Register, store: S) -> Result<S, FoundFault>;
 
-    /// Takes a store back of which there is no hub.
+    /// Takes back a store that no hub uses.
     fn take_back(&mut self, store: S);
 }
 
-/// In memory, with the rows of the register alone.
+/// Keeps the store in memory, with only the rows of the register.
 #[derive(Drop)]
 pub struct InMemory;
 
@@ -70,9 +70,9 @@ impl Opener<SqliteStore<MemStore>> for InMemory {
     fn take_back(&mut self, _store: SqliteStore<MemStore>) {}
 }
 
-/// What is supposed of a file that is opened, made anew for each opening.
+/// What is assumed of a file that is opened, made again for each opening.
 pub trait Supposed: Start {
-    /// What is supposed.
+    /// Returns the assumption.
     fn supposed() -> Self;
 }
 
@@ -82,7 +82,7 @@ impl Supposed for Unknown {
     }
 }
 
-/// In a file, with the rows that it has, or founded there.
+/// Keeps the store in a file, with the rows that it has, or founded there.
 #[derive(Drop)]
 pub struct InFile<'a> {
     /// The path of the file.

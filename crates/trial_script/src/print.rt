@@ -1,4 +1,4 @@
-//! What a script prints.
+//! Prints the results of a script.
 use crate::fault::ScriptFault;
 use edi_base::{Sink, WriteFault, write_bytes};
 use hub_http::{IoFault, Outcome, Reply, Served};
@@ -6,7 +6,7 @@ use hub_sql::FoundFault;
 use hub_store::StoreFault;
 use std::alloc::{AllocError, Global};
 
-// How an outcome is printed.
+// Returns the word that is printed for an outcome.
 fn word_of(outcome: Outcome) -> &'static str {
     match outcome {
         Outcome::Done => "done",
@@ -17,7 +17,7 @@ fn word_of(outcome: Outcome) -> &'static str {
     }
 }
 
-// How a fault of opening is printed.
+// Returns the word that is printed for a fault of opening.
 fn word_of_fault(fault: FoundFault) -> &'static str {
     match fault {
         FoundFault::Rows => "rows",
@@ -28,7 +28,7 @@ fn word_of_fault(fault: FoundFault) -> &'static str {
     }
 }
 
-// The line of a reply.
+// Returns the line of a reply.
 fn reply_line(alloc: Global, reply: &Reply) -> Result<String, AllocError> {
     let outcome = word_of(reply.outcome);
     let refused = if reply.refused { " refused" } else { "" };
@@ -36,7 +36,7 @@ fn reply_line(alloc: Global, reply: &Reply) -> Result<String, AllocError> {
     format!(in alloc; "{outcome}{refused} {length}\n")
 }
 
-// The line of a connection that was served, or was not, of which so many bytes went out.
+// Returns the line of a connection that was served, or was not; `length` bytes were sent on it.
 fn served_line(
     alloc: Global,
     served: Result<Served, IoFault>,
@@ -67,7 +67,7 @@ pub fn write_fault<W: Sink>(
     Ok(write_bytes(line.as_bytes(), out)?)
 }
 
-// Prints a reply: its outcome, whether something was refused, the length of its body, and that.
+// Prints a reply: its outcome, whether something was refused, the length of its body, and the body.
 fn write_reply<W: Sink>(alloc: Global, reply: &Reply, out: &mut W) -> Result<(), ScriptFault> {
     let line = reply_line(alloc, reply)?;
     Ok(write_both(line.as_bytes(), reply.body.as_slice(), out)?)
@@ -85,7 +85,7 @@ pub fn write_replies<W: Sink>(
     Ok(())
 }
 
-/// Prints the status that was written, or the fault, and what went out.
+/// Prints the status that was written, or the fault, and what was sent.
 pub fn write_served<W: Sink>(
     alloc: Global,
     served: Result<Served, IoFault>,

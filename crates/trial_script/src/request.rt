@@ -1,4 +1,4 @@
-//! What a line of a script asks.
+//! Reads the requests of a script.
 use crate::fault::ScriptFault;
 use crate::script::{Script, Words};
 use edi_base::copied;
@@ -6,7 +6,7 @@ use gs1_ids::Prefix;
 use hub_http::{Join, Request, read_cancel};
 use std::alloc::Global;
 
-// The number of a mailbox entry.
+// Reads the number of a mailbox entry.
 fn number(words: &mut Words<'_>) -> Result<u64, ScriptFault> {
     words.next_number().ok_or(ScriptFault::Line)
 }
@@ -38,7 +38,7 @@ fn cancel(
     }
 }
 
-// Company prefixes, each parted from the next by a comma.
+// Reads company prefixes that are separated by commas.
 fn prefixes_of(alloc: Global, word: &[u8]) -> Result<Vec<Prefix>, ScriptFault> {
     let mut prefixes = Vec::new(alloc);
     for text in word.split(|byte| *byte == b',') {
@@ -58,7 +58,7 @@ fn join(alloc: Global, words: &mut Words<'_>) -> Result<Option<Request>, ScriptF
     }
 }
 
-/// The request of a line that begins with this word; none for another word.
+/// Returns the request of a line that begins with this word; `None` if the word begins no request.
 pub fn request_of(
     alloc: Global,
     word: &[u8],
@@ -78,7 +78,7 @@ pub fn request_of(
     }
 }
 
-/// The bytes after a line, whose number is its next word.
+/// Returns the bytes that follow a line; its next word is their number.
 pub fn payload<'a>(
     words: &mut Words<'_>,
     script: &mut Script<'a>,

@@ -1,10 +1,10 @@
-//! Scripts: lines of words, and bytes whose number a line names.
+//! Splits a script into lines of words, and bytes whose number a line names.
 ghost use Rattle.std.specs.Prelude.{◌≤◌, length};
 
 use gs1_ids::Gln;
 use std::str;
 
-// How many bytes stand before the first of these.
+// Returns how many bytes come before the first `stop`.
 fn length_before(stop: u8, text: &[u8]) -> usize
     ensures within { result ≤ length text.now }
 {
@@ -16,7 +16,7 @@ fn length_before(stop: u8, text: &[u8]) -> usize
     text.len()
 }
 
-// The bytes before the first of these, and those after it.
+// Returns the bytes before the first `stop`, and those after it.
 fn cut_at(stop: u8, text: &[u8]) -> (&[u8], &[u8]) {
     let (first, rest) = text.split_at(length_before(stop, text));
     match rest.split_first() {
@@ -32,12 +32,12 @@ pub struct Script<'a> {
 }
 
 impl<'a> Script<'a> {
-    /// A whole script.
+    /// Begins with the whole script.
     pub fn new(text: &'a [u8]) -> Self {
         Script { rest: text }
     }
 
-    /// The words of the next line; none at the end of the script.
+    /// Returns the words of the next line; `None` at the end of the script.
     pub fn next_line(&mut self) -> Option<Words<'a>> {
         if self.rest.is_empty() {
             return None;
@@ -47,7 +47,7 @@ impl<'a> Script<'a> {
         Some(Words { rest: line })
     }
 
-    /// The next so many bytes, where there are so many; the line end after them is passed over.
+    /// Returns the next `count` bytes and skips the line end after them; `None` if there are not that many.
     pub fn next_bytes(&mut self, count: usize) -> Option<&'a [u8]> {
         if count > self.rest.len() {
             return None;
@@ -61,31 +61,31 @@ impl<'a> Script<'a> {
     }
 }
 
-/// The words that are left of a line, each parted from the next by one blank.
+/// The words that are left of a line, separated by single blanks.
 #[derive(Drop)]
 pub struct Words<'a> {
     rest: &'a [u8],
 }
 
 impl<'a> Words<'a> {
-    /// The next word; empty at the end of the line.
+    /// Returns the next word, which is empty at the end of the line.
     pub fn next_word(&mut self) -> &'a [u8] {
         let (word, after) = cut_at(b' ', self.rest);
         self.rest = after;
         word
     }
 
-    /// The next word as a number.
+    /// Returns the next word as a number.
     pub fn next_number(&mut self) -> Option<u64> {
         str::from_utf8(self.next_word()).ok()?.parse().ok()
     }
 
-    /// The next word as a count of bytes.
+    /// Returns the next word as a count of bytes.
     pub fn next_count(&mut self) -> Option<usize> {
         str::from_utf8(self.next_word()).ok()?.parse().ok()
     }
 
-    /// The next word as a GLN.
+    /// Returns the next word as a GLN.
     pub fn next_gln(&mut self) -> Option<Gln> {
         Gln::parse(self.next_word())
     }

@@ -1,4 +1,4 @@
-//! Files in memory that fail from some call on, as where the machine stops, and come back from that.
+//! Keeps files in memory that fail from some call on, as if the machine had stopped, and that can come back afterwards.
 ghost use Rattle.std.specs.Prelude.{◌≡◌, false, None, IfOk, IsTrue};
 
 use crate::opening::Opener;
@@ -12,9 +12,9 @@ use sqlite_store::FileStore;
 use std::alloc::Global;
 use std::io;
 
-/// A file of which each call fails after so many others, until the machine comes back.
+/// A file whose calls all fail after the first `calls`, until the machine comes back.
 pub trait Stopping: Crash + Drop {
-    /// A file that holds these bytes.
+    /// Makes a file that holds these bytes.
     fn stopping(alloc: Global, bytes: &[u8], calls: u64) -> io::Result<Self>;
 }
 
@@ -27,7 +27,7 @@ impl Stopping for Fuse<Memory> {
     }
 }
 
-// A file that holds these bytes, and can be used.
+// Makes a usable file that holds these bytes.
 fn file_of<D: Stopping>(alloc: Global, bytes: &[u8], calls: u64) -> Result<D, StoreFault>
     ensures { IfOk result (λ file. IsTrue (D.Disk.is_usable file)) }
 {
@@ -43,17 +43,17 @@ fn file_of<D: Stopping>(alloc: Global, bytes: &[u8], calls: u64) -> Result<D, St
 /// A database file and its log, of which one stops.
 #[derive(Drop)]
 pub struct StoppingFiles<D: Stopping> {
-    /// The calls of the database file that do not fail.
+    /// The calls of the database file before it fails.
     pub of_file: u64,
-    /// The calls of its log that do not fail.
+    /// The calls of its log before it fails.
     pub of_log: u64,
     /// What the database file holds at first.
     pub held: Vec<u8>,
-    /// What an opening left that failed.
+    /// What a failed opening left.
     pub left: Option<Files<D>>,
 }
 
-// The files once the machine has come back: what a crash leaves of them.
+// Returns the files after the machine has come back: what a crash leaves of them.
 fn crashed<D: Stopping>(files: Files<D>) -> Files<D>
     ensures log { IsTrue (D.Disk.is_usable result.log) }
     ensures db { IsTrue (D.Disk.is_usable result.db) }
@@ -64,7 +64,7 @@ fn crashed<D: Stopping>(files: Files<D>) -> Files<D>
     Files { log, db }
 }
 
-// The files of what came back with a fault.
+// Returns the files of what came back with a fault.
 fn returned<D: Stopping>(back: Returned<FileStore<D>>) -> Files<D> {
     match back {
         Returned::Connection(conn) => conn.into_store().close(),
@@ -72,15 +72,15 @@ fn returned<D: Stopping>(back: Returned<FileStore<D>>) -> Files<D> {
     }
 }
 
-// The log is copied into the file often, so that both are written while the script runs.
+// Copies the log into the file often, so that both are written while the script runs.
 fn options() -> Options {
     let mut options = Options::new(0);
     options.checkpoint_frames = 16;
     options
 }
 
-// The store over a connection: with the rows that it has, or founded with those of a register where it has no tables or
-// those of schema 1.
+// Returns the store over a connection: with the rows that it has, or founded with those of a register if it has no
+// tables or those of schema 1.
 fn held<A: Alter + Drop>(
     alloc: Global,
     conn: Connection<A>,
@@ -99,7 +99,7 @@ fn held<A: Alter + Drop>(
 }
 
 impl<D: Stopping> StoppingFiles<D> {
-    // What was left, or new files.
+    // Returns the files that were left, or new ones.
     fn next_files(&mut self, alloc: Global) -> Result<Files<D>, StoreFault>
         ensures log { IfOk result (λ files. IsTrue (D.Disk.is_usable files.log)) }
         ensures db { IfOk result (λ files. IsTrue (D.Disk.is_usable files.db)) }

@@ -1,4 +1,4 @@
-//! A hub that is tried by a script.
+//! Runs a script on a hub.
 ghost use Rattle.std.specs.Prelude.{◌≡◌};
 
 use crate::command::Command;
@@ -19,7 +19,7 @@ use std::alloc::Global;
 use std::{slice, str};
 use trial_store::TrialStore;
 
-/// Who asks, and when.
+/// The caller, and the moment of its requests.
 #[derive(Drop)]
 struct Asker {
     moment: Moment,
@@ -27,7 +27,7 @@ struct Asker {
     key: Items<u8>,
 }
 
-/// The hub; who asks it; the inputs of a run that is not made yet; and whether replies are printed.
+/// The hub, its current caller, the inputs of a run that is not made yet, and whether replies are printed.
 #[derive(Drop)]
 pub struct Trial<S: Store + Drop, O: Opener<S>> {
     alloc: Global,
@@ -39,14 +39,14 @@ pub struct Trial<S: Store + Drop, O: Opener<S>> {
     quiet: bool,
 }
 
-// How a store fails, at the call after so many others. The one that gives its register does not count.
+// How a store fails after this many calls. The call that returns its register does not count.
 #[derive(Clone, Copy)]
 enum Failure {
     Memory(u64),
     Disk(u64),
 }
 
-// How the store of a line fails; not at all where it has no more words.
+// Reads how the store of a line fails; `None` if the line has no more words.
 fn failure_of(words: &mut Words<'_>) -> Result<Option<Failure>, ScriptFault> {
     let word = words.next_word();
     if word.is_empty() {
@@ -74,13 +74,13 @@ fn store_of<S: Store>(plain: S, failure: Option<Failure>) -> TrialStore<S>
     }
 }
 
-// The register of these bytes.
+// Reads a register from these bytes.
 fn register_of(alloc: Global, bytes: &[u8]) -> Result<Register, ScriptFault> {
     let text = str::from_utf8(bytes).map_err(|_| ScriptFault::Register)?;
     Ok(Register::from_toml(alloc, text)?)
 }
 
-// Who asks from now on, by the words of a line.
+// Reads the caller and the moment from the words of a line.
 fn asker_of(alloc: Global, words: &mut Words<'_>) -> Result<Asker, ScriptFault> {
     let seconds = words.next_number().ok_or(ScriptFault::Line)?;
     let moment = Moment::new(seconds).ok_or(ScriptFault::Line)?;
@@ -89,7 +89,7 @@ fn asker_of(alloc: Global, words: &mut Words<'_>) -> Result<Asker, ScriptFault> 
     Ok(Asker { moment, gln, key })
 }
 
-// What whoever asks puts into a run.
+// Makes the input of a run from a request of the current caller.
 fn input_of(alloc: Global, asker: Option<&Asker>, request: Request) -> Result<Input, ScriptFault> {
     let Some(asker) = asker else {
         return Err(ScriptFault::Line);
@@ -113,7 +113,7 @@ fn push_input(
     }
 }
 
-// The calls of a hub, each by itself: its contract is then of no other's goals.
+// The calls of a hub are in functions of their own, to keep the contract of each away from the goals of the others.
 fn replied<S: Store>(hub: &mut Hub<S>, asker: &Asker, request: Request) -> Reply {
     hub.step(asker.moment, &asker.gln, asker.key.as_slice(), request)
 }
@@ -134,7 +134,7 @@ fn served<S: Store>(
 }
 
 impl<S: Store + Drop, O: Opener<S>> Trial<S, O> {
-    /// No hub yet.
+    /// Begins without a hub.
     pub fn new(alloc: Global, opener: O) -> Result<Self, ScriptFault> {
         Ok(Trial {
             alloc,
@@ -147,7 +147,7 @@ impl<S: Store + Drop, O: Opener<S>> Trial<S, O> {
         })
     }
 
-    /// Plays a script, and prints what it answers.
+    /// Runs a script, and prints the replies.
     pub fn play<W: Sink>(
         &mut self,
         rt: &HostRuntime,
@@ -155,7 +155,7 @@ impl<S: Store + Drop, O: Opener<S>> Trial<S, O> {
         out: &mut W,
     ) -> Result<(), ScriptFault> {
         let mut script = Script::new(text);
-        // each line takes a byte at least
+        // each line takes at least one byte
         for _ in 0..text.len() {
             let Some(mut words) = script.next_line() else {
                 return Ok(());
@@ -180,7 +180,7 @@ impl<S: Store + Drop, O: Opener<S>> Trial<S, O> {
         }
     }
 
-    // Does what a line says that asks nothing.
+    // Runs a command.
     fn command<W: Sink>(
         &mut self,
         rt: &HostRuntime,
@@ -204,7 +204,7 @@ impl<S: Store + Drop, O: Opener<S>> Trial<S, O> {
         }
     }
 
-    // A hub, over its store as it is opened anew, or founded with the register of the text.
+    // Makes a hub over its store, which is opened, or founded with the register of the text.
     fn make_hub<W: Sink>(
         &mut self,
         rt: &HostRuntime,
@@ -214,7 +214,7 @@ impl<S: Store + Drop, O: Opener<S>> Trial<S, O> {
     ) -> Result<(), ScriptFault> {
         let register = register_of(self.alloc, payload(words, script)?)?;
         let failure = failure_of(words)?;
-        // a file is opened once at a time
+        // a file can be open only once at a time
         self.hub = None;
         match self.opener.open(rt, &register) {
             Ok(plain) => self.set_hub(plain, failure, out),
@@ -222,7 +222,7 @@ impl<S: Store + Drop, O: Opener<S>> Trial<S, O> {
         }
     }
 
-    // The hub of a store that was opened, and fails in this way.
+    // Makes the hub of a store that was opened and fails in this way.
     fn set_hub<W: Sink>(
         &mut self,
         plain: S,
@@ -241,13 +241,13 @@ impl<S: Store + Drop, O: Opener<S>> Trial<S, O> {
         }
     }
 
-    // Who asks from now on, and when.
+    // Sets the caller of the requests that follow, and their moment.
     fn set_asker(&mut self, words: &mut Words<'_>) -> Result<(), ScriptFault> {
         self.asker = Some(asker_of(self.alloc, words)?);
         Ok(())
     }
 
-    // Asks, or puts what is asked into the run.
+    // Makes a request, or adds it to the run.
     fn ask<W: Sink>(&mut self, request: Request, out: &mut W) -> Result<(), ScriptFault> {
         match &mut self.run {
             Some(inputs) => push_input(inputs, input_of(self.alloc, self.asker.as_ref(), request)),
@@ -255,7 +255,7 @@ impl<S: Store + Drop, O: Opener<S>> Trial<S, O> {
         }
     }
 
-    // Asks, and prints the reply.
+    // Makes a request, and prints the reply.
     fn step<W: Sink>(&mut self, request: Request, out: &mut W) -> Result<(), ScriptFault> {
         let (Some(hub), Some(asker)) = (&mut self.hub, &self.asker) else {
             return Err(ScriptFault::Line);
@@ -264,19 +264,19 @@ impl<S: Store + Drop, O: Opener<S>> Trial<S, O> {
         self.tell(slice::from_ref(&reply), out)
     }
 
-    // A run, of which no input is there yet.
+    // Begins a run without any inputs.
     fn begin_run(&mut self) -> Result<(), ScriptFault> {
         self.run = Some(Vec::new(self.alloc));
         Ok(())
     }
 
-    // Asks all that was put into the run, and prints the replies.
+    // Makes the run, and prints the replies.
     fn make_run<W: Sink>(&mut self, out: &mut W) -> Result<(), ScriptFault> {
         let replies = self.replies()?;
         self.tell(replies.as_slice(), out)
     }
 
-    // What all that was put into the run is answered.
+    // Makes the run, and returns the replies.
     fn replies(&mut self) -> Result<Items<Reply>, ScriptFault> {
         let Some(inputs) = self.run.take() else {
             return Err(ScriptFault::Line);
@@ -295,7 +295,7 @@ impl<S: Store + Drop, O: Opener<S>> Trial<S, O> {
         write_replies(self.alloc, replies, out)
     }
 
-    // Serves a connection whose bytes follow, and prints the status that was written, or the fault, and what went out.
+    // Serves a connection whose bytes follow, and prints the status that was written, or the fault, and what was sent.
     fn serve<W: Sink>(
         &mut self,
         words: &mut Words<'_>,
@@ -312,7 +312,7 @@ impl<S: Store + Drop, O: Opener<S>> Trial<S, O> {
         write_served(self.alloc, served, writer.bytes(), out)
     }
 
-    // Opens the store anew, with what it keeps, and no call of it fails. The register is read from it again.
+    // Reopens the store with what it keeps; from then on no call of it fails. The register is read from it again.
     fn mend<W: Sink>(&mut self, rt: &HostRuntime, out: &mut W) -> Result<(), ScriptFault> {
         let Some(hub) = self.hub.take() else {
             return Err(ScriptFault::Line);
@@ -324,7 +324,7 @@ impl<S: Store + Drop, O: Opener<S>> Trial<S, O> {
         }
     }
 
-    // Prints how many look-ups and commits there were since the hub was made or its store opened anew.
+    // Prints how many look-ups and commits there were since the hub was made or its store was reopened.
     fn tell_counts<W: Sink>(&mut self, out: &mut W) -> Result<(), ScriptFault> {
         let store = self.hub.as_ref().ok_or(ScriptFault::Line)?.store();
         write_counts(self.alloc, store.look_ups(), store.commits(), out)

@@ -1,30 +1,30 @@
-//! Connections whose bytes a script gives, and whose reads and writes fail where it says.
+//! Simulates connections whose bytes a script gives, and whose reads and writes fail as it says.
 use crate::fault::ScriptFault;
 use crate::script::Words;
 use edi_base::{Sink, Source};
 use std::alloc::{AllocError, Global};
 use std::io;
 
-/// How many bytes of a response there is room for.
+/// The bytes of a response for which there is room.
 const ROOM: usize = 65_536;
 
-/// How the bytes of a connection come and go.
+/// How the bytes of a connection are read and written.
 #[derive(Clone, Copy)]
 pub struct Manner {
-    /// A read gives at most so many bytes.
+    /// A read returns at most this many bytes.
     piece: usize,
-    /// The read after so many others fails.
+    /// A read fails after this many others.
     reads: u64,
-    /// A write takes at most so many bytes.
+    /// A write accepts at most this many bytes.
     takes: usize,
-    /// The write after so many others fails.
+    /// A write fails after this many others.
     writes: u64,
-    /// What fails was interrupted.
+    /// The failures are interruptions.
     interrupted: bool,
 }
 
 impl Manner {
-    /// What the words of a line say, four with a number, `piece`, `reads`, `takes` and `writes`, and `interrupted`.
+    /// Reads the words of a line: `piece`, `reads`, `takes` and `writes`, each with a number, and `interrupted`.
     pub fn of(words: &mut Words<'_>) -> Result<Manner, ScriptFault> {
         let mut manner = Manner {
             piece: usize::MAX,
@@ -47,7 +47,7 @@ impl Manner {
         Ok(manner)
     }
 
-    // How a read or write fails.
+    // Returns the error of a failed read or write.
     fn failure(&self) -> io::Error {
         io::Error::from(if self.interrupted {
             io::ErrorKind::Interrupted
@@ -57,7 +57,7 @@ impl Manner {
     }
 }
 
-/// What comes of a connection.
+/// The bytes that arrive on a connection.
 #[derive(Drop)]
 pub struct Incoming<'a> {
     left: &'a [u8],
@@ -65,7 +65,7 @@ pub struct Incoming<'a> {
 }
 
 impl<'a> Incoming<'a> {
-    /// These bytes, in this manner.
+    /// Gives these bytes, in this manner.
     pub fn new(bytes: &'a [u8], manner: Manner) -> Self {
         Incoming {
             left: bytes,
@@ -89,7 +89,7 @@ impl Source for Incoming<'_> {
     }
 }
 
-/// What goes out on a connection.
+/// The bytes that are sent on a connection.
 #[derive(Drop)]
 pub struct Outgoing {
     taken: Vec<u8>,
@@ -97,7 +97,7 @@ pub struct Outgoing {
 }
 
 impl Outgoing {
-    /// Nothing yet. There is room for most responses, so that memory refused here is not taken for a failed write.
+    /// Begins empty, with room for most responses, so that refused memory does not look like a failed write.
     pub fn new(alloc: Global, manner: Manner) -> Result<Self, AllocError> {
         Ok(Outgoing {
             taken: Vec::with_capacity(alloc, ROOM)?,
@@ -105,7 +105,7 @@ impl Outgoing {
         })
     }
 
-    /// What went out.
+    /// Returns what was sent.
     pub fn bytes(&self) -> &[u8] {
         self.taken.as_slice()
     }

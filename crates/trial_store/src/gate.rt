@@ -1,11 +1,11 @@
-//! What each call passes before it comes to the store below.
+//! Counts the calls of a store, and makes one of them fail before it reaches the store below.
 ghost use Rattle.std.specs.Prelude.{◌≡◌, ◌≢◌, ◌+◌, ◌-◌, ◌^◌, min, false, None, Err, OnOk};
 ghost use Rattle.hub_store.specs.Calls.{Fails, broken_by, broken_after};
 ghost use Rattle.hub_store.specs.declared.fault.StoreFault.TheVariants.{Unclean, Version};
 
 use hub_store::{LastingFault, StoreFault};
 
-/// A call that fails, after so many others.
+/// The fault that a call gets after `calls` others.
 #[derive(Clone, Copy, Debug)]
 pub(crate) struct Stop {
     pub(crate) calls: u64,
@@ -13,7 +13,7 @@ pub(crate) struct Stop {
     ghost injected: { (fault ≢ Unclean) × (fault ≢ Version) },
 }
 
-/// What is counted, where a call is to fail, and the fault for good.
+/// What was counted, the call that is to fail, and the lasting fault, if there is one.
 #[derive(Debug, Drop)]
 pub(crate) struct Gate {
     pub(crate) look_ups: u64,
@@ -23,7 +23,7 @@ pub(crate) struct Gate {
 }
 
 impl Gate {
-    /// Counts a look-up, and fails where it is to fail.
+    /// Counts a look-up, and fails if it is to fail.
     pub(crate) fn look_up(&mut self) -> Result<(), StoreFault>
         ensures open { OnOk result ((self.old.broken ≡ None) × (self.new.broken ≡ None)) }
         ensures fails { Fails false self.old.broken self.new.broken result }
@@ -35,7 +35,7 @@ impl Gate {
         self.pass()
     }
 
-    /// Counts a commit, and fails where it is to fail.
+    /// Counts a commit, and fails if it is to fail.
     pub(crate) fn commit(&mut self) -> Result<(), StoreFault>
         ensures open { OnOk result ((self.old.broken ≡ None) × (self.new.broken ≡ None)) }
         ensures fails { Fails false self.old.broken self.new.broken result }
@@ -47,7 +47,7 @@ impl Gate {
         self.pass()
     }
 
-    /// The fault of this call, where it has one. It is not counted.
+    /// Fails with the fault of this call, if it has one. Does not count the call.
     pub(crate) fn pass(&mut self) -> Result<(), StoreFault>
         ensures open { OnOk result ((self.old.broken ≡ None) × (self.new.broken ≡ None)) }
         ensures fails { Fails false self.old.broken self.new.broken result }
@@ -77,7 +77,7 @@ impl Gate {
         }
     }
 
-    /// Keeps a fault that is for good.
+    /// Keeps a lasting fault.
     pub(crate) fn note(&mut self, fault: StoreFault)
         ensures broken { self.new.broken ≡ broken_by self.old.broken fault }
         ensures look_ups { self.new.look_ups ≡ self.old.look_ups }
@@ -90,7 +90,7 @@ impl Gate {
         }
     }
 
-    /// Keeps the fault of a call of the store below, where that is for good.
+    /// Keeps the fault of a call of the store below, if it is lasting.
     pub(crate) fn seen<X>(&mut self, found: &Result<X, StoreFault>)
         ensures broken { self.new.broken ≡ broken_after self.old.broken found.now }
         ensures look_ups { self.new.look_ups ≡ self.old.look_ups }

@@ -1,7 +1,7 @@
-//! A store for trials of what stands on a store: it counts the calls of another one, and fails at one of them.
+//! Tests what is built on a store: counts the calls of another store, and fails at one of them.
 //!
-//! A call that fails does so before it comes to the store below. A commit that is made and fails then cannot be tried:
-//! the content would be another than before, which a store may not leave at a fault.
+//! A call that fails does so before it reaches the store below. So a commit that is made and then fails cannot be
+//! tested: its content would have changed, which a store may not do after a fault.
 #![tactic(auto)]
 
 mod gate;

@@ -1,4 +1,4 @@
-//! A store that counts the calls of another one, and fails at one of them.
+//! Counts the calls of another store, and fails at one of them.
 ghost use Rattle.std.specs.Prelude.{◌≡◌, ◌≢◌};
 ghost use Rattle.hub_store.specs.declared.fault.StoreFault.TheVariants.{Unclean, Version};
 
@@ -11,9 +11,9 @@ use hub_tables::{Change, ContentRow, LineRow, MailRow, PalletRow, ReceiptRow, Si
 use std::collections::BTreeSet;
 use std::marker::Model;
 
-/// A store that counts the calls of another one, and that can fail at one of them. Contracts see it as the store
-/// below, the fault that each call answers from now on, and how many look-ups and commits there were. Of the calls
-/// of a store, `fault` and `register` are counted as neither; `register` can be the one that fails.
+/// A store that counts the calls of another one, and that can fail at one of them. Contracts see it as the store below,
+/// the fault that each call returns from now on, and how many look-ups and commits there were. `fault` and `register`
+/// count as neither, but `register` can be the call that fails.
 #[derive(Drop)]
 pub struct TrialStore<S: Store> {
     store: S,
@@ -32,7 +32,7 @@ impl<S: Store> Model for TrialStore<S> {
 }
 
 impl<S: Store> TrialStore<S> {
-    /// Counts the calls of a store. Where that is broken, so is this one.
+    /// Counts the calls of a store. If that store is broken, so is this one.
     pub fn new(store: S) -> Self
         ensures store { result.0 ≡ store }
         ensures broken { result.1 ≡ S.broken store }
@@ -42,8 +42,9 @@ impl<S: Store> TrialStore<S> {
         Self::with_stop(store, None)
     }
 
-    /// Counts the calls of a store, and fails once with `fault`, at the call behind so many others: look-ups, commits
-    /// and those of `register` alike. `Unclean` would say something of the rows, and `Version` is a fault of opening.
+    /// Counts the calls of a store, and fails once with `fault`, after `calls` others: look-ups, commits and calls of
+    /// `register` alike. The fault may not be `Unclean`, which would say something about the rows, or `Version`, which
+    /// is a fault of opening.
     pub fn failing(store: S, calls: u64, fault: StoreFault) -> Self
         requires unclean { fault ≢ Unclean }
         requires version { fault ≢ Version }
@@ -55,7 +56,7 @@ impl<S: Store> TrialStore<S> {
         Self::with_stop(store, Some(Stop { calls, fault }))
     }
 
-    // Before any call.
+    // Makes a store that counts from 0, with the call that is to fail, if any.
     fn with_stop(store: S, stop: Option<Stop>) -> Self
         ensures store { result.0 ≡ store }
         ensures broken { result.1 ≡ S.broken store }
@@ -75,21 +76,21 @@ impl<S: Store> TrialStore<S> {
         }
     }
 
-    /// How many look-ups there were, at most 2^64 - 1.
+    /// Returns how many look-ups there were, at most 2^64 - 1.
     pub fn look_ups(&self) -> u64
         ensures { result ≡ self.now.2 }
     {
         self.gate.look_ups
     }
 
-    /// How many commits there were, at most 2^64 - 1.
+    /// Returns how many commits there were, at most 2^64 - 1.
     pub fn commits(&self) -> u64
         ensures { result ≡ self.now.3 }
     {
         self.gate.commits
     }
 
-    /// The store below.
+    /// Returns the store below.
     pub fn into_store(self) -> S
         ensures { result ≡ self.0 }
     {
