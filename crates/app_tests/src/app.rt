@@ -41,7 +41,7 @@ fn an_order_becomes_its_mail(rt: HostRuntime) -> Result<(), Fail> {
     Ok(())
 }
 
-// A reader that gives what it has, and then has nothing more, or answers an error.
+// A reader that returns what it has, and then ends, or returns an error.
 #[derive(Drop)]
 struct Brittle<'a> {
     left: &'a [u8],
@@ -61,7 +61,7 @@ impl Source for Brittle<'_> {
     }
 }
 
-// A writer that takes one byte at a time, and after some of them nothing, or answers an error.
+// A writer that accepts one byte at a time, and after some of them nothing, or returns an error.
 #[derive(Drop)]
 struct Slow {
     taken: Vec<u8>,
@@ -90,7 +90,7 @@ impl Sink for Slow {
     }
 }
 
-// A writer with so much room.
+// Makes a writer with this much room.
 fn room_for(alloc: Global, room: usize, answers_error: bool) -> Slow {
     Slow {
         taken: Vec::new(alloc),
@@ -99,7 +99,8 @@ fn room_for(alloc: Global, room: usize, answers_error: bool) -> Slow {
     }
 }
 
-// Whether this was answered: a status, what was printed and what was reported of a fault. Out of memory is an error.
+// Whether this is the outcome: a status, what was printed, and what was reported of a fault. Lack of memory is an
+// error.
 fn is_answered(found: (u8, &Slow, &Slow), want: (u8, Option<&[u8]>, &[u8])) -> Result<bool, Fail> {
     let (status, out, err) = found;
     let (wanted, printed, told) = want;
@@ -110,9 +111,9 @@ fn is_answered(found: (u8, &Slow, &Slow), want: (u8, Option<&[u8]>, &[u8])) -> R
     Ok(status == wanted && is_told && Some(out.taken.as_slice()) == printed)
 }
 
-// A run of `relay`: how much of the order is read, and whether the next read fails; how many bytes the writers take, and
-// whether the next write to the output fails or takes nothing; and the status, how much of the mail is printed, and what is
-// reported of a fault.
+// A run of `relay`: how much of the order is read, and whether the next read fails; how many bytes the writers accept,
+// and whether the next write to the output fails or accepts nothing; and the status, how much of the mail is printed,
+// and what is reported of a fault.
 #[derive(Drop)]
 struct Run {
     name: &'static str,
@@ -211,7 +212,7 @@ static RUNS: [Run; 10] = [
     },
 ];
 
-// Relays alone, so that what the contract says burdens no other goal.
+// A function of its own, to keep the contract of the call out of other proofs.
 fn relay(
     alloc: Global,
     words: &RelayWords,
@@ -256,8 +257,9 @@ const SHOWN: &[u8] =
 
 const CUT_SHOWN: &[u8] = b"refused E04 text cut at offset 200 line 1 segment 7\n";
 
-// Runs of `show` over a front of the order: whether the read after it fails, how many bytes the output takes, and whether the
-// next write fails; the status, what is printed of which lines, and what is reported of a fault.
+// Runs of `show` on a prefix of the order: its length, whether the read after it fails, how many bytes the output
+// accepts, and whether the next write fails; then the status, the lines of which a part is printed and how much of
+// them, and what is reported of a fault.
 type ShowRun = (
     usize,
     bool,
@@ -280,7 +282,7 @@ static SHOW_RUNS: [ShowRun; 8] = [
     (200, false, 51, false, 3, CUT_SHOWN, 51, "file\n"),
 ];
 
-// Shows alone, so that what the contract says burdens no other goal.
+// A function of its own, to keep the contract of the call out of other proofs.
 fn show(alloc: Global, input: &mut Brittle<'_>, out: &mut Slow, err: &mut Slow) -> u8 {
     show_run(alloc, input, out, err)
 }
@@ -312,7 +314,7 @@ const REGISTER: &str =
     "hub = \"5412345000006\"\nretailer = { gln = \"5412345000013\", key = \"retail-key\" }\n[[supplier]]\
         \ngln = \"4012345500004\"\nprefix = \"40123455\"\nkey = \"alpha-key-1\"\n";
 
-// Texts of a register, how many bytes the output takes, and whether the next write fails; the status, what is
+// Texts of a register, how many bytes the output accepts, and whether the next write fails; then the status, what is
 // printed, and what is reported of a fault.
 type CheckRun = (&'static str, usize, bool, u8, &'static str, &'static str);
 
@@ -324,7 +326,7 @@ static CHECKS: [CheckRun; 5] = [
     (REGISTER, 15, true, 0, "ok 1 suppliers\n", ""),
 ];
 
-// Checks alone, so that what the contract says burdens no other goal.
+// A function of its own, to keep the contract of the call out of other proofs.
 fn check(alloc: Global, text: &str, out: &mut Slow, err: &mut Slow) -> u8 {
     check_run(alloc, text, out, err)
 }
@@ -350,7 +352,7 @@ fn register_text(alloc: Global, input: &mut Brittle<'_>) -> Result<String, TextF
     read_register_text(alloc, input)
 }
 
-// Whether an input is read as the text of a register, or is the fault of a file.
+// Whether an input is read as the text of a register, or is reported as a fault of a file.
 fn is_read_as(alloc: Global, left: &[u8], fails: bool, is_read: bool) -> Result<bool, Fail> {
     match register_text(alloc, &mut Brittle { left, fails }) {
         Ok(text) => Ok(is_read && text.as_bytes() == left),
@@ -367,7 +369,7 @@ fn is_limit_kept(alloc: Global) -> Result<bool, Fail> {
     Ok(is_read && is_fault)
 }
 
-// What an input gives, whether the read after it fails, and whether it is read as the text of a register.
+// The bytes of an input, whether the read after them fails, and whether it is read as the text of a register.
 static TEXTS: [(&str, &[u8], bool, bool); 3] = [
     (
         "a register",
@@ -412,7 +414,7 @@ fn is_read_as_key(
     }
 }
 
-// What a file gives, whether the read after it fails, and the key.
+// The bytes of a file, whether the read after them fails, and the key.
 static KEYS: [(&[u8], bool, Option<&[u8]>); 9] = [
     (b"alpha-key-1", false, Some(b"alpha-key-1")),
     (b"alpha-key-1\n", false, Some(b"alpha-key-1")),
@@ -433,7 +435,7 @@ fn the_key_in_a_file_is_read(rt: HostRuntime) -> Result<(), Fail> {
     Ok(())
 }
 
-// Whether a line of so many bytes, and what ends it, is read as a key of so many bytes.
+// Whether a line of this many bytes, with what ends it, is read as a key of this many bytes.
 fn is_length(alloc: Global, length: usize, end: &[u8], wanted: usize) -> Result<bool, Fail> {
     let mut file = Vec::from_elem(alloc, b'k', length)?;
     file.extend_from_slice(end)?;

@@ -1,4 +1,5 @@
-//! Tests of the program's parts, in a crate of their own: none of them stands on a store, and no test of a store on them.
+//! Tests the parts of the program. They are in a crate of their own because none of them needs a store, and no test of
+//! a store needs them.
 #![tactic(auto)]
 
 #[cfg(test)]

@@ -6,7 +6,7 @@ use hub_parties::SupplierRow;
 use std::alloc::{AllocError, Global};
 use std::test::Fail;
 
-// Words, parted by blanks, and what they are read as; or, where they are refused, the exit status.
+// Arguments, separated by blanks, and what they are read as, or the exit status if they are refused.
 #[derive(Drop)]
 struct Row {
     words: &'static str,
@@ -183,7 +183,7 @@ static ROWS: [Row; 39] = [
     },
 ];
 
-// A row that a supplier is to get.
+// Writes the row of a supplier that is to join.
 fn join_told(alloc: Global, row: &SupplierRow) -> Result<String, AllocError> {
     let mut told = format!(in alloc; "join of {}", row.gln)?;
     for prefix in row.prefixes.as_slice() {
@@ -193,7 +193,7 @@ fn join_told(alloc: Global, row: &SupplierRow) -> Result<String, AllocError> {
     Ok(told)
 }
 
-// A supplier that is to be registered, with the key in a file.
+// Writes a supplier that is to be registered, with the key in a file.
 fn join_by_file_told(alloc: Global, join: &JoinByFile<'_>) -> Result<String, AllocError> {
     let mut told = format!(in alloc; "join of {} file {}", join.supplier, join.key_file)?;
     for prefix in join.prefixes.as_slice() {
@@ -203,7 +203,7 @@ fn join_by_file_told(alloc: Global, join: &JoinByFile<'_>) -> Result<String, All
     Ok(told)
 }
 
-// What is asked of a hub.
+// Writes the task of a hub.
 fn task_told(alloc: Global, task: &HubTask<'_>) -> Result<String, AllocError> {
     match task {
         HubTask::Import(folder) => format!(in alloc; "import {folder}"),
@@ -228,7 +228,7 @@ fn key_told<'a>(alloc: Global, key: KeyWord<'a>) -> Result<String, AllocError> {
     }
 }
 
-// With what a hub is asked, and what.
+// Writes the arguments of a command on a hub, and its task.
 fn hub_words_told(alloc: Global, words: &HubWords<'_>) -> Result<String, AllocError> {
     let when = if words.moment.is_none() {
         "now"
@@ -240,7 +240,7 @@ fn hub_words_told(alloc: Global, words: &HubWords<'_>) -> Result<String, AllocEr
     format!(in alloc; "{} {} {key} {when} {task}", words.db, words.caller)
 }
 
-// Whose key is changed.
+// Writes whose key is changed.
 fn rekey_told(alloc: Global, words: &RekeyWords<'_>) -> Result<String, AllocError> {
     match words.supplier {
         Some(gln) => format!(in alloc; "rekey {} of {gln} file {}", words.db, words.key_file),
@@ -266,7 +266,7 @@ fn words_told(alloc: Global, words: &Words<'_>) -> Result<String, AllocError> {
     }
 }
 
-// What words are read as.
+// Writes what arguments are read as.
 fn told(alloc: Global, text: &str) -> Result<String, AllocError> {
     let words = text.split(' ').collect::<Vec<&str>>(alloc)?;
     match read_words(alloc, words.as_slice()) {
@@ -285,7 +285,7 @@ fn words_are_read(rt: HostRuntime) -> Result<(), Fail> {
     Ok(())
 }
 
-// What `Debug` shows of the words of a command over a hub.
+// Returns what `Debug` shows of the arguments of a command on a hub.
 fn debug_of(alloc: Global, text: &str) -> Result<String, AllocError> {
     let words = text.split(' ').collect::<Vec<&str>>(alloc)?;
     match read_words(alloc, words.as_slice()) {
@@ -307,7 +307,7 @@ fn a_key_is_not_shown(rt: HostRuntime) -> Result<(), Fail> {
     Ok(())
 }
 
-// The join that words and the key in their file make, or nothing.
+// Makes the join from the arguments and the key in their file; `None` if they make none.
 fn joined(alloc: Global, key: &[u8]) -> Result<Option<String>, AllocError> {
     let words = ROWS[14].words.split(' ').collect::<Vec<&str>>(alloc)?;
     let Ok(Words::Hub(words)) = read_words(alloc, words.as_slice()) else {
@@ -331,7 +331,7 @@ fn a_join_has_the_key_of_its_file(rt: HostRuntime) -> Result<(), Fail> {
     Ok(())
 }
 
-// Whether a fault of the words is a usage error.
+// Whether a fault of the arguments is a usage error.
 fn is_usage_error(fault: &WordsFault) -> bool {
     match fault {
         WordsFault::Told(error) => error.exit_code() == 2,

@@ -1,4 +1,4 @@
--- Bytes on their way to a sink, one part after another.
+-- Follows bytes to a sink, one part after another.
 use Rattle.std.proofs.Common.{◌≡◌, ℕ, List, [], ◌++◌, take, drop, Option, Some, None, Result, Ok, Err, refl, sym, ap, subst}
 use Rattle.std.proofs.Common.{◌∙◌, append_assoc}
 use Rattle.std.proofs.lemmas.List.{append-nil, take-append-drop}
@@ -16,7 +16,7 @@ Appends-then (Some x) None c xs ys p q = absurd p
 Appends-then (Some x) (Some y) None xs ys p q = absurd q
 Appends-then (Some x) (Some y) (Some z) xs ys p q = q ∙ ap (λ l. l ++ ys) p ∙ append_assoc x xs ys
 
--- nothing has been put
+-- nothing has been put yet
 pub goes_none : (a : Option (List ℕ)) (waiting whole : List ℕ) → Goes a a waiting waiting whole whole
 goes_none a waiting whole = record { front = []; appends = Appends-nil a; parts = refl }
 
@@ -54,14 +54,14 @@ goes_cut {a} {b} {c} {waiting} {left} {part} {whole} ahead so_far cut = (
   },
 )
 
--- what lies ahead, spelled another way
+-- what is yet to come, written in another way
 pub goes_as : {a b : Option (List ℕ)} {waiting left whole : List ℕ} (x y : List ℕ)
     → x ≡ y
     → Goes a b waiting left x whole
     → Goes a b waiting left y whole
 goes_as {a} {b} {waiting} {left} {whole} x y e so_far = subst (λ (l : List ℕ). Goes a b waiting left l whole) e so_far
 
--- what lies ahead, less what was written of it
+-- what is yet to come, less what was written of it
 pub goes_written : {a b c : Option (List ℕ)} {waiting ahead whole : List ℕ} (n : ℕ) (rest : List ℕ)
     → Goes a b waiting [] ahead whole
     → Appends b c (take n ahead)
@@ -76,7 +76,7 @@ goes_written {a} {b} {c} {waiting} {ahead} {whole} n rest so_far written e = rec
       ∙ so_far.parts;
 }
 
--- the last part was put, or begun
+-- the last part was put completely, or begun
 pub puts_last : {E : Type 0} {a b : Option (List ℕ)} {waiting left part whole : List ℕ} (r : Result (Unit {0}) E)
     (c : Option (List ℕ)) (later : List ℕ)
     → Goes a b waiting left part whole
@@ -87,7 +87,7 @@ puts_last {E} {a} {b} {waiting} {left} {part} {whole} (Ok done) c later so_far p
 puts_last {E} {a} {b} {waiting} {left} {part} {whole} (Err e) c later so_far cut =
     goes_cut [] (goes_as part (part ++ []) (sym (append-nil part)) so_far) cut
 
--- a fault, after a front
+-- a fault after a prefix was written
 pub puts_cut : {E : Type 0} {a c : Option (List ℕ)} {waiting whole : List ℕ} (r : Result (Unit {0}) E) (later : List ℕ)
     → IsErr r
     → ((rest : List ℕ) × Goes a c waiting [] rest whole)
@@ -95,7 +95,7 @@ pub puts_cut : {E : Type 0} {a c : Option (List ℕ)} {waiting whole : List ℕ}
 puts_cut (Ok done) later e cut = absurd cc
 puts_cut (Err fault) later e cut = cut
 
--- what two reads gave, one after the other
+-- what two reads returned, one after the other
 pub Consumes-then : (a b c : Option (List ℕ)) (xs ys : List ℕ) → Consumes a b xs → Consumes b c ys → Consumes a c (xs ++ ys)
 Consumes-then None b c xs ys p q = tt
 Consumes-then (Some x) None c xs ys p q = absurd p

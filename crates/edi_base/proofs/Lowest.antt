@@ -1,14 +1,14 @@
--- Conditions with numbers: in a list in which the numbers rise, the first that holds is the one with the lowest number.
+-- Shows that in a list of conditions with rising numbers, the first that holds is the one with the lowest number.
 use Rattle.std.proofs.Common.{◌≡◌, ℕ, ◌<◌, nat_lt, ◌⊎◌, inl, inr, List, [], ◌∷◌, true, false, Bool, ◌&&◌, Some, None}
 use Rattle.std.proofs.Common.{refl, sym, ap, ◌∙◌, arith, find}
 use Rattle.std.proofs.lemmas.Bool.{cases_Bool, true≢false, and_parts, ltb-true}
 
--- it is one of them
+-- it is in the list
 abbrev pub Among : {F : Type 0} → F → List F → Type 0
 Among f [] = ⊥
 Among f (x ∷ xs) = (f ≡ x) ⊎ Among f xs
 
--- their numbers rise, from above n
+-- the numbers rise, and all are above n
 abbrev pub Above : {F : Type 0} → (F → ℕ) → ℕ → List F → Type 0
 Above number n [] = Unit {0}
 Above number n (x ∷ xs) = (n < number x) × Above number (number x) xs
@@ -37,7 +37,7 @@ module _ {F : Type 0} (number : F → ℕ) where
   not_below x xs f g a same (inr later) lt =
       let e : number x ≡ number f = ap number same in let above = above_each (number x) xs g a later in omega arith
 
-  -- what is found holds, and nothing below it
+  -- what is found holds, and nothing with a lower number does
   module _ (p : F → Bool) where
     found_holds : (xs : List F) (f : F) → find p xs ≡ Some f → p f ≡ true
     found_holds [] f h = cc
@@ -65,7 +65,7 @@ module _ {F : Type 0} (number : F → ℕ) where
           ]
         ]
 
-    -- what holds with nothing below it is found
+    -- what holds is found, if nothing with a lower number does
     lowest_found : (n : ℕ) (xs : List F) (f : F)
         → Above number n xs
         → Among f xs
@@ -93,7 +93,7 @@ module _ {F : Type 0} (number : F → ℕ) where
     none_hold [] h = refl
     none_hold (x ∷ xs) h = rw (h x) (none_hold xs h)
 
-    -- over a list of all that can hold
+    -- for a list of all conditions that can hold
     module _ (xs : List F) (rising : Above number 0 xs) (listed : (f : F) → (p f ≡ false) ⊎ Among f xs) where
       pub holds_here : (f : F) → find p xs ≡ Some f → p f ≡ true
       holds_here f h = found_holds xs f h

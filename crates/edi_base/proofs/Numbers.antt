@@ -1,4 +1,4 @@
--- The number that digits write, digit by digit.
+-- Computes the number that digits write, digit by digit.
 use Rattle.std.proofs.Common.{◌≡◌, ℕ, suc, ◌+◌, ◌*◌, ◌^◌, ◌<◌, ◌≤◌, List, [], ◌∷◌, length, fold, drop, get_or, None, true}
 use Rattle.std.proofs.Common.{nat_le, refl, sym, ap, ◌∙◌, arith}
 use Rattle.std.specs.List.{list_all}
@@ -7,12 +7,12 @@ use Rattle.std.proofs.lemmas.List.{drop_more}
 use Rattle.std.proofs.Math.Nat.{pow-succ', mul_assoc, mul_comm, mul-le-mul_right, pow-le-pow_right}
 use Rattle.edi_base.specs.Limits.{has_length, is_digit, is_count, with_digit, number_of, greatest, value_of}
 
--- more digits write no smaller number
+-- more digits never write a smaller number
 pub number_grows : (n : ℕ) (digits : List ℕ) → n ≤ fold with_digit n digits
 number_grows n [] = omega arith
 number_grows n (d ∷ ds) = let more = number_grows (with_digit n d) ds in omega (arith, more)
 
--- a number past the greatest, with the digits that are left after it
+-- a number above the greatest one, with the digits that follow
 pub past_greatest : (n : ℕ) (digits : List ℕ) (i d : ℕ)
     → number_of digits ≡ fold with_digit n (drop i digits)
     → i < length digits
@@ -25,7 +25,7 @@ past_greatest n digits i d value within past =
     let above : greatest < number_of digits = omega (arith, more, grown, past) in
     rw (lt-leb (number_of digits) greatest above) refl
 
--- so many digits after a number
+-- a number followed by n digits is below the next number times 10 ^ n
 pub digits_below : (n : ℕ) (digits : List ℕ) → list_all is_digit digits ≡ true → fold with_digit n digits < (n + 1) * 10 ^ length digits
 digits_below n [] h = omega arith
 digits_below n (d ∷ ds) h =

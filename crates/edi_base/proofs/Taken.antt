@@ -1,11 +1,11 @@
--- What is taken of a source, one piece after another.
+-- Adds up what is taken from a source, one piece after another.
 use Rattle.std.proofs.Common.{◌≡◌, ℕ, ◌+◌, ◌≤◌, length, List, ◌++◌, Option, arith}
 use Rattle.std.proofs.lemmas.List.{length-append}
 use Rattle.std.proofs.KnownBytes.{Consumes-trans}
 use Rattle.std.specs.Io.KnownBytes.{Consumes}
 use Rattle.edi_base.specs.Source.{TakesAtMost}
 
--- after what was taken, so many more at most
+-- at most this many more bytes after what was taken
 pub takes_more : (a b c : Option (List ℕ)) (taken : List ℕ) (room limit : ℕ)
     → Consumes a b taken
     → TakesAtMost b c room

@@ -1,4 +1,4 @@
--- Items that come twice, and the set of those that have come.
+-- Handles items that occur twice, and the set of those seen so far.
 use Rattle.std.proofs.Common.{◌≡◌, ℕ, ◌+◌, ◌<◌, List, [], ◌∷◌, ◌++◌, length, get_or, take, drop, map, true, false, Bool}
 use Rattle.std.proofs.Common.{◌||◌, Ordering, nat_eq, refl, sym, ap, ◌∙◌, Bor, inl, inr}
 use Rattle.std.specs.List.{list_any}
@@ -27,7 +27,7 @@ or_same true true c h = refl
 or_same true false c h = cc
 or_same false b c h = refl
 
--- the items that the keys of a set are, in an order by which equal keys are equal items
+-- the items that the keys of a set stand for, in an order by which equal keys are equal items
 module _ {K X : Type 0} (item : K → X) (order : K → K → Ordering) (same : X → X → Bool)
     (exact : (a b : K) → order a b ≡ Equal → item a ≡ item b)
     (tells : (a b : K) → is_eq (order a b) ≡ same (item a) (item b)) where
@@ -42,18 +42,18 @@ module _ {K X : Type 0} (item : K → X) (order : K → K → Ordering) (same : 
   insert_case Greater q k x xs more agree h =
       ap (λ rest. same q (item x) || rest) h ∙ or_swap (same q (item x)) (same q (item k)) (comes_among same q (map item xs))
 
-  -- an item that is put in is among those of the set, and so are the others
+  -- after inserting, the item is among those of the set, and so are the others
   pub among-insert : (q : X) (keys : List K) (k : K)
       → comes_among same q (map item (insert_key order keys k)) ≡ (same q (item k) || comes_among same q (map item keys))
   among-insert q [] k = refl
   among-insert q (x ∷ xs) k = insert_case (order k x) q k x xs (insert_key order xs k) (exact k x) (among-insert q xs k)
 
-  -- what the set answers
+  -- what the set returns
   pub contains-among : (q : K) (keys : List K) → list_any (is_at (order q)) keys ≡ comes_among same (item q) (map item keys)
   contains-among q [] = refl
   contains-among q (k ∷ keys) = rw (tells q k, contains-among q keys) refl
 
--- the text after a reference, and the order of references
+-- the text of a reference, and the order of references
 abbrev pub text_of : Bor (List ℕ) → List ℕ
 text_of key = key.now
 
@@ -94,13 +94,13 @@ nat_eq-sym a b =
     same_from_decides (nat_eq a b) (nat_eq b a) (Decides-eqb a b)
     ((λ t. sym ((Decides-eqb b a).0 t)), (λ e. (Decides-eqb b a).1 (sym e)))
 
--- items that are told apart by a test, whichever stands first
+-- items compared by a symmetric test
 module _ {X : Type 0} (same : X → X → Bool) (same-sym : (a b : X) → same a b ≡ same b a) where
   among-push : (q : X) (xs : List X) (x : X) → comes_among same q (xs ++ x ∷ []) ≡ (same q x || comes_among same q xs)
   among-push q [] x = refl
   among-push q (y ∷ ys) x = ap (λ rest. same q y || rest) (among-push q ys x) ∙ or_swap (same q y) (same q x) (comes_among same q ys)
 
-  -- one more item that comes for the first time
+  -- one more item that is new
   twice-push : (xs : List X) (x : X) → comes_twice same xs ≡ false → comes_among same x xs ≡ false → comes_twice same (xs ++ x ∷ []) ≡ false
   twice-push [] x once new = refl
   twice-push (y ∷ ys) x once new =
@@ -113,7 +113,7 @@ module _ {X : Type 0} (same : X → X → Bool) (same-sym : (a b : X) → same a
   among-middle q [] x ys h = or_left (same q x) (comes_among same q ys) h
   among-middle q (y ∷ xs) x ys h = or_right (same q y) _ (among-middle q xs x ys h)
 
-  -- one that has come before
+  -- one that occurred before
   twice-again : (xs : List X) (x : X) (ys : List X) → comes_among same x xs ≡ true → comes_twice same (xs ++ x ∷ ys) ≡ true
   twice-again [] x ys h = cc
   twice-again (y ∷ xs) x ys h =
@@ -122,7 +122,7 @@ module _ {X : Type 0} (same : X → X → Bool) (same-sym : (a b : X) → same a
         | inr later ↦ or_right (comes_among same y (xs ++ x ∷ ys)) _ (twice-again xs x ys later)
       ]
 
-  -- a walk along items: the one at a place has come before, or comes for the first time
+  -- walking along items: the one at a position occurred before, or is new
   module _ (xs : List X) (i : ℕ) (x : X) (within : i < length xs) (at : x ≡ get_or xs i x) where
     taken : take (i + 1) xs ≡ take i xs ++ x ∷ []
     taken = take_more xs i x within ∙ ap (λ y. take i xs ++ y ∷ []) (sym at)

@@ -1,15 +1,15 @@
--- Tests that decide a relation, and answers that are there exactly where a relation holds.
+-- Relates tests and answers to relations: tests that decide one, and answers that exist exactly if one holds.
 use Rattle.std.proofs.Common.{◌≡◌, ℕ, ◌≤◌, Bool, true, false, cond, List, [], ◌∷◌, Option, Some, None, refl, sym, ap, subst, ◌∙◌}
 use Rattle.std.specs.Prelude.{nat_le, ◌||◌, ◌&&◌, ◌≢◌, not, ⊤, is_some, option_and_then, unwrap_or, Decides}
 use Rattle.std.specs.List.{list_all, list_any, AllByRecursion}
 use Rattle.std.proofs.lemmas.Bool.{leb-true, le-leb, true≢false, or_parts, or_from}
 use Rattle.std.proofs.lemmas.Bool.Decides.{Decides-and}
 
--- the answer is there exactly where the relation holds of it
+-- the answer is this value exactly if the relation holds for it
 abbrev pub Says : {X : Type 0} → Option X → (X → Type 0) → Type 0
 Says {X} answer Is = (x : X) → (answer ≡ Some x → Is x) × (Is x → answer ≡ Some x)
 
--- the test is false exactly where the relation holds
+-- the test is false exactly if the relation holds
 abbrev pub Refutes : Bool → Type 0 → Type 0
 Refutes test P = (test ≡ false → P) × (P → test ≡ false)
 
@@ -84,7 +84,7 @@ module _ {X : Type 0} where
   pub unwrap_of : (o : Option X) (P : X → Type 0) (d x : X) → Says o P → P x → x ≡ unwrap_or o d
   unwrap_of o P d x says h = sym (ap (λ answer. unwrap_or answer d) ((says x).1 h))
 
-  -- the first of three tests that passes chooses its answer
+  -- the first of three tests that passes chooses its value
   pub chosen : (x y z : X) (a b c : Bool) (P : X → Type 0)
       → (a ≡ true → P x)
       → (b ≡ true → P y)
@@ -97,7 +97,7 @@ module _ {X : Type 0} where
   chosen x y z false false true P first second third answer e = subst P (same_some z answer e) (third refl)
   chosen x y z false false false P first second third answer e = absurd cc
 
-  -- a test of what is looked at only where a first test passes
+  -- a test of what is read only if a first test passes
   pub Decides-read : (read : Bool) (xs : List X) (t : List X → Bool) (P Q : Type 0)
       → t [] ≡ true
       → Decides read P

@@ -1,4 +1,4 @@
--- The conditions of a despatch advice, and the advice that is read, are those that the relations say.
+-- Shows that the conditions of a despatch advice, and the advice that is read, are those of the relations.
 use Rattle.std.proofs.Common.{◌≡◌, ℕ, not, ◌&&◌, List, [], ◌∷◌, map, Option, Some, None, Ok, Err, ◌⊎◌, inl, inr, refl, sym, ap, subst, ◌∙◌}
 use Rattle.std.specs.Prelude.{◌↔◌, codes, is_some, unwrap_or, option_and_then, Decides}
 use Rattle.std.specs.List.{list_all, AllByRecursion, AllZip}

@@ -1,4 +1,4 @@
--- What advices of goods have in common.
+-- Provides what the proofs for despatch advices and receiving advices share.
 use Rattle.std.proofs.Common.{◌≡◌, ℕ, Bool, List, [], ◌∷◌, map, Option, refl, sym, ap, subst, ◌∙◌}
 use Rattle.std.specs.Prelude.{codes, Decides}
 use Rattle.std.specs.List.{AllZip}

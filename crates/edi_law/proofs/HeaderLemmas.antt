@@ -1,4 +1,4 @@
--- What is read of a header is what is valid in it.
+-- Shows that what is read from a header is what is valid in it.
 use Rattle.std.proofs.Common.{◌≡◌, ◌≢◌, ℕ, suc, Bool, true, false, List, [], ◌∷◌, length, filter, inl, inr, refl, sym, ap}
 use Rattle.std.proofs.Common.{subst, ◌∙◌, arith}
 use Rattle.std.specs.Prelude.{is_some, ◌==◌, codes, Decides}

@@ -1,4 +1,4 @@
--- What is read of a line group is what is valid in it.
+-- Shows that what is read from a line group is what is valid in it.
 use Rattle.std.proofs.Common.{◌≡◌, ◌≢◌, ℕ, ◌≤◌, Bool, true, not, List, [], ◌∷◌, length, ◌⊎◌, refl, sym, ap, subst, ◌∙◌}
 use Rattle.std.specs.Prelude.{◌==◌, nat_le, nat_eq, codes, unwrap_or, option_and_then, Decides}
 use Rattle.std.specs.Str.{bytes_eq}
@@ -113,7 +113,7 @@ pub Says-quantity_of : (kind : List ℕ) (least : ℕ) (group : List Segment)
     → Says (quantity_of kind least group) (HasQuantity kind least group)
 Says-quantity_of kind least group = Says-of_only (says (codes "QTY") kind) (amount least) (IsAmount least) (Says-amount least) group
 
--- what comes twice
+-- what occurs twice
 module _ {X : Type 0} (same : X → X → Bool) (decides : (x y : X) → Decides (same x y) (x ≡ y)) where
   pub Refutes-twice : (xs : List X) → Refutes (comes_twice same xs) (NoneTwice xs)
   Refutes-twice [] = Refutes-false

@@ -1,4 +1,4 @@
--- The first fault that is found in their order is the one with the lowest number.
+-- Shows that the first fault found in the order of the checks is the one with the lowest number.
 use Rattle.std.proofs.Common.{◌≡◌, ℕ, zero, suc, ◌<◌, true, false, Bool, Option, Some, None, Ok, Err, sym, ap, ◌∙◌}
 use Rattle.std.proofs.Common.{arith, find}
 use Rattle.std.specs.Prelude.{◌↔◌}
@@ -17,7 +17,8 @@ module _ {X : Type 0} where
   fault_found None content f h = absurd cc
   fault_found (Some g) content f h = let e : g ≡ f = cc in ap Some e
 
-  -- Where all is valid under lower numbers, the test of a fault is false exactly where what is valid under its number holds.
+  -- If what each lower number checks is valid, the test of a fault is false exactly if what its own number checks is
+  -- valid.
   module _ (p : MessageFault → Bool) (IsRight : MessageFault → Type 0)
       (refutes : (f : MessageFault) → ((g : MessageFault) → number g < number f → IsRight g) → Refutes (p f)
       (IsRight f))

@@ -1,4 +1,4 @@
--- The conditions of an order, and the order that is read, are those that the relations say.
+-- Shows that the conditions of an order, and the order that is read, are those of the relations.
 use Rattle.std.proofs.Common.{◌≡◌, ℕ, Bool, true, not, ◌||◌, List, [], ◌∷◌, map, Ok, Err, refl, sym, ap, subst, ◌∙◌}
 use Rattle.std.specs.Prelude.{◌↔◌, codes, is_some, unwrap_or, Decides}
 use Rattle.std.specs.List.{list_all, AllZip}

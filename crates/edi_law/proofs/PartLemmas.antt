@@ -1,4 +1,4 @@
--- The parts of a message stand where the relations say, and nowhere else.
+-- Shows that the parts of a message are exactly those of the relations.
 use Rattle.std.proofs.Common.{◌≡◌, Bool, true, false, cond, not, List, [], ◌∷◌, ◌++◌, filter, Option, Some, None, inl, inr}
 use Rattle.std.proofs.Common.{refl, sym, ap, subst, ◌∙◌, append-nil, append_assoc}
 use Rattle.std.specs.Prelude.{is_some, ◌||◌, option_and_then, Decides}
@@ -13,7 +13,7 @@ use Rattle.edi_law.specs.Parts.{OfOnly, OneOrNone}
 use Rattle.edi_law.specs.Segments.{is_line_item, parts_lines}
 use Rattle.edi_law.proofs.Deciding.{Refutes, Says, same_some, Says-then, Decides-of}
 
--- what stands in front of the first of a kind, and the rest
+-- what comes before the first element of a kind, and the rest
 module _ {X : Type 0} where
   abbrev pub front : (X → Bool) → List X → List X
   front kind [] = []
@@ -213,7 +213,7 @@ only_some kind part s h none = let e : None ≡ Some s = sym (ap only (none_pass
 pub at_header : (Is : List Segment → Type 0) (message : List Segment) → OfHeader Is message → Is (header message)
 at_header Is message h = subst Is (sym (header-from_IsHeader h.header message h.is_header)) h.is
 
--- one of a kind, or none
+-- one segment of a kind, or none
 module _ {X : Type 0} (kind : Segment → Bool) (f : Segment → Option X) (Is : X → Segment → Type 0)
     (each : (s : Segment) → Says (f s) (λ x. Is x s)) where
   abbrev found : List Segment → Option X

@@ -1,4 +1,4 @@
--- The conditions of a receiving advice, and the advice that is read, are those that the relations say.
+-- Shows that the conditions of a receiving advice, and the advice that is read, are those of the relations.
 use Rattle.std.proofs.Common.{◌≡◌, ◌⊎◌, inl, inr, ℕ, ◌<◌, Bool, true, false, ◌&&◌, ◌||◌, List, []}
 use Rattle.std.proofs.Common.{◌∷◌, map, Option, Ok, Err, refl, sym, ap, subst, ◌∙◌, arith}
 use Rattle.std.specs.Prelude.{◌↔◌, codes, is_some, unwrap_or, Decides}
@@ -154,7 +154,7 @@ all_received (group ∷ groups) (line ∷ lines) h =
     and_from (is_received group) (list_all is_received groups)
     (received_is group h.0.accepted h.0.returned h.0.destroyed h.0.received) (all_received groups lines h.1)
 
--- the quantities of a unit, whose lines are valid
+-- the quantities of a unit whose lines are valid
 Decides-groups : (groups : List (List Segment))
     → AllByRecursion IsSomeLine groups
     → Decides (list_all is_received groups && has_sums (map line_of groups)) (AreReceived groups)
@@ -194,7 +194,7 @@ Decides-quantities message line =
       (λ h. d.1 (of_units (AllByRecursion (OfLines AreReceived)) message h)),
     )
 
--- each condition, where those with lower numbers do not hold
+-- each condition, if what the lower numbers check is valid
 refutes : (m : RawMessage) (fault : MessageFault)
     → ((other : MessageFault) → number other < number fault → IsRight m other)
     → Refutes (holds fault m) (IsRight m fault)

@@ -1,4 +1,4 @@
--- What is read of references is what is valid in them.
+-- Shows that what is read from references is what is valid in them.
 use Rattle.std.proofs.Common.{◌≡◌, ℕ, List, [], Option, Some, None, ◌⊎◌, inl, inr, refl, sym, ap, subst, ◌∙◌}
 use Rattle.std.specs.Prelude.{option_and_then, Decides}
 use Rattle.std.proofs.lemmas.Bool.Decides.{Decides-or}
@@ -38,7 +38,7 @@ Says-group_line =
     Says-of_only is_rff_on line_named (λ line rff. IsLineNumber (component rff 0 2) line)
     (λ rff. Says-line_number (component rff 0 2))
 
--- where a group has no reference, or one that names a line or none, its line is the one that it names
+-- if a group has no reference, or one that names at most one line, its line is the one that is named
 line_or_none : (group : List Segment) (rff : Segment) → reference group ≡ Some rff → component rff 0 2 ≡ [] → group_line group ≡ None
 line_or_none group rff there none = ap (option_and_then line_named) there ∙ rw none refl
 

@@ -1,4 +1,4 @@
--- The conditions of a response, and the response that is read, are those that the relations say.
+-- Shows that the conditions of a response, and the response that is read, are those of the relations.
 use Rattle.std.proofs.Common.{◌≡◌, ℕ, Bool, true, false, cond, not, ◌&&◌, ◌||◌, List, [], ◌∷◌, map, Option, Some, None, Ok}
 use Rattle.std.proofs.Common.{Err, ◌⊎◌, inl, inr, refl, sym, ap, subst, ◌∙◌}
 use Rattle.std.specs.Prelude.{◌↔◌, codes, is_some, unwrap_or, option_map, Decides}

@@ -1,4 +1,4 @@
--- The sums over the lines of an article.
+-- Provides lemmas about the sums over the lines of an article.
 use Rattle.std.proofs.Common.{◌≡◌, ℕ, ◌+◌, ◌≤◌, ◌⊎◌, inl, inr, List, [], ◌∷◌, filter, map, refl, sym, ap, subst, ◌∙◌, arith}
 use Rattle.std.specs.Prelude.{nat_le, Decides}
 use Rattle.std.specs.List.{AllByRecursion}

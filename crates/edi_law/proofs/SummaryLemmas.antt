@@ -1,4 +1,4 @@
--- What is read of a summary is what is valid in it.
+-- Shows that what is read from a summary is what is valid in it.
 use Rattle.std.proofs.Common.{◌≡◌, ◌≢◌, suc, true, false, not, List, [], ◌∷◌, ◌++◌, filter, inl, inr, refl, sym, ap, subst, ◌∙◌, arith}
 use Rattle.std.specs.Prelude.{◌==◌, codes, Decides}
 use Rattle.std.specs.List.{list_any}

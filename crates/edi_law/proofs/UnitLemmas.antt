@@ -1,4 +1,4 @@
--- What is read of the units of a message is what is valid in them.
+-- Shows that what is read from the units of a message is what is valid in them.
 use Rattle.std.proofs.Common.{◌≡◌, ℕ, Bool, true, false, cond, not, ◌&&◌, List, [], ◌∷◌, length, filter, map, inl, inr}
 use Rattle.std.proofs.Common.{refl, sym, ap, subst, ◌∙◌, arith}
 use Rattle.std.specs.Prelude.{◌==◌, codes, unwrap_or, option_and_then, Decides}
@@ -189,7 +189,7 @@ Decides-marked parts = (
       and_from _ _ both.0 (not_from_false _ ((Refutes-text_twice (map sscc_or_none parts)).1 (subst NoneTwice (sym both.1) h.apart)))),
 )
 
--- a line outside of the units
+-- a line outside the units
 Decides-outside : (message : List Segment) → Decides (not (has_line_outside message)) (NoLineOutside message)
 Decides-outside message =
     let outside = take_while (λ segment. not (is_packing segment)) message in

@@ -1,4 +1,4 @@
--- The days counted from 1970-01-01 are the dates that `jiff` gives to the day numbers.
+-- Shows that the days counted from 1970-01-01 are the dates that `jiff` gives for the day numbers.
 use Rattle.std.proofs.Common.{◌≡◌, ℕ, zero, suc, ◌+◌, ◌*◌, ◌/◌, ◌%◌, ◌<◌, ◌≤◌, refl, sym, ◌∙◌, arith, rules, ℤ, pos, ◌*ℤ◌, inl, inr, subst}
 use Rattle.std.specs.Int.{IsInRange}
 use Rattle.std.proofs.lemmas.Bool.{cases_lt, lt-ltb, le-ltb}
@@ -10,14 +10,14 @@ use Rattle.jiff.proofs.Family.{days_from_civil-max, epoch_day_injective, civil_n
 use Rattle.jiff.proofs.OnLiterals.{jiff_on_literals}
 use Rattle.edi_moment.specs.Moment.{Day, day_after, day_at, day_of, last_moment, Shows}
 
--- the calendar has this day
+-- the day is in the calendar
 abbrev pub IsCivil : Day → Type 0
 IsCivil d = IsYear (pos d.year) × IsInRange 1 12 d.month × IsInRange 1 (days_in_month (pos d.year) d.month) d.day
 
 abbrev pub date_with : (d : Day) → IsCivil d → Date
 date_with d c = record { year = pos d.year; month = d.month; day = d.day; year_in = c.0; month_in = c.1; day_in = c.2 }
 
--- the calendar has this day, and `jiff` numbers it n
+-- the day is in the calendar, and `jiff` gives it the number n
 abbrev pub IsNumbered : Day → ℕ → Type 0
 IsNumbered d n = (c : IsCivil d) × (epoch_day (date_with d c) ≡ pos n)
 
@@ -80,13 +80,13 @@ first_day : IsNumbered (record { year = 1970; month = 1; day = 1 }) 0
 unfolding jiff_on_literals
 first_day = ((search rules, search rules, search rules), refl)
 
--- n days after 1970-01-01 is the date that `jiff` numbers n
+-- the date n days after 1970-01-01 is the one to which `jiff` gives the number n
 pub day_numbered : (n : ℕ) → n ≤ 2_932_896 → IsNumbered (day_at n) n
 unfolding day_at
 day_numbered zero h = first_day
 day_numbered (suc n) h = numbered_after (day_at n) n (day_numbered n (omega arith)) (omega arith)
 
--- a clock that shows so many whole seconds since 1970-01-01 shows this day and time of day
+-- a clock that shows this many whole seconds since 1970-01-01 shows this day and time of day
 pub shown_at : (moment : ℕ) (dt : DateTime) → moment ≤ last_moment → civil_nanos dt ≡ pos moment *ℤ pos 1_000_000_000 → Shows dt moment
 shown_at moment dt h e =
     let within = time_nanos_bound dt.time in

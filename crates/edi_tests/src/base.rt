@@ -4,7 +4,7 @@ use std::alloc::{AllocError, Global};
 use std::io;
 use std::io::{Error, ErrorKind, Read};
 
-/// So many bytes, none of them equal to one beside it.
+/// Returns `size` bytes, of which no two neighbours are equal.
 fn bytes_of(alloc: Global, size: usize) -> Result<Vec<u8>, AllocError> {
     let mut bytes = Vec::new(alloc);
     for index in 0..size {
@@ -15,7 +15,7 @@ fn bytes_of(alloc: Global, size: usize) -> Result<Vec<u8>, AllocError> {
 
 const TWO: &[u8] = b"\x07\x05";
 
-// What is empty, and then has the two bytes.
+// Returns whether a new list was empty, and the list with the two bytes.
 fn two_items(alloc: Global) -> Result<(bool, Items<u8>), AllocError> {
     let mut items = Items::new(alloc);
     let was_empty = items.is_empty();
@@ -47,7 +47,7 @@ fn items_are_those_of_a_vector(rt: HostRuntime) -> Result<(), AllocError> {
     Ok(())
 }
 
-// Writes alone, so that what the contract says burdens no test.
+// A function of its own, to keep the contract of the call out of the tests.
 fn write(bytes: &[u8], sink: &mut OfWrite<Dribble>) -> Result<(), WriteFault> {
     write_bytes(bytes, sink)
 }
@@ -58,7 +58,7 @@ fn is_front_written(alloc: Global, bytes: &[u8], room: usize, fails: bool) -> bo
     took_front(wrote, sink, bytes, room)
 }
 
-// The same for a writer that fails, and for one that takes nothing.
+// Does this for a writer that fails, and for one that accepts nothing.
 fn are_fronts_written(alloc: Global, bytes: &[u8], room: usize) -> bool {
     is_front_written(alloc, bytes, room, true) && is_front_written(alloc, bytes, room, false)
 }
@@ -77,12 +77,12 @@ fn a_failed_write_leaves_a_front_of_the_bytes(rt: HostRuntime) -> Result<(), All
     Ok(())
 }
 
-/// Puts bytes after those that wait in a buffer.
+/// A function of its own, to keep the contract of the call out of the tests.
 fn put(buffer: &mut Buffer, bytes: &[u8], out: &mut OfWrite<Dribble>) -> Result<(), WriteFault> {
     buffer.put(out, bytes)
 }
 
-/// Puts bytes into a buffer in pieces of these sizes, and writes those that wait at the end.
+/// Puts bytes into a buffer in pieces of these sizes, and writes what still waits at the end.
 fn put_pieces(bytes: &[u8], sizes: &[usize], out: &mut OfWrite<Dribble>) -> Result<(), WriteFault> {
     let mut buffer = Buffer::new();
     let mut rest = bytes;
@@ -117,7 +117,7 @@ fn bytes_that_wait_are_written_in_their_order(rt: HostRuntime) -> Result<(), All
     Ok(())
 }
 
-/// A reader that gives one byte at a time, and then fails.
+/// A reader that returns one byte at a time, and then fails.
 #[derive(Drop)]
 struct Drip {
     left: usize,
@@ -145,10 +145,10 @@ fn read_front(
     read_to_limit(alloc, source, limit)
 }
 
-// How many bytes are given, the limit, and how many are read.
+// A name, how many bytes there are, the limit, and how many are read.
 type Limit = (&'static str, usize, usize, usize);
 
-// Whether so many of the given bytes are read to the limit, and the rest is left.
+// Whether the bytes up to the limit are read, and the rest is left.
 fn is_front_read(alloc: Global, long: &[u8], row: &Limit) -> Result<bool, ReadFault> {
     let (_, given, limit, size) = *row;
     let known = long.get(..given).unwrap_or_default();
@@ -194,7 +194,7 @@ fn fault_of_two(alloc: Global, source: &mut OfRead<Drip>) -> Option<ReadFault> {
 fn a_failed_read_is_answered(rt: HostRuntime) -> Result<(), ReadFault> {
     let mut source = OfRead::new(Drip { left: 3 });
     assert!(rt; are_two_read(rt.alloc(), &mut source)?);
-    // The fault is printed, which may be out of memory.
+    // The fault may be that memory ran out, so the comparison prints it.
     assert_eq!(rt;
         fault_of_two(rt.alloc(), &mut source),
         Some(ReadFault::Read)
@@ -203,7 +203,7 @@ fn a_failed_read_is_answered(rt: HostRuntime) -> Result<(), ReadFault> {
     Ok(())
 }
 
-// Texts in their order, and whether each has not come before.
+// Texts in their order, and whether each is new.
 static COMING: [(&[u8], bool); 6] = [
     (b"b", true),
     (b"a", true),
@@ -226,7 +226,7 @@ fn a_text_comes_again(rt: HostRuntime) -> Result<(), AllocError> {
     Ok(())
 }
 
-// Numbers, and whether one of them comes twice.
+// Numbers, and whether one of them occurs twice.
 static NUMBERS: [(&str, &[u32], bool); 4] = [
     ("none", &[], false),
     ("3, 1, 2", &[3, 1, 2], false),
@@ -246,7 +246,7 @@ fn numbers_that_come_twice(rt: HostRuntime) -> Result<(), AllocError> {
     Ok(())
 }
 
-/// What is asked of bytes: a length or so many digits, between two limits; or the number that they count.
+/// What is tested of bytes: a length or a number of digits, between two limits; or the count that they write.
 #[derive(Clone, Copy)]
 enum Asked {
     Length(usize, usize),
@@ -287,7 +287,7 @@ fn lengths_and_characters(rt: HostRuntime) {
     }
 }
 
-// Digits, the number of up to nine of them, and the number of up to six.
+// Digits, the number that up to nine significant digits write, and the count that up to six digits write.
 static DIGITS: [(&str, Option<u32>, Option<u32>); 7] = [
     ("0", Some(0), Some(0)),
     ("000012", Some(12), Some(12)),

@@ -1,11 +1,11 @@
-//! Fake writers.
+//! Simulates writers that fail.
 
 use edi_base::{OfWrite, WriteFault};
 use std::alloc::Global;
 use std::io;
 use std::io::{Error, ErrorKind, Write};
 
-/// A writer that takes one byte at a time, and then fails, or takes nothing.
+/// A writer that accepts one byte at a time, and then fails, or accepts nothing.
 #[derive(Drop)]
 pub(crate) struct Dribble {
     written: Vec<u8>,
@@ -34,7 +34,7 @@ impl Write for Dribble {
     }
 }
 
-/// A writer with room for so many bytes, which then fails, or takes nothing.
+/// Makes a writer with room for this many bytes, which then fails, or accepts nothing.
 pub(crate) fn sink_with_room(alloc: Global, room: usize, fails: bool) -> OfWrite<Dribble> {
     OfWrite::new(Dribble {
         written: Vec::new(alloc),
@@ -43,15 +43,15 @@ pub(crate) fn sink_with_room(alloc: Global, room: usize, fails: bool) -> OfWrite
     })
 }
 
-/// The outcome of a write: whether it succeeded, whether the sink has failed, and what was taken.
+/// Returns the outcome of a write: whether it succeeded, whether the sink has failed, and what it accepted.
 fn outcome(wrote: Result<(), WriteFault>, sink: OfWrite<Dribble>) -> (bool, bool, Vec<u8>) {
     let failed = sink.failed();
     let Dribble { written, .. } = sink.into_inner();
     (wrote.is_ok(), failed, written)
 }
 
-/// Whether a sink with so much room took the front of a text that it has room for, and it failed, and so did the write, where
-/// that is not the whole text.
+/// Whether a sink accepted as much of a text as it has room for, and failed, like the write, exactly if that is not the
+/// whole text.
 pub(crate) fn took_front(
     wrote: Result<(), WriteFault>,
     sink: OfWrite<Dribble>,

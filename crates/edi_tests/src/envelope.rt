@@ -8,8 +8,8 @@ use edi_tokens::Segment;
 use std::alloc::Global;
 use std::test::Fail;
 
-// The interchange of an order and of a despatch advice after a service string with a comma, and the fields of its head and of
-// its messages.
+// The interchange of an order and of a despatch advice after a service string with a comma, and the fields of its
+// header and of its messages.
 const BOTH: &[u8] =
     b"UNA:+,? 'UNB+UNOC:3+5412345000013:14+5412345000006:14+250603:0915+1001'UNH+1+ORDERS:D:01B:UN:EAN010'\
         BGM+220+128576+9'DTM+137:20250603:102'NAD+BY+5412345000013::9'NAD+SU+4012345500004::9'\
@@ -69,7 +69,7 @@ fn is_message(alloc: Global, message: &RawMessage, told: &Told) -> Result<bool, 
     Ok(is_text && has_fields(message, fields))
 }
 
-// Whether the messages are those that are told of, in their order.
+// Whether the messages are those above, in their order.
 fn are_messages(alloc: Global, messages: &[RawMessage]) -> Result<bool, Fail> {
     let ([order, despatch], [first, second]) = (&MESSAGES, messages) else {
         return Ok(false);
@@ -105,7 +105,7 @@ const MAIL: &[u8] =
 
 const LAST_NUMBER: u64 = 99_999_999_999_999;
 
-// The mail of this number that a message becomes at a moment.
+// Makes the mail with this number from a message, at a moment.
 fn mail(
     alloc: Global,
     moment: Moment,

@@ -1,4 +1,4 @@
-//! Interchanges that are opened as their bytes come.
+//! Tests interchanges that are opened while their bytes arrive.
 
 use edi_base::OfRead;
 use edi_envelope::open_feed;
@@ -7,7 +7,7 @@ use std::alloc::{AllocError, Global};
 use std::io;
 use std::io::{Error, ErrorKind, Read};
 
-/// A reader that gives so many bytes at a time, and after so many calls is interrupted.
+/// A reader that returns at most `size` bytes at a time, and is interrupted after `calls` calls.
 #[derive(Drop)]
 struct Pieces<'a> {
     left: &'a [u8],
@@ -32,7 +32,8 @@ impl<'a> Read for Pieces<'a> {
 // A text, the number of its messages, and the code of its fault.
 type Row = (&'static [u8], usize, &'static str);
 
-// Opens alone, so that what the contract says burdens no comparison: the number of messages, or the code of the fault.
+// A function of its own, to keep the contract of the call out of the comparisons. Returns the number of messages, or
+// the code of the fault.
 fn opened(alloc: Global, feeder: &mut Feeder<OfRead<Pieces>>) -> (usize, &'static str) {
     match open_feed(alloc, feeder) {
         Ok(interchange) => (interchange.messages.len(), ""),
@@ -40,7 +41,7 @@ fn opened(alloc: Global, feeder: &mut Feeder<OfRead<Pieces>>) -> (usize, &'stati
     }
 }
 
-/// How many messages a text has, or the code of its fault; and whether the reader has failed.
+/// Returns how many messages a text has, or the code of its fault; and whether the reader has failed.
 fn fed(alloc: Global, pieces: Pieces) -> Result<(usize, &'static str, bool), AllocError> {
     let Ok(mut feeder) = Feeder::new(alloc, OfRead::new(pieces)) else {
         return Err(AllocError);
@@ -49,7 +50,8 @@ fn fed(alloc: Global, pieces: Pieces) -> Result<(usize, &'static str, bool), All
     Ok((messages, code, feeder.into_reader().failed()))
 }
 
-// Whether a text in pieces has so many messages or this fault, and its reader has failed where that is the fault.
+// Whether a text in pieces has this many messages or this fault, and its reader has failed exactly if the fault is
+// `read`.
 fn is_fed(alloc: Global, pieces: Pieces, messages: usize, code: &str) -> Result<bool, AllocError> {
     let (count, fault, failed) = fed(alloc, pieces)?;
     if fault == "memory" {
@@ -89,7 +91,7 @@ static TEXTS: [Row; 9] = [
         0,
         "E10",
     ),
-    // A fault of the text behind one of the envelope.
+    // A fault of the text after one of the envelope.
     (
         b"UNB+UNOC:3+5412345000013:14+5412345000006:14+250603:0915+1001'BGM+220'UNZ+0+1001'a",
         0,
@@ -112,7 +114,7 @@ fn is_row_fed(alloc: Global, row: &Row, size: usize) -> Result<bool, AllocError>
     is_fed(alloc, pieces, *messages, code)
 }
 
-// The text that is not answered as it has to be in pieces of this size.
+// Returns the text that is not handled as it should be, in pieces of this size.
 fn wrong_text(alloc: Global, size: usize) -> Result<Option<&'static [u8]>, AllocError> {
     for row in &TEXTS {
         if !is_row_fed(alloc, row, size)? {
@@ -133,7 +135,7 @@ fn pieces_of_any_size_are_opened_alike(rt: HostRuntime) -> Result<(), AllocError
     Ok(())
 }
 
-// 255 bytes are read by 37 calls, and their end by one more.
+// 37 calls read 255 bytes, and one more reads their end.
 const ENOUGH_CALLS: usize = 38;
 
 fn is_order_fed(alloc: Global, calls: usize) -> Result<bool, AllocError> {

@@ -14,7 +14,7 @@ const RECEIPT: &[u8] =
         DTM+137:20250605:102'NAD+SU+4012345500004::9'CPS+1'GIN+BJ+340123455000000012'LIN+1++4000862141404:SRV'\
         QTY+194:10'QTY+195:1'UNT+10+2'UNZ+1+S2'";
 
-// Each reader stands alone, so that what its contract says burdens no comparison.
+// A function of its own, as for each reader, to keep its contract out of the comparisons.
 fn read_despatch(alloc: Global, message: &RawMessage) -> Result<Despatch, Fail> {
     Ok(Despatch::read(alloc, message)?)
 }

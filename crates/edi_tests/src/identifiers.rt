@@ -86,7 +86,7 @@ fn texts_are_read_as_identifiers(rt: HostRuntime) {
     }
 }
 
-// Texts, and the fourteen digits of the GTIN that each is.
+// Texts, and the fourteen digits of the GTIN that each writes.
 static GTINS: [(&str, Option<&[u8; 14]>); 14] = [
     ("96385074", Some(b"00000096385074")),
     ("96385075", None),
@@ -174,7 +174,7 @@ fn equal_numbers_are_one_gtin(rt: HostRuntime) {
     assert!(rt; are_one_gtin() == Some(true));
 }
 
-// Two prefixes: whether the first begins the second, their order, and whether they are equal.
+// Two prefixes: whether the first begins the second, how they compare, and whether they are equal.
 static PAIRS: [Pair; 5] = [
     ("40123", "4012345", true, Ordering::Less, false),
     ("4012345", "40123", false, Ordering::Greater, false),
@@ -185,7 +185,7 @@ static PAIRS: [Pair; 5] = [
 
 type Pair = (&'static str, &'static str, bool, Ordering, bool);
 
-// Whether two prefixes compare so; where they are equal, so are their hashes.
+// Whether two prefixes compare like this; if they are equal, their hashes must be too.
 fn is_compared(pair: &Pair) -> Option<bool> {
     let (first, second, begins, order, is_equal) = pair;
     let (one, other) = (prefix(first)?, prefix(second)?);
@@ -206,7 +206,7 @@ fn prefixes_are_compared_by_their_digits(rt: HostRuntime) {
     }
 }
 
-// Four prefixes, and the places of the first two of which one begins the other.
+// Four prefixes, and the positions of the first two of which one begins the other.
 static OVERLAPS: [([&str; 4], Option<(usize, usize)>); 6] = [
     (["4012", "4013", "4014", "4015"], None),
     (["4012", "4013", "4012", "4013"], Some((0, 2))),
@@ -216,7 +216,7 @@ static OVERLAPS: [([&str; 4], Option<(usize, usize)>); 6] = [
     (["4012", "4012", "4012", "4012"], Some((0, 1))),
 ];
 
-// The four prefixes that these texts are.
+// Makes four prefixes from these texts.
 fn prefixes(texts: &[&str; 4]) -> Option<[Prefix; 4]> {
     let [first, second, third, fourth] = texts;
     Some([

@@ -1,4 +1,5 @@
-//! Tests of the public calls of the layers that read and write interchanges, in one crate, so that no crate below is proved twice.
+//! Tests the public calls of the layers that read and write interchanges. They are in one crate, so that no crate below
+//! is proved twice.
 #![tactic(auto)]
 
 #[cfg(test)]

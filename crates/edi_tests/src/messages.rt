@@ -39,7 +39,7 @@ static MESSAGES: [Row; 11] = [
     ("DESADV", "CPS+1'NAD+SU+4012345500004::9'", false),
 ];
 
-// The message of this type and these segments, in an interchange.
+// Makes a message of this type and with these segments, in an interchange.
 fn message(alloc: Global, kind: &str, behind: &str) -> Result<RawMessage, Fail> {
     let count = behind.matches("'").count().saturating_add(2);
     let text = format!(in alloc;
@@ -48,7 +48,7 @@ fn message(alloc: Global, kind: &str, behind: &str) -> Result<RawMessage, Fail> 
     last_message(alloc, text.as_bytes())
 }
 
-// Whether the header of a message names the supplier, or none.
+// Whether the header of a message names the supplier, or names none if `names` is false.
 fn is_named(message: &RawMessage, names: bool) -> bool {
     match supplier_of(message) {
         Some(supplier) => names && supplier.digits() == SUPPLIER,

@@ -15,7 +15,7 @@ const RESPONSE: &[u8] =
         DTM+137:20250603:102'RFF+ON:128576'NAD+BY+5412345000013::9'NAD+SU+4012345500004::9'\
         LIN+1+3+4000862141404:SRV'QTY+113:36'UNS+S'UNT+10+2'UNZ+1+1001'";
 
-// Each reader stands alone, so that what its contract says burdens no comparison.
+// A function of its own, as for each reader, to keep its contract out of the comparisons.
 fn read_order(alloc: Global, message: &RawMessage) -> Result<Order, Fail> {
     Ok(Order::read(alloc, message)?)
 }

@@ -29,14 +29,14 @@ fn write_into(segments: &[Segment], sink: &mut OfWrite<Vec<u8>>) -> Result<(), W
     write_text(segments, b'.', sink)
 }
 
-// Whether segments are written as the order, after a service string.
+// Whether the segments are written as the order, after a service string.
 fn are_written_again(alloc: Global, segments: &[Segment]) -> Result<bool, WriteFault> {
     let mut sink = OfWrite::new(Vec::new(alloc));
     write_into(segments, &mut sink)?;
     Ok(sink.into_inner().as_slice() == ORDERS)
 }
 
-// Whether segments are those of the order, and its text and its message's are written as they were read.
+// Whether the segments are those of the order, and its text and its message's text are written as they were read.
 fn are_of_the_order(alloc: Global, segments: &[Segment]) -> Result<bool, Fail> {
     let Some(message) = segments.get(1..11) else {
         return Ok(false);
@@ -56,7 +56,7 @@ fn an_order_is_read_and_written_again(rt: HostRuntime) -> Result<(), Fail> {
 
 type Component = (usize, &'static [u8; 3], usize, usize, &'static [u8]);
 
-// Segments of the order, their tags, and what stands at an element and a component.
+// The position of a segment of the order, its tag, the positions of an element and a component, and what is there.
 static COMPONENTS: [Component; 3] = [
     (1, b"UNH", 1, 4, b"EAN010"),
     (5, b"NAD", 1, 1, b""),
@@ -101,7 +101,7 @@ fn each_text_gives_its_service_characters(rt: HostRuntime) -> Result<(), Fail> {
     Ok(())
 }
 
-// Texts, and the canonical text of what each is read as.
+// Texts, and the canonical text that each is read as.
 static CANONICAL: [(&[u8], &[u8]); 13] = [
     (OTHER_SEPARATORS, BEHIND_UNA),
     (b"", b""),
@@ -110,11 +110,11 @@ static CANONICAL: [(&[u8], &[u8]); 13] = [
     (b"\nUNA:+.? '\r\nUNS+S'\r\n", b"UNS+S'"),
     (b"UNA:+.? 'UNA+1'", b"UNA+1'"),
     (b"UNS'UNA+1'", b"UNS'UNA+1'"),
-    // a tag alone, and empty elements and components at an end and elsewhere
+    // a tag alone, and empty elements and components at the end and elsewhere
     (b"UNS'UNS+'UNS+:'UNS++'", b"UNS'UNS'UNS'UNS'"),
     (b"QTY+21:48:+'", b"QTY+21:48'"),
     (b"NAD+:SU:::9:::+'ABC++:+D'", b"NAD+:SU:::9'ABC+++D'"),
-    // the release character, also before a byte that needs none, and where there is none
+    // the release character, also before a byte that does not need it, and where it is missing
     (b"FTX+?+?:?'??a?b'", b"FTX+?+?:?'??ab'"),
     (
         b"UNA*|,! ~FTX|Dock 3+4, O'Neill?!~!!~",
@@ -123,7 +123,7 @@ static CANONICAL: [(&[u8], &[u8]); 13] = [
     (b"UNA:+.  'FTX+A?:B\xA0\xFF'", b"FTX+A??:B\xA0\xFF'"),
 ];
 
-/// Whether what a text is read as has this canonical text.
+/// Whether a text is read as segments that have this canonical text.
 fn is_read_as(alloc: Global, text: &[u8], canonical: &[u8]) -> Result<bool, Fail> {
     let tokens = tokens(alloc, text)?;
     has_body(alloc, tokens.segments.as_slice(), canonical)
@@ -137,19 +137,19 @@ fn each_text_gives_its_canonical_text(rt: HostRuntime) -> Result<(), Fail> {
     Ok(())
 }
 
-// Writes alone, so that what the contract says burdens no test.
+// A function of its own, to keep the contract of the call out of the tests.
 fn write(segments: &[Segment], decimal: u8, sink: &mut OfWrite<Dribble>) -> Result<(), WriteFault> {
     write_text(segments, decimal, sink)
 }
 
-/// Whether a writer with so much room gets the front of the order that it has room for, where its segments are written.
+/// Whether a writer with this much room gets as much of the order as it has room for, when its segments are written.
 fn is_front_written(alloc: Global, segments: &[Segment], room: usize, fails: bool) -> bool {
     let mut sink = sink_with_room(alloc, room, fails);
     let wrote = write(segments, b'.', &mut sink);
     took_front(wrote, sink, ORDERS, room)
 }
 
-// The same for a writer that fails, and for one that takes nothing.
+// Does this for a writer that fails, and for one that accepts nothing.
 fn are_fronts_written(alloc: Global, segments: &[Segment], room: usize) -> bool {
     is_front_written(alloc, segments, room, true) && is_front_written(alloc, segments, room, false)
 }
@@ -183,14 +183,14 @@ fn append_long(text: &mut Vec<u8>) -> Result<(), AllocError> {
     Ok(())
 }
 
-/// A front, a segment of 8,000 bytes, and nine orders.
+/// Makes a text of a beginning, a segment of 8,000 bytes, and nine orders.
 fn long_text(alloc: Global, front: &[u8]) -> Result<Vec<u8>, AllocError> {
     let mut text = Vec::from_slice(alloc, front)?;
     append_long(&mut text)?;
     Ok(text)
 }
 
-// Whether segments are written as this text, the decimal mark of which is a comma.
+// Whether the segments are written as this text, whose decimal mark is a comma.
 fn is_written(alloc: Global, segments: &[Segment], text: &[u8]) -> bool {
     let mut sink = sink_with_room(alloc, usize::MAX, false);
     let wrote = write(segments, b',', &mut sink);

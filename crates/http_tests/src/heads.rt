@@ -3,8 +3,8 @@ use edi_base::{Items, OfRead, ReadFault};
 use http_messages::{Head, HeadFault, Values, read_body, read_head};
 use std::alloc::{AllocError, Global};
 
-// A head: its start, a piece that comes so many times, its end; and what it says, where it is one: its method, its
-// target, and the values of its fields `X-Key`.
+// A head: its start, a piece that is repeated this many times, and its end; and what is read from it, if it is a head:
+// its method, its target, and the values of its fields `X-Key`.
 type Row = (
     &'static str,
     &'static [u8],
@@ -21,7 +21,7 @@ enum Key {
     Several,
 }
 
-// What stands behind each head.
+// The bytes that follow each head.
 const BEHIND: &[u8] = b"body\r\n\r\n";
 
 const START: &[u8] = b"GET /a HTTP/1.1\r\n";
@@ -203,7 +203,7 @@ static HEADS: [Row; 27] = [
     ("nothing of a head", b"", b"\x00", 1, b"", None),
 ];
 
-/// The bytes of a row, and those behind it.
+/// Makes the bytes of a row, and those that follow it.
 fn made(alloc: Global, row: &Row) -> Result<Vec<u8>, AllocError> {
     let (_, start, piece, times, end, _) = *row;
     let mut bytes = Vec::from_slice(alloc, start)?;
@@ -215,7 +215,8 @@ fn made(alloc: Global, row: &Row) -> Result<Vec<u8>, AllocError> {
     Ok(bytes)
 }
 
-/// What is read of bytes in steps, and how many bytes it took that do not stand behind the head.
+/// Reads bytes in steps. Returns what is read, how many bytes were taken from the source, and whether the source has
+/// failed.
 fn read(
     bytes: &[u8],
     step: usize,
@@ -275,7 +276,7 @@ fn heads_are_read(rt: HostRuntime) -> Result<(), AllocError> {
 
 const WHOLE: &[u8] = b"GET /a HTTP/1.1\r\nX-Key: k\r\n\r\n";
 
-// Whether a head that is cut is no head, and takes all that is there.
+// Whether a head that is cut off is not read as a head, and all its bytes are taken.
 fn is_none_cut_at(end: usize) -> bool {
     let Some(front) = WHOLE.get(..end) else {
         return false;
@@ -285,7 +286,7 @@ fn is_none_cut_at(end: usize) -> bool {
     is_whole == (end == WHOLE.len()) && cut.is_ok() && taken == end && !failed
 }
 
-// Whether a read that fails there is a fault, and nothing behind it is taken.
+// Whether a read that fails at `end` is a fault, and nothing after it is taken.
 fn is_fault_failed_at(end: usize) -> bool {
     let (broken, taken, failed) = read(WHOLE, 1, end);
     let is_whole = matches!(&broken, Ok(Some(_)));
@@ -301,7 +302,7 @@ fn cut_heads_are_none_and_failed_reads_are_faults(rt: HostRuntime) {
     }
 }
 
-// The front that was read with the head, what the source has left, how many bytes the body has, and the body.
+// The bytes that were read with the head, those that the source has left, the length of the body, and the body.
 type BodyRow = (&'static [u8], &'static [u8], usize, Option<&'static [u8]>);
 
 static BODIES: [BodyRow; 10] = [
@@ -344,7 +345,7 @@ fn is_body(
     Ok(has_bytes(&read, *want))
 }
 
-// Whether the source has given what the front lacks of the body, and has not failed.
+// Whether the source has returned what was missing of the body, and has not failed.
 fn is_left(source: OfRead<Steps<'_>>, row: &BodyRow) -> bool {
     let (front, behind, size, _) = row;
     let lacks = size.saturating_sub(front.len()).min(behind.len());
@@ -358,7 +359,7 @@ fn is_body_read(alloc: Global, row: &BodyRow, step: usize) -> Result<bool, ReadF
     Ok(is_body && is_left(source, row))
 }
 
-// Whether the body is a fault where the read of its last byte fails.
+// Whether the body is a fault if the read of its last byte fails.
 fn is_fault_before_the_last(alloc: Global, row: &BodyRow) -> Result<bool, ReadFault> {
     let (front, behind, size, _) = row;
     let lacks = size.saturating_sub(front.len());

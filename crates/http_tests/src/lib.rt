@@ -1,4 +1,4 @@
-//! Tests of the public calls of the layers of HTTP, in one crate, so that no crate below is proved twice.
+//! Tests the public calls of the HTTP layers. They are in one crate, so that no crate below is proved twice.
 #![tactic(auto)]
 
 #[cfg(test)]

@@ -2,7 +2,7 @@ use hub_http::{Paths, Route, part_in, party_in};
 use std::alloc::Global;
 use std::test::*;
 
-// The route of a path, who asks, and what stands for `{n}` or `{supplier}`, if anything.
+// The route of a path, the caller, and the part in place of `{n}` or `{supplier}`, if the route has one.
 type Found<'p> = Option<(Route, &'p [u8], &'p [u8])>;
 
 fn found(alloc: Global, path: &str) -> Result<Found<'_>, Fail> {
@@ -35,7 +35,7 @@ static PATHS: [Row; 28] = [
         "/p/a/cancellations",
         Some((Route::Cancellations, b"a", b"")),
     ),
-    // parts are taken as they are
+    // parts are kept as they are
     ("/p/status/status", Some((Route::Status, b"status", b""))),
     (
         "/p/p/status/status",

@@ -13,7 +13,7 @@ const TEXT: &[u8] =
     b"HTTP/1.1 200 OK\r\nContent-Type: application/octet-stream\r\nContent-Length: 33\r\nConnection: close\
         \r\n\r\n             1 ORDERS 128576\nend\n";
 
-/// A writer with room for so many bytes, of which it takes a few at a time; then it takes nothing.
+/// A writer with room for this many bytes, which accepts a few at a time, and then nothing.
 #[derive(Drop)]
 struct Narrow {
     written: Vec<u8>,
@@ -33,7 +33,8 @@ impl Write for Narrow {
     }
 }
 
-/// What comes of a response over a writer with room for so many bytes, and what was written.
+/// Writes a response to a writer with this much room. Returns the result, whether the writer has failed, and what was
+/// written.
 fn written(
     alloc: Global,
     status: StatusCode,
@@ -81,7 +82,7 @@ static RESPONSES: [(u16, &[u8], &[u8]); 6] = [
     ),
 ];
 
-// Whether the front of a response that a writer has room for is written, and it fails where that is not the whole.
+// Whether as much of a response is written as the writer has room for, and it fails if that is not the whole.
 fn is_written(alloc: Global, status: StatusCode, body: &[u8], text: &[u8], room: usize) -> bool {
     let (result, failed, written) = written(alloc, status, body, room);
     let is_whole = room == text.len();

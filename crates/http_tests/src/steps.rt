@@ -1,10 +1,10 @@
-//! A fake reader.
+//! Simulates a reader that fails.
 
 use edi_base::OfRead;
 use std::io;
 use std::io::{Error, ErrorKind, Read};
 
-/// A reader that gives at most so many bytes at a time, and fails once it has given so many in all.
+/// A reader that returns at most `step` bytes at a time, and fails after `until_failure` bytes.
 #[derive(Drop)]
 pub(crate) struct Steps<'b> {
     left: &'b [u8],
@@ -31,7 +31,7 @@ impl<'b> Read for Steps<'b> {
     }
 }
 
-/// A source of these bytes in steps, which fails once it has given so many of them.
+/// Makes a source of these bytes in steps, which fails after `until_failure` of them.
 pub(crate) fn in_steps(bytes: &[u8], step: usize, until_failure: usize) -> OfRead<Steps<'_>> {
     OfRead::new(Steps {
         left: bytes,
@@ -40,7 +40,7 @@ pub(crate) fn in_steps(bytes: &[u8], step: usize, until_failure: usize) -> OfRea
     })
 }
 
-/// The bytes that were not given, and whether the source has failed.
+/// Returns the bytes that were not read, and whether the source has failed.
 pub(crate) fn left_of(source: OfRead<Steps<'_>>) -> (&[u8], bool) {
     let failed = source.failed();
     (source.into_inner().left, failed)

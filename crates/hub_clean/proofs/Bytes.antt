@@ -1,4 +1,4 @@
--- What is read of a text is bytes, and so is its canonical text.
+-- Shows that what is read from a text is bytes, and that its canonical text is too.
 use Rattle.std.proofs.Common.{◌≡◌, ℕ, zero, suc, ◌+◌, ◌%◌, ◌==◌, ◌<◌, ◌≤◌, nat_le, Bool, true, false, cond, ◌||◌}
 use Rattle.std.proofs.Common.{List, [], ◌∷◌, ◌++◌, map, take, drop, length, set, get_or, codes, refl, sym, subst, arith}
 use Rattle.std.specs.List.{AllByRecursion, flat_map, list_all}
@@ -28,7 +28,7 @@ use Rattle.hub_clean.specs.Clean.{WithinCancel}
 abbrev pub Bytes : List ℕ → Type 0
 Bytes = AllByRecursion (λ b. b < 256)
 
--- a segment of bytes
+-- a segment that consists of bytes
 pub record ByteSegment (segment : Segment) : Type 0 where
   pub tag : Bytes segment.tag
   pub elements : AllByRecursion (AllByRecursion Bytes) segment.elements
@@ -133,7 +133,7 @@ pub all_renumbered : (segments : List Segment) → AllByRecursion ByteSegment se
 all_renumbered [] all = tt
 all_renumbered (segment ∷ segments) all = (renumbered_is segment all.0, all_renumbered segments all.1)
 
--- What is spelled.
+-- For a text that is written in parts.
 
 each_is : {X : Type 0} (R : List ℕ → X → Type 0) (P : X → Type 0) (spelled : List ℕ) (xs : List X)
     → ((part : List ℕ) (x : X) → R part x → P x)

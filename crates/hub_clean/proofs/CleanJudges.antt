@@ -1,4 +1,4 @@
--- Of messages within their limits the rules accept changes of rows of the kinds alone.
+-- Shows that for messages within their limits the rules accept only changes of clean rows.
 use Rattle.std.proofs.Common.{◌≡◌, ℕ, ◌+◌, ◌-◌, ◌≤◌, nat_lt, nat_le, Bool, true, false, cond, not, ◌&&◌, ◌||◌, ◌⊎◌, inl}
 use Rattle.std.proofs.Common.{inr, List, [], ◌∷◌, ◌++◌, map, length, Option, Some, None, refl, arith}
 use Rattle.std.specs.List.{AllByRecursion}
@@ -74,7 +74,7 @@ use Rattle.hub_clean.proofs.CleanVerdicts.{Clean, Cleans, accepted, cleans_rest,
 le_true : (a b : ℕ) → a ≤ b → nat_le a b ≡ true
 le_true a b h = grind (arith, nat_tests)
 
--- What stands in front of the rules of a message.
+-- The checks before those of a message itself.
 
 pub once_cases : (row : Option RememberedRow) (content : List ℕ) (fresh : Verdict) (changes : List Change) →
     once row content fresh ≡ Accept changes → (◌≡◌ {A = Verdict} (Accept []) (Accept changes)) ⊎

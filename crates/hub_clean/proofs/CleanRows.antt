@@ -1,4 +1,4 @@
--- Changes of rows of the kinds leave tables of such rows.
+-- Shows that changes of clean rows leave tables of clean rows.
 use Rattle.std.proofs.Common.{◌≡◌, ℕ, Bool, true, not, List, [], ◌∷◌, refl}
 use Rattle.std.specs.Bool.{⊤}
 use Rattle.std.specs.List.{AllByRecursion, list_all}
@@ -91,7 +91,7 @@ clean_view supplier t h = record {
   mail = all_filter _ (λ row. same row.supplier supplier) t.mail h.mail;
 }
 
--- a change of a row of the kinds
+-- the row of a change is clean
 abbrev pub CleanChange : Change → Type 0
 CleanChange (AddHub row) = clean_hub row ≡ true
 CleanChange (SetHub row) = clean_hub row ≡ true

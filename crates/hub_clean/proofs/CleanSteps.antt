@@ -1,4 +1,4 @@
--- Each step of the shared machine leaves clean rows.
+-- Shows that each step of the shared machine leaves clean rows.
 use Rattle.std.proofs.Common.{◌≡◌, ◌≤◌, ℕ, Bool, true, false, cond, List, [], ◌∷◌, map, length, codes, Option, Some, None}
 use Rattle.std.proofs.Common.{Result, Ok, Err, not, refl, sym, subst, ap, ◌∙◌, inl, inr}
 use Rattle.std.specs.List.{AllByRecursion, list_any}
@@ -57,7 +57,7 @@ use Rattle.hub_clean.proofs.Names.{order_names, receipt_names}
 abbrev Clean : Tables → Type 0
 Clean t = are_clean t ≡ true
 
--- What is opened.
+-- Uploads that are opened.
 
 abbrev Sent : RawMessage × IncomingMessage → Type 0
 Sent sent = WithinMessage sent.0 sent.1

@@ -1,4 +1,4 @@
--- Judges that accept changes of rows of the kinds alone.
+-- Shows which judges accept only changes of clean rows.
 use Rattle.std.proofs.Common.{◌≡◌, ℕ, ◌==◌, nat_le, true, false, List, [], ◌∷◌, ◌++◌, ◌&&◌, length, Some, sym, subst, cond, refl}
 use Rattle.std.specs.List.{AllByRecursion, list_all}
 use Rattle.std.proofs.lemmas.Bool.{and_parts, and_from}
@@ -31,7 +31,7 @@ use Rattle.hub_law.specs.Told.{changed}
 use Rattle.hub_clean.proofs.Joined.{changes_are}
 use Rattle.hub_clean.proofs.CleanRows.{CleanRows, CleanChange, clean_all, clean_rows, clean_view, rows_clean}
 
--- what it accepts
+-- all changes are of clean rows
 abbrev pub Clean : List Change → Type 0
 Clean changes = AllByRecursion CleanChange changes
 
@@ -45,7 +45,7 @@ both_clean : (a b : List Change) → Clean a → Clean b → Clean (a ++ b)
 both_clean [] b first second = second
 both_clean (change ∷ changes) b first second = (first.0, both_clean changes b first.1 second)
 
--- changes that are given, and what a judge makes of what they left
+-- the given changes, then what a judge decides on what they left
 pub cleans_rest : (first : List Change) (second : Judge) (state : Tables) (changes : List Change) → CleanRows state → Clean first →
     Cleans second → in_turn (gives first) second state ≡ Accept changes → Clean changes
 cleans_rest first second state changes rows clean f h =
@@ -65,7 +65,7 @@ cleans_in_order judge [] all state changes rows h = accepted [] changes h tt
 cleans_in_order judge (x ∷ xs) all state changes rows h = cleans_in_turn (judge x) (in_order judge xs) all.0
     (cleans_in_order judge xs all.1) state changes rows h
 
--- Tables after what is accepted.
+-- The tables after what is accepted.
 
 pub cleaned : (s : SupplierRow) (t : Tables) (judge : Judge) → Cleans judge → are_clean t ≡ true →
     are_clean (changed (judge (view s.gln t)) t) ≡ true

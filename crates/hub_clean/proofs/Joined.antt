@@ -1,4 +1,4 @@
--- What a join that is accepted says.
+-- Shows what follows from a join that is accepted.
 use Rattle.std.proofs.Common.{◌≡◌, false, List}
 use Rattle.std.proofs.Common.{sym}
 use Rattle.hub_parties.specs.Rows.{RegisterRows}
@@ -11,7 +11,7 @@ use Rattle.hub_rules.specs.declared.verdict.Verdict.{Verdict}
 use Rattle.hub_rules.specs.declared.verdict.Verdict.TheVariants.{Accept}
 use Rattle.hub_rules.proofs.Verdicts.{not_refused}
 
--- A supplier that the register takes.
+-- A supplier that the register accepts.
 module _ (register : RegisterRows) (row : SupplierRow) (changes : List Change)
     (accepted : judge_join register row ≡ Accept changes) where
   pub rules : (is_known register row.gln ≡ false) × (row_changes row ≡ changes)

@@ -1,4 +1,4 @@
--- Whom a message that was read names.
+-- Shows which supplier a message that was read names.
 use Rattle.std.proofs.Common.{◌≡◌, Option, Some, None, Ok, ap}
 use Rattle.edi_envelope.specs.declared.interchange.RawMessage.{RawMessage}
 use Rattle.edi_messages.specs.Fault.{unless}

@@ -1,4 +1,4 @@
--- What comes with a message of an opened upload is within its limits.
+-- Shows that what accompanies a message of an opened upload is within its limits.
 use Rattle.std.proofs.Common.{◌≡◌, ℕ, ◌-◌, ◌≤◌, ◌==◌, Bool, true, false, cond, List, [], ◌∷◌, map, take}
 use Rattle.std.proofs.Common.{length, Option, Some, None, Result, Ok, Err, refl, sym, ap, subst, arith}
 use Rattle.std.specs.List.{AllByRecursion, list_all}
@@ -32,7 +32,7 @@ use Rattle.hub_law.specs.Messages.{incoming}
 use Rattle.hub_clean.specs.Clean.{WithinMessage}
 use Rattle.hub_clean.proofs.Bytes.{ByteSegment, all_take, all_drop, all_renumbered, text_written, spelled_bytes}
 
--- What an opened text was read as.
+-- What a text that was opened was read as.
 
 checked_is : (r : Result Interchange EnvelopeFault) (i : Interchange) → checked_as r ≡ Ok i → r ≡ Ok i
 checked_is (Ok j) i h = let same : j ≡ i = cc in ap Ok same
@@ -123,7 +123,7 @@ between_bytes segments all =
 header_reference : (unb : Segment) → is_valid_header unb ≡ true → is_reference (component unb 4 0) ≡ true
 header_reference unb h = (and_parts _ (is_reference (component unb 4 0)) (and_parts _ _ h).0).1
 
--- what is opened
+-- an opened interchange
 record OpenedWithin (i : Interchange) : Type 0 where
   control : is_reference i.head.reference ≡ true
   decimal : is_decimal i.decimal ≡ true

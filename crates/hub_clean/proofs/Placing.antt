@@ -1,4 +1,4 @@
--- What the rules accept sets only rows that are there.
+-- Shows that what the rules accept sets only existing rows.
 use Rattle.std.proofs.Common.{◌≡◌, ℕ, ◌-◌, ◌+◌, ◌==◌, nat_lt, Bool, true, false, cond, not, ◌&&◌, ◌||◌, inl, inr, List, [], ◌∷◌, ◌++◌}
 use Rattle.std.proofs.Common.{map, filter, length, Option, Some, refl, sym, subst, ap, ◌∙◌}
 use Rattle.std.specs.List.{AllByRecursion, list_any}
@@ -71,7 +71,7 @@ use Rattle.hub_rules.proofs.Verdicts.{not_refused, was_given, joined_rest}
 use Rattle.hub_law.specs.Requests.{taking}
 use Rattle.hub_clean.proofs.CleanJudges.{once_cases}
 
--- what it accepts sets rows that are there
+-- what the judge accepts sets only existing rows
 abbrev Places : Judge → Type 0
 Places judge = (state : Tables) (changes : List Change) → judge state ≡ Accept changes → have_places changes state ≡ true
 
@@ -90,7 +90,7 @@ both_there (change ∷ a) b state first second =
     let parts = and_parts (has_place change state) (have_places a (apply change state)) first in
     and_from _ _ parts.0 (both_there a b (apply change state) parts.1 second)
 
--- changes that are given, and what a judge makes of what they left
+-- the given changes, then what a judge decides on what they left
 places_rest : (first : List Change) (second : Judge) (state : Tables) (changes : List Change)
     → have_places first state ≡ true
     → Places second
@@ -132,7 +132,7 @@ places_message s retailer side incoming buyer named rest f state changes h =
 
 -- Lines.
 
--- a row is in its own place
+-- a row has its own key
 own_line : (line : LineRow) → same_line line line ≡ true
 own_line line =
     and_from _ _ (same_if line.supplier line.supplier refl)
@@ -152,7 +152,7 @@ found_there : (state : Tables) (order : List ℕ) (number : Option ℕ) (gtin : 
 found_there state order number gtin line h =
     line_found (λ line. list_any (same_line line) state.lines ≡ true) state order number gtin line (own_lines state.lines) h
 
--- a row with the same key is in the same place
+-- a row with the same key replaces the same row
 alike : (row set old : LineRow) → same_line set old ≡ true → same_line row old ≡ same_line row set
 alike row set old h =
     let a = and_parts (same old.supplier set.supplier) _ h in
@@ -169,7 +169,7 @@ still_there : (row set : LineRow) (lines : List LineRow)
     → list_any (same_line row) (replace (same_line set) set lines) ≡ true
 still_there row set lines h = any_replaced (same_line row) (same_line set) set lines (alike row set) ∙ h
 
--- lines that stay in their places are set one after another
+-- lines that keep their keys are set one after another
 module _ (with : LineRow → LineRow) (keeps : (line old : LineRow) → same_line (with line) old ≡ same_line line old) where
   place_with : (line : LineRow) (lines : List LineRow) → list_any (same_line (with line)) lines ≡ list_any (same_line line) lines
   place_with line [] = refl
@@ -335,7 +335,7 @@ places_new_order supplier incoming body order t state changes h =
     accepted (mail ∷ row ∷ map (new_line supplier order.number) order.lines) changes t b.1
     (new_lines supplier order.number order.lines (apply row (apply mail t)))
 
--- In the tables of all.
+-- In the tables of all suppliers.
 
 any_filtered : {X : Type 0} (p q : X → Bool) (xs : List X) → list_any p (filter q xs) ≡ true → list_any p xs ≡ true
 any_filtered p q [] h = h

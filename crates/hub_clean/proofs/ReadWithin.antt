@@ -1,4 +1,4 @@
--- What is read of a message is within the limits of what it says.
+-- Shows that what is read from a message is within its limits.
 use Rattle.std.proofs.Common.{◌≡◌, ℕ, ◌<◌, ◌≤◌, ◌==◌, nat_le, Bool, true, false, cond, not, ◌&&◌, List, [], ◌∷◌, map}
 use Rattle.std.proofs.Common.{length, Option, Some, None, Ok, is_some, codes, refl, sym, subst, ◌∙◌, arith}
 use Rattle.std.specs.Prelude.{option_and_then}

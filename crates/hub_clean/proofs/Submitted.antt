@@ -1,4 +1,4 @@
--- What is said of each kind of message and of cancellations, of whichever is submitted.
+-- Combines what holds for each kind of message and for cancellations into what holds for any submission.
 use Rattle.std.proofs.Common.{◌≡◌, ℕ, Bool, true, false, List, [], Option, Some, None, Result, Ok, Err, refl, subst}
 use Rattle.edi_envelope.specs.declared.interchange.RawMessage.{RawMessage}
 use Rattle.edi_documents.specs.Document.{type_of, document_from, document_as, document_by, document_of}
@@ -24,7 +24,8 @@ use Rattle.hub_clean.proofs.CleanVerdicts.{cleaned}
 use Rattle.hub_clean.proofs.Placing.{order_there, response_there, despatch_there, receipt_there, cancel_there}
 use Rattle.hub_clean.proofs.ReadWithin.{order_within, despatch_within, receipt_within}
 
--- A document of the retailer, of which the rules do not ask what is used; and one of a supplier, which is no mailbox entry.
+-- A document of the retailer, for which the rules do not need to know which SSCCs are used; and one of a supplier,
+-- which makes no mailbox entry.
 
 abbrev pub of_retailer : List ℕ → IncomingMessage → List ℕ → Document → Submission
 of_retailer retailer incoming body =
@@ -56,7 +57,7 @@ submission_cleaned s t (Of b document) within gln = document_cleaned s t b docum
 submission_cleaned s t (Cancels content cancel) within gln =
     cleaned s t _ (cleans_cancel s gln content cancel within.0 within.1)
 
--- Only rows that are there are set.
+-- Only existing rows are set.
 
 module _ (suppliers : List SupplierRow) (s : SupplierRow) (t : Tables) (here : Registered suppliers s t) where
   document_there : (b : Beside) (document : Document) (changes : List Change)
@@ -76,7 +77,7 @@ module _ (suppliers : List SupplierRow) (s : SupplierRow) (t : Tables) (here : R
   submission_there (Of b document) changes h = document_there b document changes h
   submission_there (Cancels content cancel) changes h = cancel_there suppliers s t here content cancel changes h
 
--- What is read is within the limits of what it says.
+-- What is read is within its limits.
 
 read_from : {X : Type 0} (of : X → Document) (P : Document → Type 0) (read : Result X MessageFault) (document : Document)
     → ((x : X) → read ≡ Ok x → P (of x))

@@ -1,4 +1,4 @@
--- What the rules accept of clean rows can be made, and leaves clean rows.
+-- Shows that what the rules accept for clean rows can be made, and leaves clean rows.
 use Rattle.std.proofs.Common.{◌≡◌, ℕ, true, false, List, [], ◌∷◌, map}
 use Rattle.std.proofs.Common.{Option, Some, None, Ok}
 use Rattle.std.proofs.Common.{refl, sym, subst, ap, ◌∙◌}
@@ -56,7 +56,7 @@ pub refused_clean : (test : _) (first second : Code) (t : Tables) → VerdictCle
 refused_clean true first second t = tt
 refused_clean false first second t = tt
 
--- the GLN of who is registered is one
+-- the GLN of a registered supplier is valid
 pub registered_gln : (register : RegisterRows) (gln : List ℕ) (s : SupplierRow)
     → IsRegister register
     → supplier_row register.suppliers gln ≡ Some s
@@ -74,7 +74,7 @@ registered_gln register gln s right known =
         let parts = and_parts (is_gln row.gln) (list_all is_gln (map (λ (s : SupplierRow). s.gln) rows)) h in
         (parts.0, each rows parts.1)
 
--- of a supplier that is registered by what its rules say, and of nobody
+-- for a supplier that is registered, by its rules; and for none
 pub named_clean : (register : RegisterRows) (gln : List ℕ) (t : Tables) (judge : Option SupplierRow → Judge)
     → IsRegister register
     → SoundUnder register.suppliers t

@@ -1,4 +1,4 @@
--- A register founded beside rows: what becomes of its rows depends on such rows alone.
+-- Shows that founding a register beside other rows affects only the rows of the register.
 use Rattle.std.proofs.Common.{◌≡◌, ℕ, List, [], ◌∷◌, ◌++◌, refl, sym, ap, subst, ◌∙◌}
 use Rattle.hub_parties.specs.Rows.{RegisterRows, IsRegister}
 use Rattle.hub_parties.specs.declared.row.SupplierRow.{SupplierRow}
@@ -10,12 +10,12 @@ use Rattle.hub_tables.specs.declared.change.Change.TheVariants.{AddHub, AddKey, 
 use Rattle.hub_tables.proofs.Founding.{OnlyParties, holds_register, register_back}
 use Rattle.hub_founding.specs.Fits.{founded_beside, KeepsOtherRows}
 
--- the rows of tables, with the parties of others in the place of theirs
+-- the tables `t`, with the hub, keys and prefixes of `u`
 abbrev with_parties : Tables → Tables → Tables
 with_parties u t = record t { hubs = u.hubs; keys = u.keys; prefixes = u.prefixes }
 
 module _ (t : Tables) where
-  -- the changes do to parties what they do alone
+  -- the changes do to the rows of the register what they would do alone
   abbrev Apart : List Change → Type 0
   Apart changes = (u : Tables) → apply_all changes (with_parties u t) ≡ with_parties (apply_all changes u) t
 

@@ -1,4 +1,4 @@
--- The prefixes of each supplier, gathered one after another.
+-- Shows what collecting the prefixes of each supplier, one after another, gives.
 use Rattle.std.proofs.Common.{◌≡◌, ℕ, zero, suc, ◌<◌, Bool, true, false, cond, List, [], ◌∷◌, ◌++◌}
 use Rattle.std.proofs.Common.{length, get_or, map, filter, slice_set, refl, sym, ap, ap₂, ◌∙◌, arith}
 use Rattle.std.specs.List.{AllByRecursion, HoldsAt}
@@ -13,7 +13,7 @@ use Rattle.hub_tables.specs.declared.rows.PrefixRow.{PrefixRow}
 use Rattle.hub_tables.proofs.Lists.{all_weaker, same_if}
 use Rattle.hub_founding.specs.Gathered.{prefixes_in, gathered, with_prefix}
 
--- what is gathered, with the prefixes that are still to be put
+-- what is collected so far, with the prefixes that are still to be added
 abbrev pub and_rest : List PrefixRow → List KeyRow → List (List (List ℕ)) → List (List (List ℕ))
 and_rest rest (key ∷ keys) (list ∷ lists) = (list ++ prefixes_in rest key) ∷ and_rest rest keys lists
 and_rest rest keys [] = []
@@ -52,7 +52,7 @@ one_put row rest (key ∷ keys) (list ∷ lists) =
     here true = one_after list row.prefix (prefixes_in rest key)
     here false = refl
 
--- A prefix is put at the place of its supplier's key alone.
+-- A prefix is added only to the list of its supplier's key.
 below_is_other : (a b : List ℕ) → bytes_cmp a b ≡ Less → same b a ≡ false
 below_is_other a b less = bytes_eq-sym b a ∙ sym (is_eq-slice_cmp a b) ∙ ap is_eq less
 

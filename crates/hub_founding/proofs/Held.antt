@@ -1,4 +1,4 @@
--- The rows that are gathered are those of the register that tables hold.
+-- Shows that the collected rows are those of the register that the tables hold.
 use Rattle.std.proofs.Common.{◌≡◌, ℕ, ◌<◌, ◌≤◌, true, false, cond, ◌&&◌, List, [], ◌∷◌, length, get_or, map, filter}
 use Rattle.std.proofs.Common.{Option, Some, None, Result, Ok, Err, refl, sym, ap, ap₂, ◌∙◌, subst, arith}
 use Rattle.std.specs.List.{AllByRecursion, list_all}
@@ -22,14 +22,14 @@ use Rattle.hub_tables.proofs.Lists.{all_filter}
 use Rattle.hub_founding.specs.Founding.{IsHeldBy}
 use Rattle.hub_founding.specs.Gathered.{prefixes_in, gathered, all_had, rows_with, all_company_prefixes}
 
--- what is said of what is there
+-- what is known of a value, if there is one
 pub given : {X : Type 0} (P : X → Type 0) (o : Option X) (x : X) → o ≡ Some x → IfSome o P → P x
 given {X} P o x e h = subst (λ (o : Option X). IfSome o P) e h
 
 pub given_none : {X : Type 0} {P : Type 0} (o : Option X) → o ≡ None → IfNone o P → P
 given_none {X} {P} o e h = subst (λ (o : Option X). IfNone o P) e h
 
--- prefixes that rise stay as they stand
+-- rising prefixes stay in their order
 one_by_one : (xs done : List (List ℕ)) → put_all xs done ≡ puts bytes_cmp xs done
 one_by_one [] done = refl
 one_by_one (x ∷ xs) done = one_by_one xs _

@@ -1,4 +1,4 @@
--- A supplier's key, looked for among keys that rise.
+-- Shows what searching rising keys for a supplier's key finds.
 use Rattle.std.proofs.Common.{◌≡◌, ℕ, zero, suc, ◌≤◌, ◌<◌, false, true, List, [], ◌∷◌, length, get_or}
 use Rattle.std.proofs.Common.{inl, inr, Option, Result, Ok, Err, refl, sym, ap, ◌∙◌, subst, arith}
 use Rattle.std.specs.List.{HoldsAt}
@@ -19,7 +19,7 @@ use Rattle.hub_tables.specs.Rows.{same, key_cmp}
 use Rattle.hub_tables.specs.declared.rows.KeyRow.{KeyRow}
 use Rattle.hub_tables.proofs.Lists.{all_weaker, same_is, same_if}
 
--- equal texts
+-- texts that compare as equal are equal
 pub equal_texts : (a b : List ℕ) → bytes_cmp a b ≡ Equal → a ≡ b
 equal_texts a b e = same_is a b (sym (is_eq-slice_cmp a b) ∙ ap is_eq e)
 
@@ -67,7 +67,7 @@ module _ (supplier : List ℕ) where
         ]
       ])
 
-  -- what a search answers
+  -- what the search returns
   pub found_at : (keys : List KeyRow) (r : Result ℕ ℕ) (o : Option ℕ)
       → o ≡ result_ok r
       → IsSearchInRange r (length keys)

@@ -61,7 +61,6 @@ fn rows_with(
 /// Returns the register that tables hold, from the rows of its three kinds, each sorted by key. Returns `None` exactly
 /// if they hold none: there is not exactly one hub row, some prefix belongs to no supplier that has a key, or the rows
 /// do not form a register.
-/// are those of no register.
 pub fn register_of(
     alloc: Global,
     hubs: &[HubRow],

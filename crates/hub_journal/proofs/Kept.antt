@@ -1,4 +1,4 @@
--- Keeping the first bytes of texts one after another.
+-- Shows what keeping the first bytes of texts one after another keeps.
 use Rattle.std.proofs.Common.{◌≡◌, ℕ, zero, suc, ◌+◌, ◌-◌, ◌<◌, ◌≤◌, List, [], ◌∷◌, ◌++◌}
 use Rattle.std.proofs.Common.{length, take, drop, get_or, codes, min, refl, ap, sym, ◌∙◌, append_assoc, arith}
 use Rattle.std.proofs.lemmas.List.{append-nil, drop_more, length-append, length-take, length-take-le, take-take, take_all}
@@ -24,12 +24,12 @@ take_min (suc n) (x ∷ xs) =
     let less : min (suc (length xs)) (suc n) ≡ suc (min (length xs) n) = omega arith in
     ap (λ k. take k (x ∷ xs)) less ∙ ap (λ rest. x ∷ rest) (take_min n xs)
 
--- nothing more is kept of no bytes
+-- keeping no bytes changes nothing
 pub keep_none : (before : List ℕ) → kept before [] ≡ before
 unfolding kept
 keep_none before = ap (λ more. before ++ more) (take_of_none (room - length before)) ∙ append-nil before
 
--- what is kept of two texts is what is kept of both
+-- keeping two texts one after another keeps what keeping both together does
 pub keep_keep : (before bytes more : List ℕ) → kept (kept before bytes) more ≡ kept before (bytes ++ more)
 unfolding kept
 keep_keep before bytes more =
@@ -48,20 +48,20 @@ keep_front before bytes left is =
     let same : room - length before ≡ left = omega (arith, is) in
     ap (λ k. before ++ take k bytes) same ∙ ap (λ more. before ++ more) (sym (take_min left bytes))
 
--- all is kept where there is room
+-- everything is kept if there is room
 pub keep_all : (before bytes : List ℕ) → length before + length bytes ≤ room → kept before bytes ≡ before ++ bytes
 unfolding kept
 keep_all before bytes within =
     ap (λ more. before ++ more) (take_all (room - length before) bytes (omega (arith, within)))
 
--- what is kept of a text, and then cut
+-- a text that is kept and then cut
 pub cut_kept : (n : ℕ) (text : List ℕ) → n ≤ room → take n (kept [] text) ≡ take n text
 unfolding kept
 cut_kept n text within =
     let all : n ≤ room - length {A = ℕ} [] = omega (arith, within) in
     take-take n (room - length {A = ℕ} []) text all
 
--- the bytes that are left, one fewer of them, after what the first is shown as
+-- the first of the remaining bytes is shown, and one fewer remains
 pub shown_more : (front next bytes : List ℕ) (i d : ℕ) → i < length bytes → next ≡ kept front (shown_byte (get_or bytes i d))
     → kept next (shown (drop (i + 1) bytes)) ≡ kept front (shown (drop i bytes))
 shown_more front next bytes i d within is =
@@ -69,7 +69,7 @@ shown_more front next bytes i d within is =
     ap (λ text. kept text rest) is ∙ keep_keep front (shown_byte (get_or bytes i d)) rest
     ∙ ap (λ left. kept front (shown left)) (sym (drop_more bytes i d within))
 
--- one text more
+-- one more text
 pub then_keep : (before bytes now more next : List ℕ) → now ≡ kept before bytes → next ≡ kept now more
     → next ≡ kept before (bytes ++ more)
 then_keep before bytes now more next was is = is ∙ ap (λ text. kept text more) was ∙ keep_keep before bytes more

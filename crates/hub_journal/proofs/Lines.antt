@@ -1,4 +1,4 @@
--- The parts of a line, and that all of them fit.
+-- Shows the parts of a line, and that all of them fit.
 use Rattle.std.proofs.Common.{◌≡◌, ℕ, ◌+◌, ◌≤◌, ◌==◌, Bool, true, false, List, [], ◌++◌}
 use Rattle.std.proofs.Common.{length, take, codes, Option, Some, None, if◌then◌else◌, nat_le, nat_lt, refl, ◌∙◌, arith}
 use Rattle.std.proofs.lemmas.List.{length-append, length-take}
@@ -24,7 +24,7 @@ reply_told request sent told = rw told refl
 pub reply_untold : (request : Words) (sent : List ℕ) → is_told request ≡ false → reply_text (Some request) sent ≡ []
 reply_untold request sent untold = rw untold refl
 
--- how many bytes each part has at most
+-- the greatest length of each part
 
 century_length : (early : Bool) → length (if early then codes "19" else codes "20") ≡ 2
 century_length true = refl
@@ -79,7 +79,7 @@ pub reply_within : (request : Option Words) (sent : List ℕ) → length (reply_
 reply_within None sent = omega arith
 reply_within (Some request) sent = told_within (is_told request) sent
 
--- nine texts that were kept one after another, where there is room for all
+-- nine texts that are kept one after another, if there is room for all
 pub nine_kept : (a b c d e f g h i : List ℕ) (k1 k2 k3 k4 k5 k6 k7 k8 k9 : List ℕ)
     → k1 ≡ kept [] a → k2 ≡ kept k1 b → k3 ≡ kept k2 c → k4 ≡ kept k3 d → k5 ≡ kept k4 e → k6 ≡ kept k5 f
     → k7 ≡ kept k6 g → k8 ≡ kept k7 h → k9 ≡ kept k8 i

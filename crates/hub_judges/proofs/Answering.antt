@@ -1,4 +1,4 @@
--- Answers judged from facts are judged as from the state that the facts tell.
+-- Shows that answers are decided from facts as from the state that the facts agree with.
 use Rattle.std.proofs.Common.{◌≡◌, ℕ, Bool, true, false, cond, not, List, [], ◌∷◌, ◌++◌, map, filter, Option}
 use Rattle.std.proofs.Common.{Some, None, option_map, refl, sym, ◌∙◌, ap, ap₂}
 use Rattle.std.proofs.lemmas.List.{append_assoc}
@@ -28,14 +28,14 @@ use Rattle.hub_judges.specs.Known.{TellsAnswered, TellsLines, TellsDespatched}
 use Rattle.hub_judges.specs.declared.known.Known.{Known}
 use Rattle.hub_judges.proofs.Facts.{line_told, lines_told_after, despatched_told_after}
 
--- the rest of a judge's checks, where so much of the line is despatched
+-- the rest of a judge's checks, if this quantity of the line is despatched
 abbrev checked : AnswerLine → ℕ → LineRow → Verdict → Verdict
 checked said sent line rest =
     refuse_if (not (waits line)) NotWaiting (
     refuse_if (is_out_of_range said.answer sent line) OutOfRange (
     refuse_if (not (same line.gtin said.gtin)) OtherArticle rest))
 
--- the first answer, and then the rest as it is judged
+-- the first answer, then the decision on the rest
 module _ (order : List ℕ) (x : AnswerLine) (rest : List AnswerLine) (state : Tables) (lines : Orders)
     (told : TellsLines state lines order) (sums : TellsDespatched state lines order)
     (ih : (st : Tables) (ls : Orders)
@@ -89,7 +89,7 @@ answers_alike order (x ∷ rest) state lines told sums =
     ∙ one order x rest state lines told sums (λ st ls a b. answers_alike order rest st ls a b)
     (facts_among (lines_in lines order) x.order_line x.gtin) refl
 
--- the same answer to all lines that wait
+-- the same answer for all lines that wait
 module _ (answer : LineAnswer) (whatever : (sent : ℕ) (line : LineRow) → answered answer sent line ≡ answered answer 0 line) where
   all_changes : (lines : List LineFacts)
       → map (λ line. SetLine (answered answer 0 line)) (filter waits (rows lines))
@@ -151,7 +151,7 @@ pub row_is_set : (answer : LineAnswer) (line : LineFacts) (row : LineRow)
 row_is_set answer line row is =
     ap (λ (r : LineRow). answered_row line.row r.open_qty r.refused r.cancelled r.answer) is ∙ same_row answer line ∙ sym is
 
--- one answer judged, and the rest on what it left
+-- the decision on one answer, then on the rest with what it left
 pub answered_next :
     (order : List ℕ) (said : AnswerLine) (rest : List AnswerLine) (before : List Change) (lines after : Orders)
     (line : LineFacts) (row : LineRow)

@@ -1,4 +1,4 @@
--- A cancellation judged from what is known is judged as from a state of which that tells the truth.
+-- Shows that a cancellation is decided from known facts as from a state that they agree with.
 use Rattle.std.proofs.Common.{◌≡◌, not, nat_lt, ◌+◌, ◌-◌, [], ◌∷◌, Option, Some, None, option_map, refl, ◌∙◌, ap, ap₂}
 use Rattle.hub_tables.specs.Tables.{Tables}
 use Rattle.hub_tables.specs.declared.change.Change.TheVariants.{SetLine}
@@ -16,7 +16,7 @@ use Rattle.hub_judges.specs.Known.{TellsForCancel}
 use Rattle.hub_judges.specs.declared.known.Known.{Known}
 use Rattle.hub_judges.proofs.Facts.{line_told}
 
--- what is judged of a line
+-- the decision on a line
 abbrev of_line : Cancel → LineRow → Verdict
 of_line cancel line =
     refuse_if (nat_lt line.open_qty cancel.quantity) CancelsMoreThanOpen (Accept

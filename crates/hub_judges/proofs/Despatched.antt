@@ -1,4 +1,4 @@
--- Despatches judged from facts are judged as from the state that the facts tell.
+-- Shows that despatch advices are decided from facts as from the state that the facts agree with.
 use Rattle.std.proofs.Common.{◌≡◌, ℕ, ◌+◌, ◌-◌, nat_lt, Bool, true, false, not, ◌||◌, ◌⊎◌, inl, inr, List, [], ◌∷◌, ◌++◌, map, Option}
 use Rattle.std.proofs.Common.{Some, None, option_map, refl, sym, subst, ◌∙◌, ap, ap₂}
 use Rattle.std.specs.List.{AllByRecursion, list_any}
@@ -46,7 +46,7 @@ joined_none : (v : Verdict) → joined [] v ≡ v
 joined_none (Refuse code) = refl
 joined_none (Accept rest) = refl
 
--- what follows a list of changes and a verdict follows the verdict, on what the changes left
+-- what follows a list of changes and a verdict can also follow the verdict alone, on what the changes left
 grouped : (a : List Change) (v : Verdict) (third : Judge) (state : Tables)
     → goes_on (joined a v) third state ≡ joined a (goes_on v third (apply_all a state))
 grouped a (Refuse code) third state = refl
@@ -54,7 +54,7 @@ grouped a (Accept b) third state =
     ap (λ st. joined (a ++ b) (third st)) (applied_in_turn a b state)
     ∙ joined_grouped a b (third (apply_all b (apply_all a state)))
 
--- facts that tell the lines of the named orders, in a state with these pallets
+-- facts that agree with a state on the lines of the named orders; the state has these pallets
 pub record TellsNamed (named : List ℕ → Bool) (pallets : List PalletRow) (state : Tables) (lines : Orders) : Type 0 where
   pub pallets_are : state.pallets ≡ pallets
   pub order : (number : List ℕ) → named number ≡ true → knows_order state number ≡ has_order lines number
@@ -70,7 +70,7 @@ module _ (named : List ℕ → Bool) where
     lines_are = λ number is. lines_told_after state lines row number (t.lines_are number is);
   }
 
-  -- one line judged, and what follows
+  -- the decision on one line, then what follows
   module _ (sscc : List ℕ) (n : ℕ) (said : DespatchLine) (rest : Judge) (third : Judge) (next : Orders → Verdict)
       (state : Tables) (lines : Orders) (pallets : List PalletRow) (t : TellsNamed named pallets state lines)
       (ih : (st : Tables) (ls : Orders) → TellsNamed named pallets st ls → goes_on (rest st) third st ≡ next ls) where
@@ -143,14 +143,14 @@ module _ (named : List ℕ → Bool) where
       (λ ls. lines_from sscc (n + 1) said ls next) state lines pallets t
       (λ st ls told. lines_alike sscc pallets third next agree (n + 1) said st ls all.1 told) all.0
 
-  -- a new pallet leaves the facts
+  -- adding a pallet does not change the facts
   after_pallet : (pallets : List PalletRow) (state : Tables) (lines : Orders) (pallet : PalletRow)
       → TellsNamed named pallets state lines
       → TellsNamed named (apply (AddPallet pallet) state).pallets (apply (AddPallet pallet) state) lines
   after_pallet pallets state lines pallet t =
       record { pallets_are = refl; order = λ number is. t.order number is; lines_are = λ number is. t.lines_are number is }
 
-  -- an SSCC is used where it is told so, or a pallet or an earlier unit has it
+  -- an SSCC is used if it was given as used, or if a pallet or an earlier unit has it
   abbrev Used : (List ℕ → Bool) → (List ℕ → Bool) → List PalletRow → Type 0
   Used used came pallets =
       (sscc : List ℕ) → (used sscc || list_any (λ pallet. same pallet.sscc sscc) pallets) ≡ (used sscc || came sscc)
@@ -217,7 +217,7 @@ module _ (named : List ℕ → Bool) where
         state) flag
         ∙ checked (not (under_some unit.sscc s.prefixes)) (used unit.sscc || came unit.sscc) unit third state _ _ whole
 
--- each order of an advice's lines is named
+-- each order of an advice's lines is named by the advice
 names_all : (units : List Unit) → AllByRecursion (λ unit. AllByRecursion (λ line. names_order units line.order ≡ true) unit.lines) units
 names_all [] = tt
 names_all (unit ∷ units) = (
@@ -233,7 +233,7 @@ names_all (unit ∷ units) = (
       ∙ or-true (list_any (λ one. same one.order line.order) unit.lines)) other.lines all) units (names_all units),
 )
 
--- at first only what is told is used
+-- at first, only the given SSCCs are used
 used_first : (used : List ℕ → Bool) (state : Tables)
     → ((sscc : List ℕ) → has_pallet state sscc ≡ true → used sscc ≡ true)
     → (sscc : List ℕ)
@@ -258,7 +258,7 @@ despatch_alike s used known despatch state number there told =
     (record { pallets_are = refl; order = told.orders; lines_are = told.lines })
     ∙ ap (λ us. units_from s despatch.number no_sscc despatch.units us known.orders) told.used_told)
 
--- one line judged by the code, and the rest on what it left
+-- the code's decision on one line, then on the rest with what it left
 pub despatched_next :
     (sscc : List ℕ) (n : ℕ) (said : DespatchLine) (rest : List DespatchLine) (before : List Change)
     (lines after : Orders) (line : LineFacts) (row : LineRow) (number : List ℕ) (next : Orders → Verdict)
@@ -295,7 +295,7 @@ despatched_next sscc n said rest before lines after line row number next known f
     ++ AddContent (record { sscc = sscc; place = n + 1; number = name; line = r.line; quantity = said.quantity }) ∷ [])
     tail) (sym is) (sym named)
 
--- the next unit judged by the code, up to its lines
+-- the code's decision on the next unit, up to its lines
 pub unit_next : (s : SupplierRow) (advice : List ℕ) (came later : List ℕ → Bool)
     (ahead units : List Unit) (flags rest : List Bool) (lines : Orders) (unit : Unit) (flag taken : Bool)
     (number : List ℕ) (pallet : Change) (before pushed : List Change)

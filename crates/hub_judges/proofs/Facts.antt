@@ -1,4 +1,4 @@
--- Facts that tell the lines of a state, under look-ups and changes.
+-- Shows what look-ups and changes do to facts that agree with the lines of a state.
 use Rattle.std.proofs.Common.{◌≡◌, ℕ, Bool, true, false, cond, ◌&&◌, ◌==◌, List, [], ◌∷◌, map, filter, find, sum_by}
 use Rattle.std.proofs.Common.{Option, Some, None, option_map, refl, sym, subst, ◌∙◌, ap, ap₂}
 use Rattle.std.specs.List.{AllByRecursion}
@@ -44,7 +44,7 @@ pub line_told : (state : Tables) (lines : Orders) (order : List ℕ) (number : O
     → line_of state order number gtin ≡ option_map (λ line. line.row) (facts_among (lines_in lines order) number gtin)
 line_told state lines order number gtin told = ap (λ xs. line_among xs number gtin) told ∙ among_rows (lines_in lines order) number gtin
 
--- a line that is set
+-- setting a line
 rows_set : (row : LineRow) (lines : List LineFacts) → rows (map (set_row row) lines) ≡ replace (same_line row) row (rows lines)
 rows_set row [] = refl
 rows_set row (line ∷ lines) =
@@ -60,7 +60,7 @@ lines_told_after state lines row order told =
     ∙ ap (replace (same_line row) row) told
     ∙ sym (ap rows (lines_made (set_row row) lines order) ∙ rows_set row (lines_in lines order))
 
--- what is despatched hangs on the order number and the line number alone
+-- the despatched quantity depends only on the order number and the line number
 despatched_by_key : (state : Tables) (a b : LineRow) → a.number ≡ b.number → a.line ≡ b.line → despatched state a ≡ despatched state b
 despatched_by_key state a b numbers lines =
     ap₂ (λ number line.

@@ -1,4 +1,4 @@
--- The lines that a supplier sees of sound tables are what judges ask for.
+-- Shows that the lines which a supplier sees of sound tables meet what judges require.
 use Rattle.std.proofs.Common.{◌≡◌, ℕ, ◌+◌, Bool, true, ◌&&◌, List, [], ◌∷◌, filter, Some, None, refl, sym, ◌∙◌, ap, ap₂, arith}
 use Rattle.std.specs.List.{AllByRecursion, list_all}
 use Rattle.std.specs.declared.cmp.Ordering.{Ordering}
@@ -21,7 +21,7 @@ use Rattle.hub_rules.proofs.Rising.{view_rises}
 use Rattle.hub_judges.specs.Facts.{fact_in, facts_in}
 
 module _ (state : Tables) where
-  -- lines of one supplier by their numbers
+  -- comparing lines of one supplier by their numbers
   below : (a b : LineRow) → a.supplier ≡ b.supplier → line_cmp a b ≡ Less → facts_cmp (fact_in state a) (fact_in state b) ≡ Less
   below a b same h =
       let rest : Ordering = ordering_then (bytes_cmp a.number b.number) (nat_cmp a.line b.line) in
@@ -44,7 +44,7 @@ module _ (state : Tables) where
   facts_rise gln [] owns rises = tt
   facts_rise gln (row ∷ rows) owns rises = (all_below gln row rows owns.0 owns.1 rises.0, facts_rise gln rows owns.1 rises.1)
 
-  -- their rows pass
+  -- their rows are accepted
   step_up_after : (row : LineRow) (rows : List LineRow)
       → Rises facts_cmp (facts_in state (row ∷ rows))
       → steps_up (Some row) rows ≡ true

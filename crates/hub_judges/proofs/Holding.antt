@@ -1,4 +1,4 @@
--- Which sums rows can hold.
+-- Shows which totals rows can hold.
 use Rattle.std.proofs.Common.{◌≡◌, ℕ, ◌<◌, ◌≤◌, ◌^◌, Bool, true, nat_le, ◌⊎◌, inl, inr, List, [], ◌∷◌, map, refl, sym}
 use Rattle.std.proofs.Common.{◌∙◌, ap, arith}
 use Rattle.std.specs.List.{AllByRecursion, list_all}
@@ -18,9 +18,9 @@ use Rattle.hub_rules.specs.ReceiptRules.{total, new_receipt}
 use Rattle.hub_judges.specs.Totals.{RowsHold}
 use Rattle.hub_rules.proofs.Totalled.{sum_by_kind, sum_total, total_without}
 
--- amounts of one kind
+-- totals of one quantity
 module _ (kind : ReceiptLine → ℕ) where
-  -- an article passes what the article of each line does, or there is none of it
+  -- an article passes a test that the article of each line passes, or its total is 0
   passes_or_none : (p : List ℕ → Bool) (article : List ℕ) (lines : List ReceiptLine)
       → list_all (λ line. p line.gtin) lines ≡ true
       → (p article ≡ true) ⊎ (total kind article lines ≡ 0)
@@ -48,7 +48,7 @@ module _ (kind : ReceiptLine → ℕ) where
         | inr none ↦ omega (arith, none)
       ]
 
--- of an advice that was read, each sum
+-- rows can hold each total of an advice that was read
 rows_hold : (lines : List ReceiptLine) → has_sums lines ≡ true → RowsHold lines
 rows_hold lines sums gtin =
     let right = and_parts _ _ sums in
@@ -66,7 +66,7 @@ units_hold (unit ∷ units) sums =
     let parts = and_parts (has_sums unit.lines) (list_all (λ unit. has_sums unit.lines) units) sums in
     (rows_hold unit.lines parts.0, units_hold units parts.1)
 
--- past it, no row is what the rules say, since each number of a row has 32 bits
+-- Greater totals do not fit: no row is then what the rules say, because each number of a row has 32 bits.
 accepted_by : Change → ℕ
 accepted_by (AddReceipt row) = row.accepted
 accepted_by other = 0

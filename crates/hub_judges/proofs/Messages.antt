@@ -1,4 +1,4 @@
--- A message that is admitted and new is judged as the rest of its checks say, and is remembered first.
+-- Shows that a message which is admitted and new is decided by the rest of its checks, and is remembered first.
 use Rattle.std.proofs.Common.{◌≡◌, ℕ, List, [], ◌∷◌, Option, sym, ◌∙◌, ap}
 use Rattle.hub_parties.specs.declared.row.SupplierRow.{SupplierRow}
 use Rattle.hub_tables.specs.Change.{apply_all}
@@ -15,7 +15,7 @@ use Rattle.hub_rules.specs.declared.code.Code.TheVariants.{Buyer}
 use Rattle.hub_rules.specs.declared.incoming.IncomingMessage.{IncomingMessage}
 use Rattle.hub_rules.specs.declared.verdict.Verdict.{Verdict}
 
--- what is remembered of it
+-- the change that remembers it
 abbrev pub first_of : SupplierRow → Side → IncomingMessage → List Change
 first_of s side incoming = Remember (remembered (referred_by s side incoming) incoming.content) ∷ []
 

@@ -1,4 +1,4 @@
--- The articles of lines, each once, and those that are left.
+-- Follows the articles of lines, each once, and those that are still to come.
 use Rattle.std.proofs.Common.{◌≡◌, ℕ, ◌+◌, ◌<◌, Bool, true, cond, not, is_some, inl, inr, List, [], ◌∷◌, length, get_or}
 use Rattle.std.proofs.Common.{drop, filter, Option, Some, None, refl, sym, ◌∙◌, ap, ap₂, arith}
 use Rattle.std.specs.List.{AllByRecursion}
@@ -14,7 +14,7 @@ use Rattle.hub_judges.specs.Totals.{nothing, with_line, total_from}
 use Rattle.hub_judges.specs.declared.totals.Total.{Total}
 use Rattle.hub_judges.proofs.Summed.{from_some, over_lines, rest_from}
 
--- the articles of lines that have a total left
+-- the articles of lines whose total is still to be used
 abbrev pub left : (List ℕ → Option Total) → List ReceiptLine → List (List ℕ)
 left totals lines = filter (λ gtin. is_some (totals gtin)) (gtins lines)
 
@@ -47,7 +47,7 @@ all_come (line ∷ lines) = (
       (λ other h. comes_later line lines other.gtin h) lines (all_come lines),
 )
 
--- at first every article is left
+-- at first, every article is still to come
 pub all_left : (totals : List ℕ → Option Total) (lines : List ReceiptLine)
     → ((article : List ℕ) → totals article ≡ total_from None article lines)
     → left totals lines ≡ gtins lines
@@ -56,7 +56,7 @@ all_left totals lines are =
     (all_weaker (λ line. Comes lines line.gtin) (λ line. is_some (totals line.gtin) ≡ true)
     (λ line h. ap is_some (are line.gtin) ∙ h) lines (all_come lines)))
 
--- the receipt of an article with its total
+-- the receipt of an article is made from its total
 pub receipt_is : (sscc : List ℕ) (lines : List ReceiptLine) (gtin : List ℕ) (sum : Total)
     → total_from None gtin lines ≡ Some sum
     → ◌≡◌ {A = Change} (AddReceipt
@@ -76,7 +76,7 @@ receipt_is sscc lines gtin sum h =
     ∙ ap (λ v. made (total (λ line. line.accepted) gtin lines) v sum.destroyed) r
     ∙ ap (made (total (λ line. line.accepted) gtin lines) (total (λ line. line.returned) gtin lines)) d
 
--- an article whose total is taken
+-- an article whose total is used
 module _ (old new : List ℕ → Option Total) (taken : List ℕ)
     (becomes : (article : List ℕ) → new article ≡ cond (same taken article) None (old article)) where
   left_without : (gtins : List (List ℕ))
@@ -103,7 +103,7 @@ module _ (old new : List ℕ → Option Total) (taken : List ℕ)
             ∙ ap₂ (λ v rest. cond (is_some v) (gtin ∷ rest) rest) some ih
       ]
 
-  -- the totals that are left are those before
+  -- the remaining totals are the same as before
   pub still_told : (lines : List ReceiptLine)
       → ((article : List ℕ) (sum : Total) → old article ≡ Some sum → total_from None article lines ≡ Some sum)
       → (article : List ℕ) (sum : Total)
@@ -115,7 +115,7 @@ module _ (old new : List ℕ → Option Total) (taken : List ℕ)
         | inr e ↦ told article sum (sym (becomes article ∙ ap (λ v. cond v None (old article)) e) ∙ h)
       ]
 
--- a line, whose article is taken
+-- a line whose article is used
 module _ (lines : List ReceiptLine) (i : ℕ) (line : ReceiptLine) (inside : i < length lines)
     (at : line ≡ get_or lines i line) (old new : List ℕ → Option Total)
     (becomes : (article : List ℕ) → new article ≡ cond (same line.gtin article) None (old article)) where

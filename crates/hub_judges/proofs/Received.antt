@@ -1,4 +1,4 @@
--- Units judged from their pallets are judged as from the state that has them.
+-- Shows that units are decided from their pallets as from the state that has them.
 use Rattle.std.proofs.Common.{◌≡◌, ℕ, ◌+◌, Bool, true, false, cond, not, ◌&&◌, ◌||◌, ◌⊎◌, inl, inr, List, [], ◌∷◌, ◌++◌, length, map}
 use Rattle.std.proofs.Common.{find, Option, Some, None, option_map, refl, sym, ◌∙◌, ap, ap₂, append_assoc, arith}
 use Rattle.edi_base.proofs.Twice.{bytes_eq-sym}
@@ -25,7 +25,7 @@ use Rattle.hub_rules.specs.declared.verdict.Verdict.{Verdict}
 use Rattle.hub_rules.specs.declared.verdict.Verdict.TheVariants.{Accept, Refuse}
 use Rattle.hub_judges.specs.FromFacts.{no_sscc, and_sscc, received, receipts_from}
 
--- a row that is set is not found, and neither is the one in whose place it is
+-- if neither the new row nor the replaced one passes, replacing does not change what is found
 find_replace_out : {X : Type 0} (p at : X → Bool) (r : X) (xs : List X)
     → p r ≡ false
     → ((y : X) → at y ≡ true → p y ≡ false)
@@ -38,7 +38,7 @@ find_replace_out p at r (y ∷ ys) out all =
       | inr e ↦ elim (decide (p y)) [ inl py ↦ grind (arith, e, py, ih) | inr py ↦ grind (arith, e, py, ih) ]
     ]
 
--- one that is found is found as it is set
+-- a row that is found and replaced is found in its new form
 find_replace_in : {X : Type 0} (p at : X → Bool) (r : X) (xs : List X) (x : X)
     → p r ≡ true
     → ((y : X) → at y ≡ p y)
@@ -69,7 +69,7 @@ sums_keep false sscc lines gtins state = receipts_keep sscc lines gtins state
 abbrev set_by : Bool → PalletRow → PalletRow
 set_by replaces row = record row { received = arrival_number (arrival_by replaces) }
 
--- a unit that is received: its pallet, and what stays of those of others
+-- a unit that is received: its pallet, and the other pallets, which stay the same
 module _ (replaces : Bool) (unit : ReceiptUnit) (state : Tables) (row : PalletRow) (found : pallet_of state unit.sscc ≡ Some row) where
   abbrev set : PalletRow
   set = set_by replaces row
@@ -93,7 +93,7 @@ module _ (replaces : Bool) (unit : ReceiptUnit) (state : Tables) (row : PalletRo
       ∙ find_replace_out (λ pallet. same pallet.sscc sscc) (same_pallet set) set state.pallets
       (ap (λ v. same v sscc) which ∙ apart) (λ y at. ap (λ v. same v sscc) (same_is y.sscc row.sscc at ∙ which) ∙ apart)
 
--- a pallet after units, of which one has its SSCC or none
+-- a pallet after units of which one has its SSCC, or none
 abbrev after_units : Bool → Bool → PalletRow → PalletRow
 after_units replaces true row = set_by replaces row
 after_units replaces false row = row
@@ -103,14 +103,14 @@ set_alike : (replaces came : Bool) (first : PalletRow)
 set_alike replaces true first = refl
 set_alike replaces false first = refl
 
--- where the advice does not replace, it is received once
+-- if the advice does not replace, a pallet can be received once
 taken_alike : (replaces came : Bool) (first : PalletRow)
     → (not replaces && not (is_announced (after_units replaces came first))) ≡ (not replaces && (came || not (is_announced first)))
 taken_alike true came first = refl
 taken_alike false true first = refl
 taken_alike false false first = refl
 
--- a state after units of these SSCC, from the pallets before them
+-- the state after units with these SSCCs, compared with the pallets before them
 abbrev IsAfter : Bool → (List ℕ → Option PalletRow) → (List ℕ → Bool) → Tables → Type 0
 IsAfter replaces start came state =
     (sscc : List ℕ) → pallet_of state sscc ≡ option_map (after_units replaces (came sscc)) (start sscc)
@@ -144,7 +144,7 @@ module _ (replaces : Bool) (start : List ℕ → Option PalletRow) where
   settled true changes third state next h = refl
   settled false changes third state next h = ap (joined changes) h
 
-  -- a unit, and then the rest as it is judged
+  -- a unit, then the decision on the rest
   module _ (came : List ℕ → Bool) (unit : ReceiptUnit) (rest : List ReceiptUnit) (state : Tables)
       (is : IsAfter replaces start came state)
       (ih : (later : List ℕ → Bool) (st : Tables) → IsAfter replaces start later st → in_order (judge_received replaces) rest st
@@ -199,7 +199,7 @@ module _ (replaces : Bool) (start : List ℕ → Option PalletRow) where
   units_alike came (unit ∷ rest) state is =
       one came unit rest state is (λ later st told. units_alike later rest st told) (start unit.sscc) refl (is unit.sscc)
 
--- at first each pallet is as it is
+-- at first each pallet is as it was
 as_it_is : (replaces : Bool) (pallet : Option PalletRow) → pallet ≡ option_map (after_units replaces false) pallet
 as_it_is replaces None = refl
 as_it_is replaces (Some row) = refl
@@ -215,7 +215,7 @@ joined_joined : (first second : List Change) (rest : Verdict) → joined first (
 joined_joined first second (Refuse code) = refl
 joined_joined first second (Accept rest) = ap Accept (sym (append_assoc first second rest))
 
--- the next unit received by the code
+-- the code receives the next unit
 pub unit_received : (replaces : Bool) (came later : List ℕ → Bool) (ahead units : List ReceiptUnit)
     (pallets rest : List (Option PalletRow)) (unit : ReceiptUnit) (row : PalletRow) (before after : List Change)
     → ahead ≡ unit ∷ units
@@ -240,7 +240,7 @@ receipts_end replaces came [] pallets ended = refl
 receipts_end replaces came (unit ∷ units) [] ended = refl
 receipts_end replaces came (unit ∷ units) (pallet ∷ pallets) ended = elim ended [ inl e ↦ cc | inr e ↦ cc ]
 
--- what comes of a RECADV that is new, after a first change, where the mailbox has a number left
+-- the decision on a new RECADV after its first change, if the mailbox has a number left
 pub new_receipt_alike :
     (first : Change) (supplier : List ℕ) (incoming : IncomingMessage) (body : List ℕ) (receipt : Receipt) (state : Tables)
     (mails : ℕ) (pallets : List (Option PalletRow))

@@ -1,4 +1,4 @@
--- Totals line by line, and over all lines.
+-- Shows that adding totals line by line gives the totals over all lines.
 use Rattle.std.proofs.Common.{◌≡◌, ℕ, ◌+◌, ◌^◌, ◌<◌, true, false, cond, ◌⊎◌, inl, inr, List, [], ◌∷◌, length}
 use Rattle.std.proofs.Common.{get_or, drop, Option, Some, None, refl, sym, ◌∙◌, ap, arith}
 use Rattle.std.specs.Option.{unwrap_or}
@@ -11,7 +11,7 @@ use Rattle.hub_rules.proofs.Totalled.{total_with, total_without}
 use Rattle.hub_judges.specs.Totals.{RowHolds, nothing, with_line, total_from}
 use Rattle.hub_judges.specs.declared.totals.Total.{Total}
 
--- a total, and what lines say of an article
+-- a total, plus what the lines say of an article
 abbrev pub with_lines : Total → List ℕ → List ReceiptLine → Total
 with_lines before article lines = record {
   accepted = before.accepted + total (λ line. line.accepted) article lines;
@@ -61,7 +61,7 @@ from_some before article (line ∷ lines) =
           ∙ ap Some (lines_without article line lines before e)
     ]
 
--- the total of an article that comes in lines
+-- the total of an article that occurs in the lines
 pub over_lines : (article : List ℕ) (lines : List ReceiptLine) (sum : Total)
     → total_from None article lines ≡ Some sum
     → sum ≡ with_lines nothing article lines
@@ -81,13 +81,13 @@ over_lines article (line ∷ lines) sum h =
           ∙ lines_without article line lines nothing e
     ]
 
--- a row can hold a total and a line
+-- a row can hold the total plus one line
 pub record Fits (before : Total) (line : ReceiptLine) : Type 0 where
   pub accepted : before.accepted + line.accepted < 2 ^ 32
   pub returned : before.returned + line.returned < 2 ^ 32
   pub destroyed : before.destroyed + line.destroyed < 2 ^ 32
 
--- the line at a place, before the rest
+-- the line at a position, and the rest after it
 module _ (lines : List ReceiptLine) (i : ℕ) (line : ReceiptLine) (inside : i < length lines)
     (at : line ≡ get_or lines i line) where
   pub rest_from : drop i lines ≡ line ∷ drop (i + 1) lines
@@ -114,7 +114,7 @@ module _ (lines : List ReceiptLine) (i : ℕ) (line : ReceiptLine) (inside : i <
       let of_d = ap (λ (t : Total). t.destroyed) over in
       record { accepted = omega (arith, a, of_a); returned = omega (arith, r, of_r); destroyed = omega (arith, d, of_d) }
 
-  -- the totals with one more line
+  -- the totals after one more line
   pub totals_next : (old new : List ℕ → Option Total) (sum : Total)
       → ((article : List ℕ) → new article ≡ cond (same line.gtin article) (Some sum) (old article))
       → sum ≡ with_line (unwrap_or (old line.gtin) nothing) line

@@ -1,4 +1,4 @@
--- Acts of one supplier in the tables of all, and the same acts in its own rows alone.
+-- Compares what one supplier's acts do in the tables of all with what they do in its own rows alone.
 use Rattle.std.proofs.Common.{◌≡◌, List, map, refl, ◌∙◌}
 use Rattle.hub_parties.specs.declared.row.SupplierRow.{SupplierRow}
 use Rattle.hub_tables.specs.Register.{suppliers_of, row_in, register_of, register_by, hub_in}
@@ -6,12 +6,12 @@ use Rattle.hub_tables.specs.Tables.{Tables}
 use Rattle.hub_rules.specs.Laws.{Apart, PartiesStay}
 use Rattle.hub_rules.specs.Sound.{Sound}
 
--- the supplier is apart from the others, and the same is told of it
+-- the supplier is kept apart from the others, and both give the same result
 pub record Alike {A : Type 0} (suppliers : List SupplierRow) (s : SupplierRow) (t : Tables) (shared own : A × Tables) : Type 0 where
   pub told : shared.0 ≡ own.0
   pub apart : Apart suppliers s t shared.1 own.1
 
--- the tables stay sound, and their register is what it was
+-- the tables stay sound, with the same register
 pub record Stays (suppliers : List SupplierRow) (t after : Tables) : Type 0 where
   pub sound : Sound suppliers after
   pub parties : PartiesStay t after

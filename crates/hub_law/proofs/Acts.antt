@@ -1,4 +1,5 @@
--- Messages, cancellations and taken marks of one supplier, in the tables of all and in its own rows alone.
+-- Shows that one supplier's messages, cancellations and taken marks do the same in the tables of all and in its own
+-- rows alone.
 use Rattle.std.proofs.Common.{◌≡◌, ℕ, List, Bool, true, false, [], ◌∷◌, cond, ◌==◌, codes, Some, None, Result, Ok, Err, refl}
 use Rattle.edi_envelope.specs.declared.interchange.RawMessage.{RawMessage}
 use Rattle.gs1_ids.specs.Overlap.{PrefixFree}
@@ -123,7 +124,7 @@ module _ (suppliers : List SupplierRow) (free : PrefixFree (company_prefixes sup
       (λ changes h. keeps_from s (view s.gln t) changes
       (leads_cancel s (cancel_text c) c (view s.gln t) changes (good_view suppliers s t sound) h))
 
-  -- an entry that is taken stays so, and any other is marked
+  -- an entry that is taken stays so, and any other is marked as taken
   pub taking_act : (number : ℕ) (entry : MailRow) (t : Tables)
       → Sound suppliers t
       → entry_at (view s.gln t) number ≡ Some entry
@@ -142,7 +143,7 @@ module _ (suppliers : List SupplierRow) (free : PrefixFree (company_prefixes sup
         })
       ]
 
--- no mark changes the register
+-- a taken mark does not change the register
 pub taking_keeps : (entry : MailRow) (t : Tables) → PartiesStay t (apply_all (taking entry) t)
 taking_keeps entry t =
     elim (is_taken entry) as (λ v. PartiesStay t
@@ -165,7 +166,7 @@ refused_anyway : (test : Bool) (first second : Code) (t : Tables) → changed (r
 refused_anyway true first second t = refl
 refused_anyway false first second t = refl
 
--- what names no registered supplier changes nothing
+-- a message that names no registered supplier changes nothing
 pub nobodys_message : (look : Tables → Tables) (parties : Parties) (sent : RawMessage × IncomingMessage) (t : Tables)
     → (deliver_retailers look parties None sent t).1 ≡ t
 nobodys_message look parties sent t =

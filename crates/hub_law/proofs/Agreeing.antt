@@ -1,4 +1,4 @@
--- What one GLN sees and is told in a run, and in two runs that agree on it.
+-- Shows what one GLN sees and which replies it gets in a run, and in two runs that agree on it.
 use Rattle.std.proofs.Common.{◌≡◌, ℕ, List, [], ◌∷◌, ◌++◌, length, slice_get, take, Some, refl, sym, ◌∙◌, ap, subst}
 use Rattle.std.proofs.Math.Seq.{take-append_seam}
 use Rattle.std.proofs.lemmas.List.{append_assoc}
@@ -23,7 +23,7 @@ use Rattle.hub_requests.specs.declared.request.Input.{Input}
 use Rattle.hub_law.proofs.Going.{run_goes, retailer_stays}
 use Rattle.hub_law.proofs.Runs.{whole_run}
 
--- a status for which the retailer asks is the text of what the GLN sees
+-- the status that the retailer gets is the text of what the GLN sees
 status_seen : (gln : List ℕ) (t : Tables) (input : Input)
     → AsksStatus gln t input
     → (shared_step t input Whole).0 ≡ own_report gln (view gln t)
@@ -32,7 +32,7 @@ status_seen gln t input asked =
     ∙ ap (λ request. (retailer_request (register_of t) input.moment Whole request t).0) asked.asks
     ∙ ap (λ o. report o (view gln t)) (sym (own_row gln t))
 
--- the replies of a run are those of its inputs, in their order
+-- the replies of a run are those to its inputs, in their order
 pub reply_at : (t : Tables) (before : Inputs) (input : Input) (mark : Mark) (later : Inputs)
     → slice_get (shared_run t (before ++ (input, mark) ∷ later)).0 (length before)
     ≡ Some (shared_step (shared_run t before).1 input mark).0
@@ -83,7 +83,7 @@ view_rising : (gln : List ℕ) (suppliers : List SupplierRow) (t : Tables) → S
 view_rising gln suppliers t here parties =
     rising_from (view gln t) (parties_seen gln t parties) (view_rises gln t here.rooted.ordered (here.kept gln))
 
--- what is seen of sound tables is its rows and nothing else
+-- what is seen of sound tables depends only on the set of its rows
 pub views_under : (gln : List ℕ) (suppliers others : List SupplierRow) (t u : Tables) → Sound suppliers t → PartiesRise t
     → Sound others u → PartiesRise u → SameRows (view gln t) (view gln u) → view gln t ≡ view gln u
 views_under gln suppliers others t u here parties there others_parties rows =
@@ -94,7 +94,7 @@ views_alike : (gln : List ℕ) (t u : Tables) → SoundHub t → SoundHub u → 
 views_alike gln t u here there =
     views_under gln (suppliers_of t) (suppliers_of u) t u here.sound (sound_under t here).1 there.sound (sound_under u there).1
 
--- items come one after another as their inputs do
+-- the items of a run are those of its first inputs, then those of the later ones
 pub items_after : (gln : List ℕ) (t : Tables) (inputs later : Inputs)
     → items gln t (inputs ++ later) ≡ items gln t inputs ++ items gln (shared_run t inputs).1 later
 items_after gln t [] later = refl
@@ -103,7 +103,7 @@ items_after gln t ((input, mark) ∷ inputs) later =
     ap (λ rest. items_of_input gln t input mark ++ rest) (items_after gln after inputs later)
     ∙ sym (append_assoc (items_of_input gln t input mark) (items gln after inputs) (items gln (shared_run after inputs).1 later))
 
--- as many of the same are the same
+-- beginnings of equal length of the same list are equal
 fronts_alike : {X : Type 0} (a b c d : List X) → a ++ b ≡ c ++ d → length a ≡ length c → a ≡ c
 fronts_alike a b c d joined counts = sym (take-append_seam a b) ∙ (λ i. take (counts i) (joined i)) ∙ take-append_seam c d
 

@@ -1,4 +1,4 @@
--- Every order line balances.
+-- Shows that every order line balances.
 use Rattle.std.proofs.Common.{ℕ, Bool, true, false, cond, List, [], ◌∷◌, filter, refl, subst}
 use Rattle.std.specs.List.{AllByRecursion}
 use Rattle.hub_parties.specs.declared.row.SupplierRow.{SupplierRow}
@@ -7,7 +7,7 @@ use Rattle.hub_tables.specs.Tables.{Tables, view}
 use Rattle.hub_tables.proofs.Lists.{same_if}
 use Rattle.hub_rules.specs.Sound.{Balanced, Sound}
 
--- what holds of each supplier's rows holds of all rows
+-- what holds for each supplier's rows holds for all rows
 of_each : {X : Type 0} (owner : X → List ℕ) (P : List ℕ → X → Type 0) (rows : List X)
     → ((gln : List ℕ) → AllByRecursion (P gln) (filter (λ row. same (owner row) gln) rows))
     → AllByRecursion (λ row. P (owner row) row) rows

@@ -1,4 +1,4 @@
--- Who a caller is, by the row that its GLN has: a supplier, or else the retailer, or else nobody.
+-- Decides the role of a caller by the row of its GLN: a supplier, or else the retailer, or else no one.
 use Rattle.std.proofs.Common.{◌≡◌, ℕ, true, false, ◌&&◌, if◌then◌else◌, List, Option, Some, None, refl}
 use Rattle.std.proofs.Common.{Bool}
 use Rattle.std.proofs.lemmas.Bool.{and_parts}
@@ -19,7 +19,7 @@ use Rattle.hub_requests.specs.declared.request.Input.{Input}
 abbrev pub is_retailers : RegisterRows → Input → Bool
 is_retailers register input = same register.retailer input.caller && same register.retailer_key input.key
 
--- the step and the items, by the row
+-- the step and the items, decided by the row
 abbrev pub step_by : RegisterRows → Option SupplierRow → Input → Mark → Tables → Reply × Tables
 step_by register (Some s) input mark t = supplier_step (view s.gln) (parties_of register) s input mark t
 step_by register None input mark t =
@@ -62,13 +62,13 @@ module _ (register : RegisterRows) (input : Input) (mark : Mark) where
   pub items_are : (gln : List ℕ) → items_under gln register input mark ≡ items_by gln register (row_of register input.caller) input mark
   items_are gln = items_by_row gln (row_of register input.caller)
 
--- who asks with the retailer's GLN
+-- a caller in the retailer's role has the retailer's GLN
 pub retailer_asks : (register : RegisterRows) (input : Input) → is_retailers register input ≡ true → register.retailer ≡ input.caller
 retailer_asks register input h =
     same_is register.retailer input.caller
     (and_parts (same register.retailer input.caller) (same register.retailer_key input.key) h).0
 
--- the retailer's role: it has no row, and its key
+-- the retailer's role: the GLN has no row, and the key is the retailer's
 pub as_retailer : (register : RegisterRows) (o : Option SupplierRow) (caller key : List ℕ)
     → role_by register o caller key ≡ Some Retailer
     → (same register.retailer caller && same register.retailer_key key) ≡ true

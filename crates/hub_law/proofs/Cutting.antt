@@ -1,4 +1,4 @@
--- Uploads that are whole, and those that are stopped after some of their messages.
+-- Shows what whole uploads reply and leave, and those that are stopped after some of their messages.
 use Rattle.std.proofs.Common.{◌≡◌, ℕ, zero, suc, ◌<◌, ◌≤◌, nat_lt, Bool, true, false, if◌then◌else◌, List, [], ◌∷◌, ◌++◌, length}
 use Rattle.std.proofs.Common.{take, Option, Some, None, Ok, Err, refl, sym, ◌∙◌, ap, subst, arith}
 use Rattle.std.specs.List.{list_any}
@@ -32,13 +32,13 @@ use Rattle.hub_requests.specs.declared.request.Input.{Input}
 use Rattle.hub_requests.specs.declared.request.Request.{Request}
 use Rattle.hub_requests.specs.declared.request.Request.TheVariants as requests
 
--- what is told of the first of some acts is the first of what is told
+-- the results of the first acts are the first results
 told_first : {X : Type 0} (step : X → Act) (k : ℕ) (xs : List X) (t : Tables) → (in_row step (take k xs) t).0 ≡ take k (in_row step xs t).0
 told_first step zero xs t = refl
 told_first step (suc k) [] t = refl
 told_first step (suc k) (x ∷ xs) t = ap (λ told. (step x t).0 ∷ told) (told_first step k xs (step x t).1)
 
--- and as many lines are written
+-- and equally many lines are written
 lines_first : (k : ℕ) (messages : List RawMessage) (told : List Told)
     → message_lines messages (take k told) ≡ message_lines (take k messages) (take k told)
 lines_first zero [] told = refl
@@ -48,7 +48,7 @@ lines_first (suc k) (message ∷ messages) [] = refl
 lines_first (suc k) (message ∷ messages) (one ∷ told) =
     ap (λ rest. line (message.reference ∷ message.kind ∷ told_words one) ++ rest) (lines_first k messages told)
 
--- an upload that opens, of whatever act
+-- an upload that opens, whatever its act
 abbrev opened_well : Opened → Option Interchange
 opened_well (Ok i) = Some i
 opened_well (Err code) = None
@@ -60,7 +60,7 @@ well_opened act (Ok i) upload h =
     let same : record { interchange = i; act = act } ≡ upload = cc in
     (ap (λ (u : Upload). Some u.interchange) same, ap (λ (u : Upload). u.act) (sym same))
 
--- as many messages as there are
+-- as many messages as there are, that is, all
 pub all_messages : (moment : ℕ) (i : Interchange) → take (length i.messages) (messages_at moment i) ≡ messages_at moment i
 all_messages moment i =
     let sent : RawMessage → RawMessage × IncomingMessage = λ message. (message, incoming moment i message) in
@@ -80,7 +80,7 @@ module _ (deliver : RawMessage × IncomingMessage → Act) (moment : ℕ) (t : T
       (λ i. uploaded deliver moment Whole (Ok j) t ≡ (whole_reply i (told_of i), (in_row deliver (messages_at moment i) t).1))
       same (ap (λ sents. (whole_reply j (in_row deliver sents t).0, (in_row deliver sents t).1)) (all_messages moment j))
 
-  -- the first k messages that are told of
+  -- the reply if only the first k messages have results
   abbrev cut : ℕ → Interchange → List Told → Tables → Reply × Tables
   cut k i told after = (cut_reply i told, after)
 
@@ -98,7 +98,7 @@ module _ (deliver : RawMessage × IncomingMessage → Act) (moment : ℕ) (t : T
         (in_row deliver (take k (messages_at moment i)) t).1,
       )) (lines_first k i.messages (told_of i))
 
-  -- by whether there are more messages than those after which it was stopped
+  -- depending on whether there are more messages than those after which it was stopped
   abbrev by_stop : Bool → ℕ → Interchange → Reply × Tables
   by_stop more k i =
       let after : List Told × Tables = in_row deliver (take (if more then k else 0) (messages_at moment i)) t in
@@ -137,7 +137,7 @@ module _ (deliver : RawMessage × IncomingMessage → Act) (moment : ℕ) (t : T
   upload_none k (Err code) h = refl
   upload_none k (Ok j) h = cc
 
--- A fact of an upload that is looked at holds of whoever sends it.
+-- What holds for an upload whose messages are handled holds whoever sends it.
 module _ (register : RegisterRows) (t : Tables) (mark : Mark) (P : Interchange → Type 0)
     (after : (RawMessage × IncomingMessage → Act) → ℕ → Interchange → Reply × Tables)
     (of_upload : (deliver : RawMessage × IncomingMessage → Act) (moment : ℕ) (opened : Opened) (i : Interchange)
@@ -197,7 +197,7 @@ module _ (register : RegisterRows) (t : Tables) (mark : Mark) (P : Interchange �
   by_anybody input upload h p =
       by_role (role_of register input.caller input.key) (row_of register input.caller) input upload h p
 
--- Whatever is no such upload is stopped before anything was done.
+-- Any other input is stopped before anything was done.
 module _ (register : RegisterRows) (t : Tables) (k : ℕ) where
   suppliers_none : (s : SupplierRow) (moment : ℕ) (request : Request)
       → upload_from (from_supplier (parties_of register) s) (deliver_suppliers (view s.gln) (parties_of register) s) request

@@ -1,4 +1,4 @@
--- The hub's machine at the messages of two suppliers: what is replied to each input, byte by byte.
+-- Shows the hub's machine by examples of two suppliers' messages, with the reply to each input byte by byte.
 use Rattle.std.proofs.Common.{◌≡◌, ℕ, true, false, List, [], ◌∷◌, ◌++◌, codes, replicate, refl}
 use Rattle.std.specs.Fmt.{digits}
 use Rattle.std.specs.List.{flat_map}
@@ -121,7 +121,8 @@ two_orders =
     ++ codes "BGM+220+128576+9'DTM+137:20250603:102'NAD+BY+5412345000013::9'NAD+SU+4012345500004::9'"
     ++ codes "LIN+1++4000862141404:SRV'QTY+21:48'UNS+S'CNT+2:1'UNT+10+2'UNZ+2+1001'"
 
--- an order, the same in other characters, with another quantity, and a second one; then faults of envelopes and texts
+-- an order, the same with other separators, with another quantity, and a second order; then faults of envelopes and
+-- texts
 orders_come : replies (
     by_retailer (requests.Upload (first_order))
     ∷ by_retailer (requests.Upload (respelled))
@@ -164,7 +165,8 @@ unfolding interchange_in interchange_of fault_of contents_of is_framed is_row_of
     response_of despatch_of receipt_of entry_text list_text status_text digits
 orders_come = refl
 
--- the status of the despatches and the receipt below, by what is open, refused, cancelled and despatched of the first line
+-- the status after the despatches and the receipt below, given the open, refused, cancelled and despatched quantities
+-- of the first line
 abbrev status_where : List ℕ → List ℕ
 status_where first = lines (
     (codes "L 128576                                   1 04000862141404 C        48" ++ first)
@@ -180,7 +182,7 @@ status_where first = lines (
     ∷ []
     )
 
--- answers, despatches and a receipt over these two orders; the status after them; and cancellations
+-- answers, despatches and a receipt for these two orders; the status after them; and cancellations
 goods_come : replies (
     by_retailer (requests.Upload (first_order))
     ∷ by_retailer (requests.Upload (second_order))
@@ -255,7 +257,7 @@ unfolding interchange_in interchange_of fault_of contents_of is_framed is_row_of
     response_of despatch_of receipt_of entry_text list_text status_text digits
 goods_come = refl
 
--- a receipt of the first pallet, by an advice with a function; and one that says nothing of its second article
+-- a receipt of the first pallet, by an advice with this function; and one that does not mention the second article
 abbrev receipt_by : List ℕ → List ℕ → List ℕ → List ℕ
 receipt_by control number function =
     codes "UNB+UNOC:3+5412345000013:14+5412345000006:14+250605:0900+" ++ control
@@ -273,7 +275,8 @@ status_corrected = lines (
     ∷ []
     )
 
--- an advice that replaces: of what was received before nothing stays; it may come again, and one that does not replace may not
+-- An advice that replaces: nothing received before remains. It may be sent again, and one that does not replace may
+-- not.
 receipt_is_replaced : replies (
     by_retailer (requests.Upload (first_order))
     ∷ by alpha (requests.Upload (answer))
@@ -309,7 +312,7 @@ unfolding interchange_in interchange_of fault_of contents_of is_framed is_row_of
     response_of despatch_of receipt_of entry_text list_text status_text digits
 receipt_is_replaced = refl
 
--- each kind of message once more
+-- each kind of message sent again
 what_was_accepted_is_repeated : replies (
     by_retailer (requests.Upload (first_order))
     ∷ by alpha (requests.Upload (answer))
@@ -331,7 +334,7 @@ unfolding interchange_in interchange_of fault_of contents_of is_framed is_row_of
     response_of despatch_of receipt_of entry_text list_text status_text digits
 what_was_accepted_is_repeated = refl
 
--- two suppliers' orders with one number, references and all; each mailbox begins at 1
+-- two suppliers' orders with the same number and the same references; each mailbox begins at 1
 suppliers_have_their_own_orders : replies (
     by_retailer (requests.Upload
     (codes "UNA:+.? 'UNB+UNOC:3+5412345000013:14+5412345000006:14+250603:0915+1001'UNH+1+ORDERS:D:01B:UN:EAN010'"
@@ -348,7 +351,7 @@ unfolding interchange_in interchange_of fault_of contents_of is_framed is_row_of
     response_of despatch_of receipt_of entry_text list_text status_text digits
 suppliers_have_their_own_orders = refl
 
--- a wrong message beside a valid one; and a wrong envelope, which refuses both
+-- an invalid message beside a valid one; and an invalid envelope, which refuses both
 each_message_is_by_itself : replies (
     by_retailer (requests.Upload
     (codes "UNA:+.? 'UNB+UNOC:3+5412345000013:14+5412345000006:14+250603:0915+1001'UNH+1+ORDERS:D:01B:UN:EAN010'"
@@ -365,7 +368,7 @@ unfolding interchange_in interchange_of fault_of contents_of is_framed is_row_of
     response_of despatch_of receipt_of entry_text list_text status_text digits
 each_message_is_by_itself = refl
 
--- before anything, after its first message, after as many as it has, and not
+-- stopped before anything, after its first message, after as many as it has, and not at all
 an_upload_is_stopped : replies (
     ((record { moment = 1_748_942_400; caller = retailer; key = codes "retail-key"; request = requests.Upload two_orders }), StoppedEmpty)
     ∷ ((record { moment = 1_748_942_400; caller = retailer; key = codes "retail-key"; request = requests.Upload two_orders }), StoppedBare)
@@ -412,7 +415,7 @@ unfolding interchange_in interchange_of fault_of contents_of is_framed is_row_of
     response_of despatch_of receipt_of entry_text list_text status_text digits
 an_upload_is_stopped = refl
 
--- the greatest, one more, one with a decimal mark and zeros, and one with a fraction
+-- the greatest quantity, one more, one with a decimal mark and zeros, and one with a fraction
 quantities_are_read : replies (
     by_retailer (requests.Upload
     (codes "UNA:+.? 'UNB+UNOC:3+5412345000013:14+5412345000006:14+250603:0915+2001'UNH+1+ORDERS:D:01B:UN:EAN010'"
@@ -446,8 +449,8 @@ unfolding interchange_in interchange_of fault_of contents_of is_framed is_row_of
     response_of despatch_of receipt_of entry_text list_text status_text digits
 quantities_are_read = refl
 
--- a wrong key, nobody, and requests of the other side; a mailbox entry and a supplier that are not there; a sender that is
--- not the caller and a recipient that is not the hub
+-- a wrong key, an unknown caller, and requests of the other side; a mailbox entry and a supplier that do not exist; a
+-- sender that is not the caller, and a recipient that is not the hub
 who_may_ask_what : replies (
     ((record { moment = 1_748_942_400; caller = alpha.gln; key = codes "beta-key-1"; request = requests.Status }), Whole)
     ∷ ((record { moment = 1_748_942_400; caller = retailer; key = codes "alpha-key-1"; request = requests.StatusOf alpha.gln }), Whole)
@@ -513,7 +516,7 @@ unfolding interchange_in interchange_of fault_of contents_of is_framed is_row_of
     response_of despatch_of receipt_of entry_text list_text status_text digits day_at
 the_mailbox_has_the_orders = refl
 
--- a mailbox of so many entries that are not taken, as its list: the first 100 of them
+-- a mailbox of this many entries that are not taken, and its list: the first 100 of them
 abbrev mailbox_entry : MailRow
 mailbox_entry = record {
   supplier = alpha.gln;

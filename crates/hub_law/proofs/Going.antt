@@ -1,4 +1,5 @@
--- What each step leaves: a sound start, of the same hub and retailer, in which who was registered still is.
+-- Shows that each step leaves a sound start with the same hub and retailer, in which each registered supplier still is
+-- registered.
 use Rattle.std.proofs.Common.{◌≡◌, true, false, ◌&&◌, ◌||◌, if◌then◌else◌, cond, List, [], ◌∷◌, ℕ, map, Option, Some, None, refl, sym}
 use Rattle.std.proofs.Common.{◌∙◌, ap, subst}
 use Rattle.std.specs.List.{AllByRecursion, list_any}
@@ -142,7 +143,7 @@ run_goes ((input, mark) ∷ inputs) t here =
 pub parties_stay : (t after : Tables) → Goes t after → parties_in after ≡ parties_in t
 parties_stay t after goes = λ i. record { hub = (hub_in (goes.hubs i)).hub; retailer = (hub_in (goes.hubs i)).retailer }
 
--- the retailer is no supplier
+-- the retailer is not a supplier
 pub retailer_has_no_row : (register : RegisterRows) → IsRegister register → supplier_row register.suppliers register.retailer ≡ None
 retailer_has_no_row register right =
     let texts = map (λ (s : SupplierRow). s.gln) register.suppliers in
@@ -160,7 +161,7 @@ retailer_has_no_row register right =
         ap (λ v. cond v (Some s) (supplier_row suppliers register.retailer)) (bytes_eq-sym s.gln register.retailer ∙ parts.0)
         ∙ none suppliers parts.1
 
--- who asks as the retailer does so in all sound tables of this hub
+-- a caller that is the retailer is so in all sound tables of this hub
 pub retailer_stays : (t after : Tables) (caller key : List ℕ)
     → SoundHub after
     → after.hubs ≡ t.hubs

@@ -1,4 +1,4 @@
--- What the examples of the machine ask, and how they are told.
+-- Defines the requests and the texts that the examples of the machine use.
 use Rattle.std.proofs.Common.{ℕ, true, List, [], ◌∷◌, ◌++◌, codes}
 use Rattle.std.specs.List.{flat_map}
 use Rattle.hub_parties.specs.Rows.{RegisterRows}
@@ -23,7 +23,7 @@ register_with suppliers = record {
   suppliers = suppliers;
 }
 
--- each at 2025-06-03 09:20:00
+-- each request at 2025-06-03 09:20:00
 abbrev pub asked : Mark → List ℕ → List ℕ → Request → Input × Mark
 asked mark caller key request = (record { moment = 1_748_942_400; caller = caller; key = key; request = request }, mark)
 

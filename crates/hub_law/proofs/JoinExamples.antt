@@ -1,4 +1,4 @@
--- The hub's machine at joins: what is replied to each input, byte by byte.
+-- Shows the hub's machine by examples of joins, with the reply to each input byte by byte.
 use Rattle.std.proofs.Common.{◌≡◌, ℕ, List, [], ◌∷◌, ◌++◌, Some, codes, refl}
 use Rattle.std.specs.Fmt.{digits}
 use Rattle.edi_envelope.specs.Interchange.{interchange_of, fault_of, contents_of, is_framed, is_row_of_messages, is_outside_set}
@@ -28,7 +28,7 @@ gamma = record {
   key = codes "gamma-key-1";
 }
 
--- another that would join, with prefixes
+-- another supplier that wants to join, with these prefixes
 abbrev delta : List (List ℕ) → SupplierRow
 delta prefixes = record { gln = codes "4012345500004"; prefixes = prefixes; key = codes "delta-key-1" }
 
@@ -50,15 +50,15 @@ order =
     ++ codes "BGM+220+128576+9'DTM+137:20250603:102'NAD+BY+5412345000013::9'NAD+SU+4006381000000::9'"
     ++ codes "LIN+1++4000862141404:SRV'QTY+21:48'UNS+S'CNT+2:1'UNT+10+1'UNZ+1+1001'"
 
--- under its second prefix
+-- an advice under its second prefix
 abbrev advice : List ℕ
 advice =
     codes "UNB+UNOC:3+4006381000000:14+5412345000006:14+250604:0800+S2'UNH+1+DESADV:D:01B:UN:EAN007'"
     ++ codes "BGM+351+DA1+9'DTM+137:20250604:102'RFF+ON:128576'NAD+BY+5412345000013::9'NAD+SU+4006381000000::9'"
     ++ codes "CPS+1'PAC+1'PCI+33E'GIN+BJ+395011010000000019'LIN+1++4000862141404:SRV'QTY+12:12'UNT+13+1'UNZ+1+S2'"
 
--- Before it joins a supplier is denied and unknown, and what names it is refused and not remembered: the same upload is
--- accepted after. It announces under its second prefix. It does not join twice.
+-- Before it joins, a supplier is denied and unknown, and what names it is refused and not remembered: the same upload
+-- is accepted afterwards. It announces a pallet under its second prefix. It cannot join twice.
 a_supplier_joins : replies (
     by gamma requests.Status
     ∷ by_retailer (requests.StatusOf gamma.gln)
@@ -87,8 +87,8 @@ unfolding interchange_in interchange_of fault_of contents_of is_framed is_row_of
     response_of despatch_of receipt_of status_text digits
 a_supplier_joins = refl
 
--- one of its prefixes begins another supplier's, or is begun by it; its own may begin one another; nobody but the retailer
--- lets a supplier in, and it asks with its own key
+-- One of its prefixes begins another supplier's, or begins with one; its own prefixes may begin one another. Only the
+-- retailer, with its own key, can register a supplier.
 who_may_join : replies (
     by_retailer (requests.Join (delta (codes "4012" ∷ codes "8712" ∷ [])))
     ∷ by_retailer (requests.Join (delta (codes "871234567" ∷ [])))
@@ -113,7 +113,7 @@ who_may_join : replies (
 unfolding status_text digits
 who_may_join = refl
 
--- a join that is stopped lets nobody in, and the same join is accepted after
+-- a join that is stopped registers no one, and the same join is accepted afterwards
 stopped_joins : replies (
     asked StoppedBare retailer (codes "retail-key") (requests.Join gamma)
     ∷ asked StoppedEmpty retailer (codes "retail-key") (requests.Join gamma)
@@ -132,7 +132,7 @@ stopped_joins : replies (
 unfolding status_text digits
 stopped_joins = refl
 
--- a join is an item of who joins, where it is accepted and not stopped, and of nobody else
+-- a join that is accepted and not stopped is an item of the supplier that joins, and of no one else
 abbrev joins_asked : Inputs
 joins_asked =
     asked StoppedBare retailer (codes "retail-key") (requests.Join gamma)
@@ -147,7 +147,7 @@ one_item = refl
 nobody_elses_item : items beta.gln (founded register) joins_asked ≡ []
 nobody_elses_item = refl
 
--- it has the row that was asked for, and sees no other's
+-- it has the row that was asked for, and sees no other supplier's
 its_row : row_at gamma.gln (after joins_asked) ≡ Some gamma
 its_row = refl
 

@@ -1,4 +1,4 @@
--- Joins of others.
+-- Shows that joins of others do not affect what a GLN sees.
 use Rattle.std.proofs.Common.{◌≡◌, ◌≢◌, ◌⊎◌, ℕ, nat_lt, Bool, true, false, ◌&&◌, ◌||◌, if◌then◌else◌, inl, inr, List, [], ◌∷◌, ◌++◌}
 use Rattle.std.proofs.Common.{map, take, Option, Some, None, refl, sym, ◌∙◌, ap}
 use Rattle.std.specs.List.{list_any}
@@ -31,7 +31,7 @@ use Rattle.hub_law.proofs.Going.{step_goes, run_goes, retailer_stays}
 use Rattle.hub_law.proofs.Retailers.{none_of_one}
 use Rattle.hub_law.proofs.Runs.{whole_run}
 
--- A join that is no item.
+-- A join that is not an item of the GLN.
 module _ (gln : List ℕ) (t : Tables) (input : Input) (mark : Mark) (row : SupplierRow) (asks : input.request ≡ requests.Join row)
     (caller : input.caller ≢ gln) where
   not_its_own : own_items gln input mark ≡ []
@@ -72,7 +72,7 @@ module _ (gln : List ℕ) (t : Tables) (input : Input) (mark : Mark) (row : Supp
       neither true = refl
       neither false = refl
 
--- who is registered does not join
+-- a registered supplier cannot join
 known_never_joins : (register : RegisterRows) (gln : List ℕ) (s row : SupplierRow)
     → supplier_row register.suppliers gln ≡ Some s
     → row.gln ≡ gln
@@ -94,12 +94,12 @@ known_never_joins register gln s row known is =
         ∙ or_right (same gln register.hub) _ (or_right (same gln register.retailer) _
         (turned register.suppliers ∙ any_if_found (λ (s : SupplierRow). same s.gln gln) register.suppliers s known))
 
--- The GLN has its row in both, or nobody lets it in.
+-- The GLN has its row in both, or no one registers it.
 abbrev Settled : List ℕ → Tables → Tables → Inputs → Type 0
 Settled gln t u inputs =
     (((s : SupplierRow) × (row_at gln t ≡ Some s)) × ((s : SupplierRow) × (row_at gln u ≡ Some s))) ⊎ NobodyLetsIn gln inputs
 
--- of one hub, items are found alike
+-- in tables of the same hub, the items are the same
 module _ (gln : List ℕ) (t u : Tables) (here : SoundHub t) (there : SoundHub u) (hubs : u.hubs ≡ t.hubs) where
   joins_alike : (row : SupplierRow)
       → (((s : SupplierRow) × (row_at gln t ≡ Some s)) × ((s : SupplierRow) × (row_at gln u ≡ Some s))) ⊎ (row.gln ≢ gln)
@@ -176,7 +176,7 @@ same_items gln ((input, mark) ∷ inputs) t u here there hubs settled =
       | inr nobody ↦ inr nobody.1
     ]) i
 
--- A run with a join of another, and without it.
+-- A run with a join of another supplier, and without it.
 module _ (gln : List ℕ) (t : Tables) (before later : Inputs) (input : Input) (mark : Mark) (row : SupplierRow)
     (here : SoundHub t) (other : IsOther gln t) (apart : StandsApart gln (shared_run t before).1 input row later) where
   abbrev with_it : Inputs

@@ -1,4 +1,5 @@
--- Changes that keep a supplier's rows, and verdicts that give such changes, in the tables of all and in its own rows alone.
+-- Shows that verdicts whose changes keep a supplier's rows sound do the same in the tables of all and in its own rows
+-- alone.
 use Rattle.std.proofs.Common.{◌≡◌, Bool, true, false, cond, List, Some, Result, Ok, Err, refl, sym, subst}
 use Rattle.gs1_ids.specs.Overlap.{PrefixFree}
 use Rattle.edi_messages.specs.Fault as message_faults
@@ -23,7 +24,7 @@ module _ (suppliers : List SupplierRow) (s : SupplierRow) (t : Tables) (sound : 
   pub nothing_done : (told : Told) → Alike suppliers s t (told, t) (told, view s.gln t)
   nothing_done told = record { told = refl; apart = unchanged }
 
-  -- one of two acts, by the same test
+  -- one of two acts, chosen by the same test
   pub either : (test : Bool) (one other own_one own_other : Told × Tables)
       → Alike suppliers s t one own_one
       → Alike suppliers s t other own_other
@@ -33,7 +34,7 @@ module _ (suppliers : List SupplierRow) (s : SupplierRow) (t : Tables) (sound : 
 
 module _ (suppliers : List SupplierRow) (free : PrefixFree (company_prefixes suppliers)) (s : SupplierRow)
     (known : supplier_row suppliers s.gln ≡ Some s) (t : Tables) (sound : Sound suppliers t) where
-  -- one verdict, in the tables and in the supplier's rows
+  -- one verdict, for the tables and for the supplier's rows
   pub same_verdict : (shared own : Verdict)
       → shared ≡ own
       → ((changes : List Change) → own ≡ Accept changes → Keeps s (view s.gln t) changes)
@@ -45,7 +46,7 @@ module _ (suppliers : List SupplierRow) (free : PrefixFree (company_prefixes sup
       subst (λ v. Alike suppliers s t (act (Accept changes) t) (act v (view s.gln t))) e
       (record { told = refl; apart = after_changes suppliers free s known t sound changes (keeps changes (sym e)) })
 
-  -- what is read, and one verdict on it
+  -- what is read, then one verdict on it
   pub same_reading : {X : Type 0} (read : Result X MessageFault) (shared own : X → Verdict)
       → ((x : X) → shared x ≡ own x)
       → ((x : X) → read ≡ Ok x → (changes : List Change) → own x ≡ Accept changes → Keeps s (view s.gln t) changes)

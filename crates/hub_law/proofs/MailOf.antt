@@ -1,4 +1,4 @@
--- The entry of a message.
+-- Shows that a mailbox entry has the text of its message.
 use Rattle.std.proofs.Common.{◌≡◌, ℕ, List, ap, sym}
 use Rattle.edi_envelope.specs.declared.interchange.RawMessage.{RawMessage}
 use Rattle.edi_envelope.specs.Mail as messages

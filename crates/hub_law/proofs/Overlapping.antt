@@ -1,4 +1,4 @@
--- Where one prefix begins another, suppliers are not apart.
+-- Shows by example that suppliers are not kept apart if one prefix begins another.
 use Rattle.std.proofs.Common.{◌≡◌, true, false, [], ◌∷◌, codes, refl, arith}
 use Rattle.std.specs.Fmt.{digits}
 use Rattle.edi_envelope.specs.Interchange.{interchange_of, fault_of, contents_of, is_framed, is_row_of_messages, is_outside_set}

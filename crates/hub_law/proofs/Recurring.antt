@@ -1,4 +1,4 @@
--- What was accepted in a run and comes again later in it.
+-- Shows what happens when something that was accepted in a run is sent again later in it.
 use Rattle.std.proofs.Common.{◌≡◌, ℕ, zero, suc, ◌+◌, ◌<◌, ◌≤◌, min, nat_lt, Bool, true, false, ◌&&◌, if◌then◌else◌, List}
 use Rattle.std.proofs.Common.{[], ◌∷◌, ◌++◌, length, map, slice_get, take, Option, Some, None, refl, sym, ◌∙◌, ap, subst}
 use Rattle.std.proofs.Common.{arith, get_or, option_map}
@@ -44,7 +44,7 @@ use Rattle.hub_law.proofs.Going.{Goes, run_goes, parties_stay, retailer_has_no_r
 use Rattle.hub_law.proofs.Retailers.{message_stays}
 use Rattle.hub_law.proofs.Staying.{all_retailers_stay, all_suppliers_stay, run_stays}
 
--- Acts in a row, and what is told of one at a place.
+-- Acts one after another, and the result of the one at a position.
 module _ {X : Type 0} (step : X → Act) where
   told_there : (xs : List X) (place : ℕ) (x : X) (t : Tables)
       → slice_get xs place ≡ Some x
@@ -93,7 +93,7 @@ module _ {X : Type 0} (step : X → Act) where
   row_sound P f [] t p = p
   row_sound P f (x ∷ xs) t p = row_sound P f xs (step x t).1 (f x t p)
 
--- what stands at a place stands there after a map
+-- mapping keeps positions
 at_place : {X Y : Type 0} (f : X → Y) (xs : List X) (place : ℕ) (x : X)
     → slice_get xs place ≡ Some x
     → slice_get (map f xs) place ≡ Some (f x)
@@ -104,7 +104,7 @@ pub run_of_both : (t : Tables) (before later : Inputs)
 run_of_both t [] later = refl
 run_of_both t ((input, mark) ∷ before) later = run_of_both (shared_step t input mark).1 before later
 
--- the act of whoever has a row, or none
+-- the act for a row, or for none
 abbrev act_at : RegisterRows → Option SupplierRow → RawMessage × IncomingMessage → Act
 act_at register (Some s) = deliver_suppliers (view s.gln) (parties_of register) s
 act_at register None = deliver_named register
@@ -164,7 +164,7 @@ module _ (register : RegisterRows) where
         (ap (supplier_row register.suppliers) (gln_found register.suppliers gln s known) ∙ known) sent t sound).apart.sound
     act_sound gln None known sent t sound = (message_stays register free sent t sound).sound
 
-  -- who has no row and whose upload is looked at is the retailer
+  -- if the caller has no row and its upload is handled, it is the retailer
   sent_by_retailer : (input : Input) (upload : Upload)
       → upload_of register input ≡ Some upload
       → row_of register input.caller ≡ None
@@ -183,10 +183,10 @@ module _ (register : RegisterRows) where
           ap (λ v. upload_by register (if v then Some Retailer else None) None input.request) (sym e) ∙ asked in
           cc
 
--- Two registers of one hub, in the later of which stands who stood in the first.
+-- Two registers of one hub; the later one has every supplier of the first.
 module _ (one later : RegisterRows) (parties : parties_of later ≡ parties_of one)
     (stays : (gln : List ℕ) (s : SupplierRow) → row_of one gln ≡ Some s → row_of later gln ≡ Some s) where
-  -- what names a supplier of the first is judged by the later as by the first
+  -- a message that names a supplier of the first register gets the same decision under the later one
   named_alike : (message : RawMessage) (incoming : IncomingMessage) (u : Tables) (w : SupplierRow)
       → row_of one (named message) ≡ Some w
       → deliver_named later (message, incoming) u ≡ deliver_named one (message, incoming) u
@@ -225,14 +225,14 @@ module _ (one later : RegisterRows) (parties : parties_of later ≡ parties_of o
           sound
       by_row None told still = by_name (row_of one (named message)) refl told still
 
--- the tables after an upload that reached a place still remember what was there after the message
+-- after an upload that reached a position, the tables still remember what they did after the message there
 module _ (register : RegisterRows) (t : Tables) (input : Input) (upload : Upload)
     (looked_at : upload_of register input ≡ Some upload) (place : ℕ)
     (stays : (sents : List (RawMessage × IncomingMessage)) (t : Tables) → StaysRemembered t (in_row (upload.act) sents t).1) where
   abbrev sents : List (RawMessage × IncomingMessage)
   sents = messages_at input.moment upload.interchange
 
-  -- what is reached of an upload that is stopped stands before the stop, which is before its end
+  -- the position that is reached comes before the stop, which comes before the end of the upload
   reached_behind : (k : ℕ) (more : Bool)
       → nat_lt k (length upload.interchange.messages) ≡ more
       → place < length (take (if more then k else 0) sents)
@@ -265,7 +265,7 @@ module _ (register : RegisterRows) (t : Tables) (input : Input) (upload : Upload
       (sym (behind_some register t input k upload looked_at behind.1))
       (more_stay (upload.act) stays sents (place + 1) k t (omega (arith, behind.0)))
 
--- A message at a place of a run.
+-- A message at a position of a run.
 module _ (t : Tables) (before between : Inputs) (first : Input) (mark : Mark) (place : ℕ) (message : RawMessage)
     (one : MessageAt (shared_run t before).1 first place message) (reaches : Reaches mark first one.upload place) where
   abbrev whole_run : Inputs
@@ -294,7 +294,7 @@ module _ (t : Tables) (before between : Inputs) (first : Input) (mark : Mark) (p
       subst (λ act. (sents : List (RawMessage × IncomingMessage)) (u : Tables) → StaysRemembered u (in_row act sents u).1)
       (sym is) (acts_stay register whose)
 
-  -- the message as it comes
+  -- the message as it is sent
   abbrev sent : RawMessage × IncomingMessage
   sent = (message, incoming first.moment one.upload.interchange message)
 
@@ -317,7 +317,7 @@ module _ (t : Tables) (before between : Inputs) (first : Input) (mark : Mark) (p
       let ran = run_stays (shared_step at_first first mark).1 between row stepped in
       subst (λ (u : Tables). Has u.remembered row) (sym (run_of_both t before ((first, mark) ∷ between))) ran
 
-  -- where it was accepted
+  -- if it was accepted
   module _ (told : told_at at_first first one.upload place ≡ Some Accepted) where
     accepted : (one.upload.act sent here).0 ≡ Accepted
     accepted =
@@ -339,7 +339,7 @@ module _ (t : Tables) (before between : Inputs) (first : Input) (mark : Mark) (p
         by_row (Some s) = suppliers_remembered (parties_in at_first) s message sent.1 here
         by_row None = named_remembered (register_of at_first) message sent.1 here
 
-    -- and it comes again
+    -- and if it is sent again
     module _ (second : Input) (later : ℕ) (other : MessageAt at_second second later message) (start : SoundHub at_first)
         (alike : SameReference first second one.upload other.upload) where
       abbrev there : Tables
@@ -349,7 +349,7 @@ module _ (t : Tables) (before between : Inputs) (first : Input) (mark : Mark) (p
       goes = subst (Goes at_first) (sym (run_of_both t before ((first, mark) ∷ between)))
           (run_goes ((first, mark) ∷ between) at_first start)
 
-      -- the row of the caller is what it was
+      -- the caller's row is the same as before
       row_later : row_at first.caller at_second ≡ whose
       row_later = by_row whose refl
         where
@@ -408,7 +408,7 @@ module _ (t : Tables) (before between : Inputs) (first : Input) (mark : Mark) (p
           next_there (other.upload.act) (messages_at second.moment other.upload.interchange) later again at_second second_there
           ∙ ap (λ (after : Told × Tables). after.1) repeated
 
--- The cancellation that comes again.
+-- The cancellation that is sent again.
 module _ (c : Cancel) where
   step_cancels : (u : Tables) (input : Input)
       → AsksCancel u c input
@@ -417,7 +417,7 @@ module _ (c : Cancel) where
       ap (λ role. step_as (register_of u) role (row_at input.caller u) input Whole u) asked.retailers
       ∙ ap (λ request. retailer_request (register_of u) input.moment Whole request u) asked.asks
 
-  -- where a cancellation was accepted, what it left is still remembered after the run
+  -- if a cancellation was accepted, what it left is still remembered after the run
   module _ (t : Tables) (before between : Inputs) (first : Input) (asked : AsksCancel (shared_run t before).1 c first) where
     abbrev when_first : Tables
     when_first = (shared_run t before).1
@@ -432,7 +432,7 @@ module _ (c : Cancel) where
         subst (λ (u : Tables). Has u.remembered row) (sym (run_of_both t before ((first, Whole) ∷ between)))
         (run_stays (shared_step when_first first Whole).1 between row stepped)
 
-    -- the reply tells that it was accepted
+    -- the reply says that it was accepted
     told_by_reply : (told : Told) → act_reply told ≡ act_reply Accepted → told ≡ Accepted
     told_by_reply Accepted h = refl
     told_by_reply Repeated h = let first : 114 ≡ 97 = ap (λ (r : Reply). get_or r.body 0 0) h in absurd (omega (arith, first))

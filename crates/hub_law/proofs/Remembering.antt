@@ -1,4 +1,4 @@
--- What is accepted is remembered, by its row.
+-- Shows that what is accepted is remembered in its row.
 use Rattle.std.proofs.Common.{◌≡◌, ℕ, Bool, true, false, cond, not, List, [], ◌∷◌, codes, Option, Some, None, Result, Ok}
 use Rattle.std.proofs.Common.{Err, refl, subst}
 use Rattle.edi_envelope.specs.declared.interchange.RawMessage.{RawMessage}
@@ -40,14 +40,14 @@ use Rattle.hub_law.specs.Remembered.{row_of_message, row_of_cancel}
 use Rattle.hub_law.specs.Requests.{deliver_named}
 use Rattle.hub_law.specs.Told.{Told, Accepted, Refused, act, read_act}
 
--- where a verdict accepts what is new, the row is there after it
+-- if a verdict accepts something new, the row exists afterwards
 abbrev Puts : Tables → RememberedRow → Verdict → Type 0
 Puts t row verdict =
     (change : Change) (changes : List Change)
     → verdict ≡ Accept (change ∷ changes)
     → Has (apply_all (change ∷ changes) t).remembered row
 
--- the same of what an act told and left
+-- the same, for the result of an act and what it left
 abbrev Leaves : RememberedRow → Told × Tables → Type 0
 Leaves row after = after.0 ≡ Accepted → Has after.1.remembered row
 
@@ -73,7 +73,7 @@ module _ (t : Tables) (row : RememberedRow) where
   refused_never : (code : List ℕ) → Leaves row (Refused code, t)
   refused_never code told = cc
 
--- judged for a supplier of this GLN
+-- decided for a supplier with this GLN
 module _ (t : Tables) (gln : List ℕ) (supplier : Option SupplierRow)
     (whose : (s : SupplierRow) → supplier ≡ Some s → s.gln ≡ gln) where
   registered_puts : (found : Option SupplierRow)

@@ -1,4 +1,4 @@
--- What was accepted and comes again is repeated.
+-- Shows that what was accepted gets the reply `repeated` when it is sent again.
 use Rattle.std.proofs.Common.{◌≡◌, ℕ, Bool, true, false, cond, not, List, [], ◌∷◌, codes, Option, Some, None, Result, Ok}
 use Rattle.std.proofs.Common.{Err, refl, ◌∙◌, ap}
 use Rattle.edi_envelope.specs.declared.interchange.RawMessage.{RawMessage}
@@ -41,7 +41,7 @@ use Rattle.hub_law.specs.Requests.{deliver_named}
 use Rattle.hub_law.specs.Told.{Told, Accepted, Repeated, Refused, Act, act, read_act}
 
 module _ (suppliers : List SupplierRow) where
-  -- where a verdict accepts what is new, another accepts it as known in all tables that still remember it
+  -- if a verdict accepts something new, another one accepts it as already known in all tables that still remember it
   abbrev Recurs : Tables → Verdict → (Tables → Verdict) → Type 0
   Recurs t first again =
       (change : Change) (changes : List Change)
@@ -51,7 +51,7 @@ module _ (suppliers : List SupplierRow) where
       → Sound suppliers u
       → again u ≡ Accept []
 
-  -- the same of acts
+  -- the same, for acts
   abbrev Repeats : Told × Tables → Act → Type 0
   Repeats first again = first.0 ≡ Accepted → (u : Tables) → StaysRemembered first.1 u → Sound suppliers u → again u ≡ (Repeated, u)
 
@@ -79,7 +79,7 @@ module _ (suppliers : List SupplierRow) where
   refused_never : (code : List ℕ) (t : Tables) (again : Act) → Repeats (Refused code, t) again
   refused_never code t again told = cc
 
-  -- judged on what the rows of a GLN are, for a supplier that has it
+  -- decided on the rows of a GLN, for a supplier that has it
   module _ (gln : List ℕ) (t : Tables) where
     registered_recurs : (supplier : Option SupplierRow)
         → ((s : SupplierRow) → supplier ≡ Some s → s.gln ≡ gln)
@@ -200,7 +200,7 @@ cancellation_repeated suppliers register c t u told stays sound =
     cancel_repeats suppliers c.supplier t (supplier_row register.suppliers c.supplier)
     (gln_found register.suppliers c.supplier) c told u stays sound
 
--- what names no registered supplier is never accepted
+-- a message that names no registered supplier is never accepted
 either_never : (test : Bool) (one other : Told × Tables)
     → (one.0 ≡ Accepted → ⊥)
     → (other.0 ≡ Accepted → ⊥)

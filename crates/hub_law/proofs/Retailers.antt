@@ -1,4 +1,4 @@
--- An input of the retailer, in the tables of all and as one GLN sees it.
+-- Compares an input of the retailer in the tables of all with what one GLN sees of it.
 use Rattle.std.proofs.Common.{◌≡◌, ℕ, nat_lt, Bool, true, false, cond, ◌&&◌, if◌then◌else◌, List, [], ◌∷◌, map, filter, take}
 use Rattle.std.proofs.Common.{Option, Some, None, refl, sym, ◌∙◌, ap, subst, arith}
 use Rattle.std.proofs.lemmas.Bool.Decides.{nat_tests}
@@ -32,23 +32,23 @@ use Rattle.hub_law.proofs.Acting.{Alike, Stays, parties_on, suppliers_same, stay
 use Rattle.hub_law.proofs.Acts.{retailers_act, cancel_act, nobodys_message, nobodys_cancellation}
 use Rattle.hub_law.proofs.Steps.{unlike}
 
--- of one act none was done where it was stopped after any
+-- if a single act was stopped after any number of acts, none was done
 pub none_of_one : (k : ℕ) (below : Bool) → nat_lt k 1 ≡ below → (if below then k else 0) ≡ 0
 none_of_one k true e = grind (arith, nat_tests)
 none_of_one k false e = refl
 
--- an act for a supplier or for nobody, with what that one sees
+-- an act for a supplier or for none, with what that supplier sees
 abbrev pub ActFor : Type 0
 ActFor = (Tables → Tables) → Option SupplierRow → Act
 
--- it is the supplier's alone whose it is, and does nothing where it is nobody's
+-- the act concerns only its supplier, and does nothing if it has none
 pub record IsApart (suppliers : List SupplierRow) (t : Tables) (act : ActFor) : Type 0 where
   pub ones : (w : SupplierRow)
       → supplier_row suppliers w.gln ≡ Some w
       → Alike suppliers w t (act (view w.gln) (Some w) t) (act (λ rows. rows) (Some w) (view w.gln t))
   pub nobodys : (look : Tables → Tables) (u : Tables) → (act look None u).1 ≡ u
 
--- the act for the one that has the GLN
+-- the act for the supplier with this GLN
 abbrev pub by_name : List SupplierRow → List ℕ → ActFor → Act
 by_name suppliers gln act = act (view gln) (supplier_row suppliers gln)
 
@@ -66,7 +66,7 @@ module _ (suppliers : List SupplierRow) (t : Tables) (sound : Sound suppliers t)
           (record { sound = alike.apart.sound; parties = alike.apart.parties })
 
   module _ (other : List ℕ) where
-    -- who is named sees the act as its own, and another sees nothing of it
+    -- the supplier that is named sees the act as its own, and no other sees any change
     named_sees : same gln other ≡ true
         → view other (by_name suppliers gln act t).1 ≡ (act (λ rows. rows) (supplier_row suppliers other) (view other t)).1
     named_sees e =
@@ -91,7 +91,7 @@ module _ (suppliers : List SupplierRow) (t : Tables) (sound : Sound suppliers t)
             let unseen = (apart.ones w (ap (supplier_row suppliers) whose ∙ h)).apart.unseen other (unlike suppliers gln w other h e) in
             subst (λ n. view other (act (view n) (Some w) t).1 ≡ view other t) whose unseen
 
--- from its own rows the GLN sees its items done, and nothing is told to it
+-- from its own rows, the GLN sees its items done and gets no reply
 pub record Moves (parties : Parties) (gln : List ℕ) (own after : Tables) (items : List Item) : Type 0 where
   pub seen : view gln after ≡ (fold parties gln items own).1
   pub silent : (fold parties gln items own).0 ≡ []
@@ -148,7 +148,7 @@ module _ (register : RegisterRows) (free : PrefixFree (company_prefixes register
   cancelled_stays StoppedBare c t sound = stays_same S t sound
   cancelled_stays (StoppedAfter k) c t sound = stays_same S t sound
 
-  -- What one GLN sees.
+  -- For what one GLN sees.
   module _ (gln : List ℕ) where
     abbrev P : Tables → Tables → List Item → Type 0
     P = Moves (parties_of register) gln
@@ -206,7 +206,7 @@ module _ (register : RegisterRows) (free : PrefixFree (company_prefixes register
         subst (λ done. P (view gln t) t (if same c.supplier gln then take done (Cancellation moment c ∷ []) else []))
         (sym (none_of_one k (nat_lt k 1) refl)) (neither t (same c.supplier gln))
 
-    -- A join, of which is known what it does where it is accepted.
+    -- A join, if what it does once it is accepted is known.
     module _ (row : SupplierRow) (t : Tables)
         (takes : is_join row ≡ true → (changes : List Change) → judge_join register row ≡ Accept changes
         → JoinedBy row t (apply_all changes t)) where

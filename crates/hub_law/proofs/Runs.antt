@@ -1,4 +1,4 @@
--- Each step and each run, as one GLN sees it.
+-- Shows each step and each run as one GLN sees it.
 use Rattle.std.proofs.Common.{◌≡◌, ℕ, true, false, if◌then◌else◌, inl, inr, List, [], ◌∷◌, ◌++◌, Option, Some, None, refl, sym}
 use Rattle.std.proofs.Common.{◌∙◌, ap, subst, append_assoc}
 use Rattle.hub_parties.specs.Rows.{Parties, RegisterRows, supplier_row}
@@ -39,7 +39,7 @@ fold_append_after : (parties : Parties) (gln : List ℕ) (first second : List It
 fold_append_after parties gln [] second state = refl
 fold_append_after parties gln (item ∷ first) second state = fold_append_after parties gln first second (own_step parties gln item state).1
 
--- after a step the GLN sees its items done, and only to its own input it is told something, and that
+-- after a step the GLN sees its items done; it gets a reply only to its own input, and exactly that reply
 pub record OneStep (gln : List ℕ) (t : Tables) (input : Input) (after : Reply × Tables) (items : List Item) : Type 0 where
   pub seen : view gln after.1 ≡ (fold (parties_in t) gln items (view gln t)).1
   pub told : same input.caller gln ≡ true → (fold (parties_in t) gln items (view gln t)).0 ≡ after.0 ∷ []
@@ -144,7 +144,7 @@ module _ (gln : List ℕ) (input : Input) (mark : Mark) (t : Tables) (here : Sou
       (subst (λ after. OneStep gln t input after (items_by gln R (supplier_row S input.caller) input mark))
       (sym (step_is R input mark t)) (by_its_row other))
 
--- the retailer stays
+-- the retailer stays the same
 pub other_stays : (gln : List ℕ) (t after : Tables) → parties_in after ≡ parties_in t → IsOther gln t → IsOther gln after
 other_stays gln t after parties other is = other (is ∙ ap (λ (p : Parties). p.retailer) parties)
 

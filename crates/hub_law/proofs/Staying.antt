@@ -1,4 +1,4 @@
--- What is remembered stays so, whatever comes.
+-- Shows that what is remembered stays remembered, whatever follows.
 use Rattle.std.proofs.Common.{ℕ, Bool, true, false, cond, List, [], ◌∷◌, codes, Option, Some, None, Result, Ok, Err, sym, subst}
 use Rattle.edi_envelope.specs.declared.interchange.RawMessage.{RawMessage}
 use Rattle.edi_messages.specs.declared.fault.MessageFault.{MessageFault}

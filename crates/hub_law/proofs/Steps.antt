@@ -1,4 +1,4 @@
--- An input of a supplier, in the tables of all and in its own rows alone.
+-- Compares an input of a supplier in the tables of all with the same input in its own rows alone.
 use Rattle.std.proofs.Common.{◌≡◌, ◌≢◌, ℕ, true, false, if◌then◌else◌, List, [], ◌∷◌, Option, Some, None, refl, sym, ◌∙◌, ap}
 use Rattle.gs1_ids.specs.Overlap.{PrefixFree}
 use Rattle.hub_parties.specs.Rows.{Parties, company_prefixes, supplier_row}
@@ -24,7 +24,7 @@ use Rattle.hub_law.specs.Alone.{supplier_step}
 use Rattle.hub_law.proofs.Acting.{Alike, parties_same, parties_on}
 use Rattle.hub_law.proofs.Acts.{suppliers_act, taking_act}
 
--- who has another GLN than is named is another supplier
+-- a GLN other than the named one belongs to another supplier
 pub unlike : (suppliers : List SupplierRow) (gln : List ℕ) (w : SupplierRow) (other : List ℕ)
     → supplier_row suppliers gln ≡ Some w
     → same gln other ≡ false
@@ -39,7 +39,7 @@ module _ (suppliers : List SupplierRow) (s : SupplierRow) where
     apart = record { seen = refl; unseen = λ other ne. refl; parties = parties_same t; sound = sound };
   }
 
-  -- acts that are alike one by one are alike in a row
+  -- acts that do the same one by one also do the same one after another
   row_alike : {X : Type 0} (shared own : X → Act)
       → ((x : X) (t : Tables) → Sound suppliers t → Alike suppliers s t (shared x t) (own x (view s.gln t)))
       → (xs : List X) (t : Tables) → Sound suppliers t → Alike suppliers s t (in_row shared xs t) (in_row own xs (view s.gln t))

@@ -1,4 +1,4 @@
--- Inputs that are stopped, and what is said of them.
+-- Shows what inputs that are stopped reply and leave.
 use Rattle.std.proofs.Common.{◌≡◌, ◌≢◌, ◌↔◌, ℕ, List, Bool, true, false, cond, nat_lt, [], length, Option, Some, None, Ok}
 use Rattle.std.proofs.Common.{Err, refl, sym, subst, ap}
 use Rattle.edi_envelope.specs.declared.interchange.RawMessage.{RawMessage}
@@ -31,7 +31,7 @@ either : {X : Type 0} (P : X → Type 0) (test : Bool) (one other : X) → P one
 either P true one other first second = first
 either P false one other first second = second
 
--- the reply is not that of an input that was stopped
+-- the reply is not that to an input that was stopped
 abbrev IsWhole : Reply → Type 0
 IsWhole whole = whole.outcome ≢ Stopped
 
@@ -43,7 +43,7 @@ report_is_whole : (found : Option SupplierRow) (state : Tables) → IsWhole (rep
 report_is_whole None state = λ e. cc
 report_is_whole (Some s) state = λ e. cc
 
--- A property of what is replied and left, whatever is asked.
+-- A property of the reply and of the tables, for any request.
 module _ (mark : Mark) (P : Tables → Reply × Tables → Type 0)
     (unless : (t : Tables) (whole : Reply) → IsWhole whole → P t (replied mark whole t))
     (upload : (deliver : RawMessage × IncomingMessage → Act) (moment : ℕ) (opened : Opened) (t : Tables)

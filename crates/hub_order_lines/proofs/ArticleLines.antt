@@ -1,4 +1,4 @@
--- What the lines with an article come to: none, one or several.
+-- Shows what the lines of an article are: none, one or several.
 use Rattle.std.proofs.Common.{◌≡◌, ℕ, suc, ◌+◌, Bool, true, false, cond, List, [], ◌∷◌, map, filter, slice_get, Option}
 use Rattle.std.proofs.Common.{Some, None, refl, sym, subst, arith}
 use Rattle.hub_tables.specs.State.{the_only}
@@ -11,7 +11,7 @@ one_or_several : {X : Type 0} → ℕ → List X → Option ArticleLines
 one_or_several place [] = Some (One place)
 one_or_several place (x ∷ xs) = Some Several
 
--- of a list and of what passes of it: none, only the one at a place less some, or several
+-- a list and the part of it that passes: nothing, only the one at a position (counted from `before`), or several
 abbrev pub Tells : {X : Type 0} → List X → List X → ℕ → Option ArticleLines → Type 0
 Tells xs ys before None = ys ≡ []
 Tells {X} xs ys before (Some (One place)) = (k : ℕ) × (x : X) × (place ≡ k + before) × (slice_get xs k ≡ Some x) × (ys ≡ x ∷ [])

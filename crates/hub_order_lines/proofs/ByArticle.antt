@@ -1,4 +1,4 @@
--- The only line of an order with an article.
+-- Shows what is found when looking for an order's only line with an article.
 use Rattle.std.proofs.Common.{◌≡◌, ℕ, ◌+◌, ◌<◌, Bool, true, false, cond, ◌&&◌, ◌||◌, inl, inr, List, [], ◌∷◌, length}
 use Rattle.std.proofs.Common.{get_or, filter, slice_get, Option, Some, None, refl, sym, ap, subst, ◌∙◌, arith}
 use Rattle.std.specs.BTreeMap.{BTreeMap, get}
@@ -34,7 +34,7 @@ none_kept p (x ∷ xs) h =
     elim (p x) as (λ v. (v || list_any p xs) ≡ false → cond v (x ∷ filter p xs) (filter p xs) ≡ [])
     [ true ↦ λ e. absurd (cc) | false ↦ λ e. none_kept p xs e ] h
 
--- The lines of an order with an article, and what an index knows of them.
+-- The lines of an order with an article, and what an index says about them.
 module _ (lines : List LineFacts) (order gtin : List ℕ) (rise : Rises facts_cmp lines) where
   abbrev pub facts : List LineFacts
   facts = filter (λ (line : LineFacts). same line.row.gtin gtin) (facts_of lines order)
@@ -56,7 +56,7 @@ module _ (lines : List LineFacts) (order gtin : List ℕ) (rise : Rises facts_cm
   known_is articles first found index is got =
       sym (got ∙ index (first, gtin) ∙ ap (λ n. lines_with (has_article (keys_of lines) (n, gtin)) None 0 (keys_of lines)) is)
 
-  -- where the order has lines, those of the index are those with the article
+  -- if the order has lines, those of the index are those with the article
   alike : list_any of_order lines ≡ true → facts ≡ filter (λ line. bears (key_of line)) lines
   alike some =
       filter-filter (λ line. same line.row.gtin gtin) of_order lines
@@ -83,7 +83,7 @@ module _ (lines : List LineFacts) (order gtin : List ℕ) (rise : Rises facts_cm
       let at : place ≡ one.0 + 0 = one.2 in
       omega arith
 
-  -- the only line, which is of the order
+  -- the only line, if it belongs to the order
   pub only_is : (place : ℕ) (line : LineFacts)
       → known ≡ Some (One place)
       → line ≡ get_or lines place line
@@ -95,7 +95,7 @@ module _ (lines : List LineFacts) (order gtin : List ℕ) (rise : Rises facts_cm
       let here : one.0 ≡ place = (let e : place ≡ one.0 + 0 = one.2 in omega arith) in
       ap the_only one.4 ∙ sym one.3 ∙ ap (slice_get lines) here
 
-  -- the only line, which is of another order
+  -- the only line, if it belongs to another order
   pub other_order : (place : ℕ) (line : LineFacts)
       → known ≡ Some (One place)
       → line ≡ get_or lines place line

@@ -1,4 +1,4 @@
--- The line of an order with a number.
+-- Shows what is found when looking for an order's line by its number.
 use Rattle.std.proofs.Common.{◌≡◌, ℕ, Bool, true, false, cond, ◌&&◌, ◌==◌, List, [], ◌∷◌, filter, find, slice_get, Option}
 use Rattle.std.proofs.Common.{Some, refl, sym, ap, ◌∙◌, arith}
 use Rattle.std.specs.declared.cmp.Ordering.{Ordering}
@@ -23,7 +23,7 @@ key_cmp a b = ordering_then (bytes_cmp a.number b.number) (nat_cmp a.line b.line
 pub key_total : IsTotalOrder key_cmp
 key_total = then_total (on_total (λ k. k.number) nat_list_cmp_total) (on_total (λ k. k.line) nat_cmp_total)
 
--- a key of a number of an order
+-- the key of a line number of an order
 abbrev pub number_key : List ℕ → ℕ → LineKey
 number_key number line = record { number = number; line = line; gtin = [] }
 
@@ -65,7 +65,7 @@ by_number lines order number rise =
         (nat_cmp line.row.line number) (sym (is_eq-slice_cmp line.row.number order))
         (sym (is_eq-nat_cmp line.row.line number)))
 
--- the same, at the place that a search gives
+-- like `by_number`, at the position that a search returns
 pub by_number_at : (lines : List LineFacts) (order : List ℕ) (number place : ℕ)
     → Rises facts_cmp lines
     → place ≡ place_from order number (keys_of lines)

@@ -1,4 +1,4 @@
--- The orders that a map has, as a list.
+-- Shows the orders of a map as a list.
 use Rattle.std.proofs.Common.{◌≡◌, ℕ, Bool, true, false, cond, List, [], ◌∷◌, map, find, Option, Some, None, option_map, is_some}
 use Rattle.std.proofs.Common.{refl, sym, ap, ◌∙◌, inl, inr, Vec}
 use Rattle.std.specs.BTreeMap.{insert_entry, is_at}
@@ -16,7 +16,7 @@ use Rattle.hub_order_lines.specs.Book.{order_in, has_order, lines_in, facts_of}
 use Rattle.hub_order_lines.specs.declared.facts.LineFacts.{LineFacts}
 use Rattle.hub_order_lines.specs.declared.known_orders.KnownOrder.{KnownOrder}
 
--- what is known of an order is seen
+-- what is known of an order, as contracts see it
 abbrev pub seen : List ℕ → KnownOrder → Bool × List LineFacts
 seen order known = (known.is_there, facts_of known.lines order)
 
@@ -24,11 +24,11 @@ abbrev pub Entry : Type 0 → Type 0
 Entry Z = Vec ℕ Z × KnownOrder
 
 module _ {Z : Type 0} where
-  -- an entry as it is seen
+  -- an entry, as contracts see it
   abbrev pub shown : Entry Z → List ℕ × (Bool × List LineFacts)
   shown e = (e.0.items, seen e.0.items e.1)
 
-  -- the search for an order
+  -- the test that searches for an order
   abbrev pub at : List ℕ → Vec ℕ Z → Bool
   at order = is_at (λ key. bytes_cmp order key.items)
 
@@ -93,7 +93,7 @@ module _ {Z : Type 0} where
   abbrev pub key_cmp : Vec ℕ Z → Vec ℕ Z → Ordering
   key_cmp a b = bytes_cmp a.items b.items
 
-  -- an order that is put is found, and others are as they were
+  -- an order that is added is found, and the others stay the same
   module _ (key : Vec ℕ Z) (known : KnownOrder) (order : List ℕ) where
     abbrev with_it : List (Entry Z) → Option KnownOrder
     with_it es = cond (same order key.items) (Some known) (lookup (at order) es)
@@ -159,7 +159,7 @@ module _ {Z : Type 0} where
       (put_found key known order es ∙ ap (λ (v : Bool). cond v (Some known) (lookup (at order) es)) other)
       ∙ sym (look order es)
 
--- an order that is taken out
+-- an order that is removed
 module _ {Z : Type 0} (order other : List ℕ) (apart : same other order ≡ false) where
   remove_other : (es : List (Entry Z)) → lookup (at other) (remove_entry (at order) es) ≡ lookup (at other) es
   remove_other [] = refl
@@ -180,7 +180,7 @@ module _ {Z : Type 0} (order other : List ℕ) (apart : same other order ≡ fal
   pub removed_others : (es : List (Entry Z)) → order_in (map shown (remove_entry (at order) es)) other ≡ order_in (map shown es) other
   removed_others es = found_is other (remove_entry (at order) es) (lookup (at other) es) (remove_other es) ∙ sym (look other es)
 
--- an order that is set
+-- an order that is replaced
 module _ {Z : Type 0} where
   pub set_itself : (order : List ℕ) (known : KnownOrder) (es : List (Entry Z))
       → lookup (at order) es ≡ Some known

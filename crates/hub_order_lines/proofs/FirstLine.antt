@@ -1,4 +1,4 @@
--- The first line of an order.
+-- Finds the first line of an order.
 use Rattle.std.proofs.Common.{◌≡◌, ℕ, Bool, true, false, cond, ◌||◌, ◌==◌, List, [], ◌∷◌, find, slice_get, Option, Some}
 use Rattle.std.proofs.Common.{None, refl, sym, ap, ◌∙◌, arith, eq-eqb}
 use Rattle.std.specs.List.{list_any}
@@ -34,7 +34,7 @@ order_in_order (line ∷ lines) rise = (
   order_in_order lines rise.1,
 )
 
--- no line is below number 0 of its order
+-- no line comes before number 0 of its order
 below_first : (o : Ordering) (number : ℕ) → is_lt (ordering_then o (nat_cmp number 0)) ≡ is_lt o
 below_first Less number = refl
 below_first Equal number = grind (arith, nat_tests)
@@ -60,7 +60,7 @@ filtered_some : {X : Type 0} (p : X → Bool) (o : Option X) (x : X) → option_
 filtered_some p None x h = absurd (cc)
 filtered_some p (Some y) x h = let e = cond_some (p y) y x h in (ap Some e.1, sym (ap p e.1) ∙ e.0)
 
--- the first line of an order, where there is one
+-- the first line of an order, if there is one
 first_line : (lines : List LineFacts) (order : List ℕ) → Rises facts_cmp lines → list_any (λ line. same line.row.number order) lines ≡ true
     → (first : LineFacts) × (slice_get lines (place_from order 0 (keys_of lines)) ≡ Some first) × (first.row.number ≡ order)
 first_line lines order rise some =
@@ -69,7 +69,7 @@ first_line lines order rise some =
     (slice_get lines (place_from order 0 (keys_of lines))) found.0 (sym (by_order lines order rise) ∙ found.1) in
     (found.0, at.0, same_is found.0.row.number order at.1)
 
--- the orders of two lines are one where their first lines are
+-- two lines belong to the same order if the first lines of their orders are the same
 pub same_order : (lines : List LineFacts) (a b : List ℕ)
     → Rises facts_cmp lines
     → list_any (λ line. same line.row.number a) lines ≡ true

@@ -1,4 +1,4 @@
--- Orders that are kept follow changes.
+-- Shows that kept orders follow changes.
 use Rattle.std.proofs.Common.{◌≡◌, ◌⊎◌, ℕ, Bool, true, false, cond, List, [], ◌∷◌, map, inl, inr, Option, Some, None, is_some}
 use Rattle.std.proofs.Common.{◌||◌, refl, sym, ap, ◌∙◌, subst, Vec}
 use Rattle.std.specs.BTreeMap.{insert_entry}
@@ -36,7 +36,7 @@ module _ {Z : Type 0} (row : LineRow) (es : List (Entry Z)) where
           ap rows its ∙ other_untouched row order known.lines apart
           ∙ sym (ap (λ lines. replace (same_line row) row (rows lines)) its)
 
-  -- the order is not kept
+  -- if the order is not kept
   pub not_kept : lookup (at row.number) es ≡ None → Follows (SetLine row ∷ []) (map shown es) (map shown es)
   not_kept none = record {
     was = λ order kept. kept;
@@ -52,7 +52,7 @@ module _ {Z : Type 0} (row : LineRow) (es : List (Entry Z)) where
     ];
   }
 
-  -- it is, and its lines are set
+  -- if it is kept, its lines are set
   pub kept_set : (known w : KnownOrder) (new : List (Entry Z))
       → lookup (at row.number) es ≡ Some known
       → new ≡ set_value (at row.number) es w
@@ -115,7 +115,7 @@ module _ {Z : Type 0} (row : LineRow) (es : List (Entry Z)) where
           (sym (lines_are order (set_value (at row.number) es w) (lookup (at order) es) (found_after order false apart)
           ∙ sym (lines_are order es (lookup (at order) es) refl))) add
 
--- an order that is taken out
+-- an order that is removed
 pub taken_out : {Z : Type 0} (order : List ℕ) (es new : List (Entry Z))
     → new ≡ remove_entry (at order) es
     → lookup (at order) new ≡ None
@@ -125,7 +125,7 @@ taken_out order es new becomes none = record {
   others = λ other apart. ap (λ es. order_in (map shown es) other) becomes ∙ removed_others order other apart es;
 }
 
--- an order that is put
+-- an order that is added
 pub put_ok : {Z : Type 0} (order : List ℕ) (is_there : Bool) (given : List LineRow) (es new : List (Entry Z)) (key : Vec ℕ Z)
     (known : KnownOrder)
     → key.items ≡ order
@@ -144,7 +144,7 @@ put_ok order is_there given es new key known number becomes there rows_are adds_
       others = λ other apart. put_others key known other es (ap (same other) number ∙ apart);
     })
 
--- one change and then others
+-- one change, then the others
 pub in_turn : (change : Change) (changes : List Change) (given : List LineRow)
     → rows_after (change ∷ changes) given ≡ rows_after changes (rows_after (change ∷ []) given)
 in_turn (SetLine row) changes given = refl
@@ -180,7 +180,7 @@ follows_on change changes a b c first rest = record {
   add_up = λ order kept add. rest.add_up order kept (first.add_up order (rest.was order kept) add);
 }
 
--- with no change all is as it was
+-- without changes everything stays the same
 pub follows_itself : (orders : Orders) → Follows [] orders orders
 follows_itself orders = record {
   was = λ order kept. kept;

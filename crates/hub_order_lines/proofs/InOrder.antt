@@ -1,4 +1,4 @@
--- The first of a list in order that is not below a key.
+-- Finds the first element of a sorted list that is not below a key.
 use Rattle.std.proofs.Common.{◌≡◌, ℕ, zero, suc, ◌+◌, ◌≤◌, Bool, true, false, cond, List, [], ◌∷◌, length, get_or}
 use Rattle.std.proofs.Common.{slice_get, map, find, Some, None, refl, sym, ap, ◌∙◌, arith}
 use Rattle.std.specs.List.{AllByRecursion, prefix_len}
@@ -22,7 +22,7 @@ pub prefix_len-map : {X K : Type 0} (p : K → Bool) (key : X → K) (xs : List 
 prefix_len-map p key [] = refl
 prefix_len-map p key (x ∷ xs) = ap (λ n. cond (p (key x)) (1 + n) 0) (prefix_len-map p key xs)
 
--- a partition point is the length of what passes
+-- a partition point is the number of elements that pass
 pub from_point : {X : Type 0} (p : X → Bool) (xs : List X) (n : ℕ)
     → n ≤ length xs
     → IsPartitionPoint (λ x. p x ≡ true) (λ x. p x ≡ false) xs n
@@ -37,7 +37,7 @@ less_is Equal h = cc
 less_is Greater h = cc
 
 module _ {X K : Type 0} {cmp : K → K → Ordering} (total : IsTotalOrder cmp) (key : X → K) (t : K) where
-  -- what is not above one below the key is below it
+  -- what is not above an element below the key is below the key
   down : (x y : K) → is_gt (cmp x y) ≡ false → is_lt (cmp y t) ≡ true → is_lt (cmp x t) ≡ true
   down x y h l =
       elim (cmp x y) as (λ o. cmp x y ≡ o → is_lt (cmp x t) ≡ true) [
@@ -46,7 +46,7 @@ module _ {X K : Type 0} {cmp : K → K → Ordering} (total : IsTotalOrder cmp) 
         | Greater ↦ λ e. absurd (cc (ap is_gt e))
       ] refl
 
-  -- what comes after one above the key does not have it
+  -- what comes after an element above the key does not have the key
   past : (x y : K) → is_gt (cmp x y) ≡ false → cmp x t ≡ Greater → is_eq (cmp y t) ≡ false
   past x y h g =
       elim (is_eq (cmp y t)) as (λ v. is_eq (cmp y t) ≡ v → v ≡ false) [
@@ -63,7 +63,7 @@ module _ {X K : Type 0} {cmp : K → K → Ordering} (total : IsTotalOrder cmp) 
   parted (x ∷ xs) o (suc i) zero d le lt h = absurd (omega arith)
   parted (x ∷ xs) o (suc i) (suc j) d le lt h = parted xs o.1 i j d (omega arith) (omega arith) h
 
-  -- the first of the key stands after all that are below it, or there is none
+  -- the first element with the key comes right after all that are below it, or there is none
   pub first_at : (below : K → Bool) → ((k : K) → below k ≡ is_lt (cmp k t)) → (xs : List X) → InOrder (λ a b. cmp (key a) (key b)) xs
       → find (λ x. is_eq (cmp (key x) t)) xs ≡ option_filter (λ x. is_eq (cmp (key x) t)) (slice_get xs (prefix_len below (map key xs)))
   first_at below is [] o = refl

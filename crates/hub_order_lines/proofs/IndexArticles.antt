@@ -1,4 +1,4 @@
--- The index on the way along the lines.
+-- Follows the index while lines are added to it.
 use Rattle.std.proofs.Common.{◌≡◌, ℕ, ◌+◌, ◌<◌, Bool, true, false, cond, ◌==◌, List, ◌∷◌, length, get_or, drop, Option}
 use Rattle.std.proofs.Common.{Some, refl, sym, ap, ◌∙◌, arith}
 use Rattle.std.specs.Ordering.{nat_cmp, is_eq}
@@ -34,7 +34,7 @@ put_one : (v : Bool) (old : OrderArticle → Option ArticleLines) (a b : OrderAr
 put_one true old a b place e = ap (λ article. Some (one_more (old article) place)) (sym (e refl))
 put_one false old a b place e = refl
 
--- one line more
+-- one more line
 pub article_step : (lines : List LineFacts) (place : ℕ) (line : LineFacts) (old new : OrderArticle → Option ArticleLines)
     (found : ArticleLines) (at : OrderArticle)
     → place < length lines

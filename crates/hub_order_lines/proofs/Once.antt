@@ -1,4 +1,4 @@
--- Orders of a map are known once, and their lines rise.
+-- Shows that a map knows each order once, and that the lines of an order rise.
 use Rattle.std.proofs.Common.{◌≡◌, ℕ, suc, slice_get, true, List, [], ◌∷◌, ◌++◌, map, Option, Some, None, refl, sym, ap, subst, ◌∙◌, Vec}
 use Rattle.std.specs.BTreeMap.{BTreeMap, IsOrdered}
 use Rattle.std.specs.List.{AllByRecursion}
@@ -34,7 +34,7 @@ module _ {Z : Type 0} where
   keys_total = on_total (λ key. key.items) nat_list_cmp_total
 
   module _ (orders : BTreeMap (Vec ℕ Z) KnownOrder) (ordered : IsOrdered key_cmp orders) where
-    -- each of the last of the entries is found by its key
+    -- each of the remaining entries is found by its key
     each_once : (before after : List (Entry Z)) → orders.entries ≡ before ++ after
         → AllByRecursion (IsKnownOnce (map shown orders.entries)) (map shown after)
     each_once before [] parts = tt
@@ -55,7 +55,7 @@ module _ {Z : Type 0} where
 pub lines_rise : (lines : List LineFacts) (order : List ℕ) → Rises facts_cmp lines → Rises facts_cmp (facts_of lines order)
 lines_rise lines order rise = rises_filter facts_cmp (λ line. same line.row.number order) lines rise
 
--- what is known of an order rises
+-- the lines known of an order rise
 pub known_rise : {Z : Type 0} (order : List ℕ) (es : List (Entry Z)) (known : KnownOrder)
     → lookup (at order) es ≡ Some known
     → Rises facts_cmp known.lines

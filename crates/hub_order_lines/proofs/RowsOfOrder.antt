@@ -1,4 +1,4 @@
--- The rows of an order's lines, and a row that is set.
+-- Shows what replacing a row does to the rows of an order's lines.
 use Rattle.std.proofs.Common.{◌≡◌, ℕ, Bool, true, false, cond, ◌&&◌, ◌==◌, List, [], ◌∷◌, filter, inl, inr, refl, sym, ap, ap₂, ◌∙◌, arith}
 use Rattle.hub_parties.specs.KeyOrder.{replace}
 use Rattle.hub_tables.specs.Rows.{same, same_line}
@@ -17,7 +17,7 @@ filter_rows p (line ∷ lines) =
       | false ↦ filter_rows p lines
     ]
 
--- a row that is set among those that pass a test, which its key decides
+-- replacing a row among those that pass a test which depends only on the key
 pub filter_replace : (row : LineRow) (p : LineRow → Bool) (ls : List LineRow)
     → ((old : LineRow) → same_line row old ≡ true → p old ≡ p row)
     → filter p (replace (same_line row) row ls) ≡ replace (same_line row) row (filter p ls)
@@ -31,7 +31,7 @@ filter_replace row p (old ∷ ls) by_key =
       | inr e ↦ elim (decide (p old)) [ inl k ↦ grind (arith, e, k, ih) | inr k ↦ grind (arith, e, k, ih) ]
     ]
 
--- a row that is set among the lines of an order, and among those of a supplier
+-- replacing a row among the lines of an order, and among those of a supplier
 pub set_among_order : (row : LineRow) (order : List ℕ) (ls : List LineRow)
     → filter (λ line. same line.number order) (replace (same_line row) row ls)
     ≡ replace (same_line row) row (filter (λ line. same line.number order) ls)
@@ -44,7 +44,7 @@ pub set_among_suppliers : (row : LineRow) (supplier : List ℕ) (ls : List LineR
 set_among_suppliers row supplier ls =
     filter_replace row (λ line. same line.supplier supplier) ls (λ old e. ap (λ v. same v supplier) (line_key row old e).0)
 
--- rows that are set of all lines are set of those of an order
+-- replacing a row among all lines replaces it among those of an order
 pub set_of_order : (row : LineRow) (order : List ℕ) (old new : List LineFacts)
     → rows new ≡ replace (same_line row) row (rows old)
     → rows (facts_of new order) ≡ replace (same_line row) row (rows (facts_of old order))
@@ -54,7 +54,7 @@ set_of_order row order old new set =
     ∙ set_among_order row order (rows old)
     ∙ ap (replace (same_line row) row) (filter_rows (λ line. same line.number order) old)
 
--- a row of one order sets none of another's
+-- replacing a row of one order does not change the rows of another
 pub other_untouched : (row : LineRow) (order : List ℕ) (lines : List LineFacts)
     → same order row.number ≡ false
     → rows (facts_of lines order) ≡ replace (same_line row) row (rows (facts_of lines order))

@@ -1,4 +1,4 @@
--- A line set in its place.
+-- Shows what setting a line at its position does.
 use Rattle.std.proofs.Common.{◌≡◌, ℕ, zero, suc, ◌+◌, ◌<◌, Bool, true, false, cond, ◌&&◌, ◌==◌, inl, inr, List, [], ◌∷◌, length}
 use Rattle.std.proofs.Common.{find, get_or, slice_get, slice_set, Option, Some, None, refl, sym, ap, ap₂, subst, ◌∙◌, arith}
 use Rattle.std.specs.BTreeMap.{BTreeMap}
@@ -24,7 +24,7 @@ use Rattle.hub_order_lines.specs.declared.by_article.ArticleLines.{ArticleLines}
 use Rattle.hub_order_lines.specs.declared.facts.LineFacts.{LineFacts}
 use Rattle.hub_order_lines.proofs.ByNumber.{key_cmp, key_total}
 
--- Two lines with the key of a row are not one below the other.
+-- Neither of two lines with the key of a row comes before the other.
 clash : (row : LineRow) (x y : LineFacts) → same_line row x.row ≡ true → same_line row y.row ≡ true → facts_cmp x y ≡ Equal
 clash row x y at_x at_y =
     let a = line_key row x.row at_x in
@@ -54,7 +54,7 @@ at_place P lines place line all at =
     subst P (get_or_from_slice_get lines place line line at)
     (All-get_or P lines place line (slice_get_within lines place line at) (All-from_recursion P lines all))
 
--- the rows of lines of which one is set are those with the row in the place of the one that has its key
+-- the rows after a line is set: the new row replaces the one that has its key
 pub set_is : (lines : List LineFacts) (place : ℕ) (line new : LineFacts) (row : LineRow)
     → Rises facts_cmp lines
     → slice_get lines place ≡ Some line
@@ -93,7 +93,7 @@ rise_kept [] (y ∷ ys) es rise = absurd (cc)
 rise_kept (x ∷ xs) [] es rise = absurd (cc)
 rise_kept (x ∷ xs) (y ∷ ys) es rise = (later_kept x y xs ys (cc) (cc) rise.0, rise_kept xs ys (cc) rise.1)
 
--- a line set keeps the keys, and so the index
+-- setting a line keeps the keys, and so the index
 pub keys_kept : (lines : List LineFacts) (place : ℕ) (line new : LineFacts)
     → place < length lines
     → line ≡ get_or lines place line
@@ -140,7 +140,7 @@ module _ (lines : List LineFacts) (row : LineRow) (place : ℕ) (line : LineFact
   line_is : line.row.line ≡ row.line
   line_is = grind (arith, nat_tests, both.1)
 
-  -- another row of the key in its place
+  -- another row with the same key in its place
   module _ (supplier_is : line.row.supplier ≡ row.supplier) (gtin_is : line.row.gtin ≡ row.gtin)
       (ordered open_qty refused cancelled answer despatched : ℕ)
       (same_ordered : ordered ≡ row.ordered) (same_open : open_qty ≡ row.open_qty) (same_refused : refused ≡ row.refused)

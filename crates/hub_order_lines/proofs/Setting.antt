@@ -1,4 +1,4 @@
--- Lines that are set while a message is judged.
+-- Shows what setting lines while a message is checked does.
 use Rattle.std.proofs.Common.{◌≡◌, ◌⊎◌, ℕ, ◌+◌, ◌≤◌, Bool, true, false, cond, ◌&&◌, ◌==◌, inl, inr, List, [], ◌∷◌, map, filter}
 use Rattle.std.proofs.Common.{find, Option, Some, None, option_map, refl, sym, ap, ap₂, subst, ◌∙◌, arith, eq-eqb}
 use Rattle.std.specs.List.{AllByRecursion}
@@ -28,7 +28,7 @@ use Rattle.hub_order_lines.specs.declared.facts.LineFacts.{LineFacts}
 use Rattle.hub_order_lines.proofs.ByNumber.{key_total, is_eq-nat_cmp}
 use Rattle.hub_order_lines.specs.Key.{key_of}
 
--- Each line made anew.
+-- Each line is mapped by `make`.
 module _ (make : LineFacts → LineFacts) where
   abbrev one_made : List ℕ × (Bool × List LineFacts) → List ℕ × (Bool × List LineFacts)
   one_made known = (known.0, (known.1.0, map make known.1.1))
@@ -67,7 +67,7 @@ module _ (make : LineFacts → LineFacts) where
       by None = refl
       by (Some known) = refl
 
-  -- where each keeps its line number and its article, it is found among them as before
+  -- if each line keeps its line number and its article, it is found as before
   abbrev pub Keeps : LineFacts → Type 0
   Keeps line = ((make line).row.line ≡ line.row.line) × ((make line).row.gtin ≡ line.row.gtin)
 
@@ -111,7 +111,7 @@ all_made make itself (known ∷ orders) =
     each [] = refl
     each (line ∷ lines) = ap₂ (λ one rest. one ∷ rest) (itself line) (each lines)
 
--- what holds of each line of all orders holds of each of one
+-- what holds for each line of all orders holds for each line of one
 pub all_in : (P : LineFacts → Type 0) (orders : Orders) (order : List ℕ)
     → AllByRecursion (λ known. AllByRecursion P known.1.1) orders
     → AllByRecursion P (lines_in orders order)
@@ -144,7 +144,7 @@ looked_up_in P lines None gtin line all e =
     all_only P (filter (λ line. same line.row.gtin gtin) lines) line
     (all_filter P (λ line. same line.row.gtin gtin) lines all) e
 
--- no two lines that rise have one key
+-- no two rising lines have the same key
 abbrev pub SameKey : LineFacts → LineFacts → Type 0
 SameKey a b = (a.row.number ≡ b.row.number) × (a.row.line ≡ b.row.line)
 
@@ -175,7 +175,7 @@ apart (x ∷ xs) rise = (
     both [] less all = tt
     both (y ∷ ys) less all = (((λ alike. absurd (not_alike x y less.0 alike)), all.0), both ys less.1 all.1)
 
--- A line of the orders that is found, and what it is set to.
+-- A line that is found in the orders, and what it is set to.
 module _ (orders : Orders) (order : List ℕ) (number : Option ℕ) (gtin : List ℕ) (base : LineFacts)
     (once : AreKnownOnce orders) (rise : Rises facts_cmp (lines_in orders order))
     (found : facts_among (lines_in orders order) number gtin ≡ Some base) where
@@ -208,7 +208,7 @@ module _ (orders : Orders) (order : List ℕ) (number : Option ℕ) (gtin : List
   only_of_all [] all = tt
   only_of_all (known ∷ some) all = (only_of known all.0, only_of_all some all.1)
 
-  -- the lines that are set, with one more
+  -- the set lines, with one more
   module _ (changed new : SetLines) (keep : KeepKeys changed orders) (x : LineFacts)
       (becomes : (n : List ℕ) (l : ℕ)
       → set_at new n l ≡ cond (same base.row.number n && (base.row.line == l)) (Some x) (set_at changed n l))
@@ -267,7 +267,7 @@ none_set changed empty (known ∷ orders) = (each known.1.1, none_set changed em
     each (line ∷ lines) =
         (subst (λ o. IfSome o (IsSetOf line)) (sym (none_at changed empty line.row.number line.row.line)) tt, each lines)
 
--- what is looked up is the line as it is now
+-- what is looked up is the current form of the line
 keeps_one : (changed : SetLines) (line : LineFacts)
     → IfSome (set_at changed line.row.number line.row.line) (IsSetOf line)
     → Keeps (now_of changed) line
@@ -289,7 +289,7 @@ now_found orders changed keep order number gtin =
     (λ line its. keeps_one changed line its) (lines_in orders order)
     (all_in (λ line. IfSome (set_at changed line.row.number line.row.line) (IsSetOf line)) orders order keep))
 
--- what is set of a line that is looked up
+-- what a line that is looked up was set to
 pub set_of_found : (orders : Orders) (changed : SetLines) → KeepKeys changed orders
     → (order : List ℕ) (number : Option ℕ) (gtin : List ℕ) (base : LineFacts)
     → facts_among (lines_in orders order) number gtin ≡ Some base
@@ -298,7 +298,7 @@ set_of_found orders changed keep order number gtin base found =
     looked_up_in (λ line. IfSome (set_at changed line.row.number line.row.line) (IsSetOf line)) (lines_in orders order) number gtin base
     (all_in (λ line. IfSome (set_at changed line.row.number line.row.line) (IsSetOf line)) orders order keep) found
 
--- A line that is set is the row in the place of the one that has its key.
+-- Setting a line replaces the row that has its key.
 module _ (orders : Orders) (order : List ℕ) (number : Option ℕ) (gtin : List ℕ) (base : LineFacts)
     (once : AreKnownOnce orders) (rise : Rises facts_cmp (lines_in orders order))
     (found : facts_among (lines_in orders order) number gtin ≡ Some base)
@@ -313,7 +313,7 @@ module _ (orders : Orders) (order : List ℕ) (number : Option ℕ) (gtin : List
   abbrev row : LineRow
   row = answered_row now.row open_qty refused cancelled answer
 
-  -- the line as it is now has the key of the line, and what is despatched of it
+  -- the current form of a line has the line's key and its despatched quantity
   now_alike : (l : LineFacts) → IfSome (set_at changed l.row.number l.row.line) (IsSetOf l)
       → ((now_of changed l).despatched ≡ l.despatched)
       × ((q r s t : ℕ) → answered_row (now_of changed l).row q r s t ≡ answered_row l.row q r s t)
@@ -334,7 +334,7 @@ module _ (orders : Orders) (order : List ℕ) (number : Option ℕ) (gtin : List
       ap₂ (λ (r : LineRow) (d : ℕ). record base { row = r; despatched = d })
       (row_is ∙ sym (alike.1 open_qty refused cancelled answer)) (despatched_is ∙ sym alike.0)
 
-  -- of each line of the orders
+  -- for each line of the orders
   one_set : (l : LineFacts) → (SameKey l base → l ≡ base) → IfSome (set_at changed l.row.number l.row.line) (IsSetOf l)
       → now_of new l ≡ set_row row (now_of changed l)
   one_set l only its = by (decide (same base.row.number l.row.number && (base.row.line == l.row.line)))
@@ -410,7 +410,7 @@ module _ (orders : Orders) (order : List ℕ) (number : Option ℕ) (gtin : List
   pub set_is : each_line (now_of new) orders ≡ with_row row (each_line (now_of changed) orders)
   set_is = all_set orders (only_of_all orders order number gtin base once rise found orders once) keep
 
--- what was put into the lines that are set
+-- what was inserted into the set lines
 abbrev pub place_cmp : Bor (List ℕ) × ℕ → Bor (List ℕ) × ℕ → Ordering
 place_cmp a b = ordering_then (bytes_cmp a.0.now b.0.now) (nat_cmp a.1 b.1)
 
@@ -450,7 +450,7 @@ now_ordered orders changed keep order number gtin base found =
     by None its = refl
     by (Some set) its = ap (λ row. row.ordered) (sym its.row)
 
--- with the same entries all are kept
+-- if the entries are the same, everything is kept
 pub keeps_same : (changed new : SetLines) → new.entries ≡ changed.entries → (orders : Orders)
     → KeepKeys changed orders
     → KeepKeys new orders
@@ -468,7 +468,7 @@ keeps_same changed new alike (known ∷ orders) keep =
       each lines keep.1,
     )
 
--- a line that is looked up in a book is the line as it is now
+-- a line that is looked up in a book is the current form of the line
 pub looked_up_now : (orders book : Orders) (changed : SetLines) → KeepKeys changed orders → each_line (now_of changed) orders ≡ book
     → (order : List ℕ) (number : Option ℕ) (gtin : List ℕ) (base : LineFacts)
     → facts_among (lines_in orders order) number gtin ≡ Some base

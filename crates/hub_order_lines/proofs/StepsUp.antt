@@ -1,4 +1,4 @@
--- Lines of which each is below the next rise.
+-- Shows that lines rise if each comes before the next.
 use Rattle.std.proofs.Common.{◌≡◌, true, List, [], ◌∷◌, Some, None, sym, subst}
 use Rattle.std.specs.List.{AllByRecursion}
 use Rattle.std.specs.Cmp.{IsTotalOrder}
@@ -37,7 +37,7 @@ pub rise_if_steps : (lines : List LineRow) → steps_up None lines ≡ true → 
 rise_if_steps [] h = tt
 rise_if_steps (line ∷ lines) h = all_above line lines h
 
--- what is known of lines rises as their rows do
+-- what is known of lines rises like their rows
 all_facts_above : (line : LineFacts) (lines : List LineFacts)
     → AllByRecursion (λ later. place_cmp line.row later ≡ Less) (rows lines)
     → AllByRecursion (λ later. facts_cmp line later ≡ Less) lines

@@ -1,4 +1,4 @@
--- The only line of an order with an article, on the way along the lines.
+-- Follows the search for an order's only line with an article while it walks along the lines.
 use Rattle.std.proofs.Common.{◌≡◌, ℕ, ◌+◌, ◌<◌, Bool, true, false, cond, ◌&&◌, List, [], ◌∷◌, length, get_or, drop, filter, slice_get}
 use Rattle.std.proofs.Common.{Option, Some, None, is_some, refl, sym, ap, ◌∙◌}
 use Rattle.std.specs.Option.{IfSome, IfNone}
@@ -16,7 +16,7 @@ module _ (order gtin : List ℕ) where
   abbrev pub is_it : LineFacts → Bool
   is_it line = same line.row.number order && same line.row.gtin gtin
 
-  -- before a place there is no line with the article, or the one that was found
+  -- before a position there is no line with the article, or only the one that was found
   abbrev pub Walked : List LineFacts → ℕ → Option ℕ → Type 0
   Walked lines place None = of_article lines ≡ of_article (drop place lines)
   Walked lines place (Some k) =
@@ -79,7 +79,7 @@ module _ (order gtin : List ℕ) where
   taken_first lines place line None within at its none walked = taken lines place line within at its walked
   taken_first lines place line (Some k) within at its none walked = absurd (cc)
 
-  -- one more that comes is a second one
+  -- one more line is a second one
   pub second : (lines : List LineFacts) (place : ℕ) (line : LineFacts) (found : Option ℕ)
       → place < length lines
       → line ≡ get_or lines place line

@@ -1,4 +1,5 @@
--- Prefixes put by their bytes are the same prefixes, so that what a test says of some or of all of them stays.
+-- Shows that sorting prefixes by their bytes keeps the same prefixes, so tests of some or all of them give the same
+-- result.
 use Rattle.std.proofs.Common.{◌≡◌, ◌<◌, Some, None, arith, Bool, true, false, cond, not, ◌&&◌}
 use Rattle.std.proofs.Common.{◌||◌, ℕ, List, [], ◌∷◌, ◌++◌, length, refl, sym, ap, ap₂, ◌∙◌}
 use Rattle.std.specs.List.{list_all, list_any}
@@ -45,7 +46,7 @@ length-by_bytes texts = length_permutation texts (by_bytes texts) (by_bytes-perm
 pub any-by_bytes : (test : List ℕ → Bool) (texts : List (List ℕ)) → list_any test (by_bytes texts) ≡ list_any test texts
 any-by_bytes test texts = sym (list_any-IsPermutation test texts (by_bytes texts) (by_bytes-permutes texts))
 
--- all pass where none fails
+-- all pass exactly if none fails
 none_fails : {X : Type 0} (test : X → Bool) (xs : List X) → list_all test xs ≡ not (list_any (λ x. not (test x)) xs)
 none_fails test [] = refl
 none_fails test (x ∷ xs) =
@@ -56,7 +57,7 @@ pub all-by_bytes : (test : List ℕ → Bool) (texts : List (List ℕ)) → list
 all-by_bytes test texts =
     none_fails test (by_bytes texts) ∙ ap not (any-by_bytes (λ text. not (test text)) texts) ∙ sym (none_fails test texts)
 
--- whether some prefixes overlap does not hang on their order
+-- whether some prefixes overlap does not depend on their order
 any-alike : {X : Type 0} (f g : X → Bool) (alike : (x : X) → f x ≡ g x) (xs : List X) → list_any f xs ≡ list_any g xs
 any-alike f g alike [] = refl
 any-alike f g alike (x ∷ xs) = ap₂ (λ a b. a || b) (alike x) (any-alike f g alike xs)
@@ -66,7 +67,7 @@ overlap_some-by_bytes ps qs =
     any-by_bytes (λ p. list_any (overlap p) (by_bytes qs)) ps
     ∙ any-alike (λ p. list_any (overlap p) (by_bytes qs)) (λ p. list_any (overlap p) qs) (λ p. any-by_bytes (overlap p) qs) ps
 
--- more than a supplier may have are none of one
+-- more prefixes than a supplier may have are not those of a supplier
 falls : (a b c : Bool) → b ≡ false → (a && (b && c)) ≡ false
 falls true true c e = cc
 falls true false c e = refl
@@ -79,7 +80,7 @@ too_many texts many =
     cond-false (are_company_prefixes (by_bytes texts)) (Some (by_bytes texts)) None
     (falls (nat_le 1 (length (by_bytes texts))) (nat_le (length (by_bytes texts)) most_prefixes) _ over)
 
--- nor are texts of which one is no prefix
+-- nor are texts of which one is not a prefix
 fails : (a b c d : Bool) → c ≡ false → (a && (b && (c && d))) ≡ false
 fails true true true d e = cc
 fails true true false d e = refl

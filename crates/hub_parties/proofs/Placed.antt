@@ -1,4 +1,4 @@
--- A text that is put at its place.
+-- Shows where inserting a text puts it.
 use Rattle.std.proofs.Common.{◌≡◌, ℕ, suc, ◌+◌, Bool, true, false, cond, List, [], ◌∷◌, length}
 use Rattle.std.proofs.Common.{Some, None, refl, ap, ◌≤◌, not, ltb, arith, ◌∙◌, sym}
 use Rattle.std.specs.List.{position_or_len, insert}
@@ -14,7 +14,7 @@ insert-next : {X : Type 0} (y : X) (ys : List X) (n : ℕ) (x : X) → insert (y
 insert-next y ys n x = let e : 1 + n ≡ suc n = omega arith in rw e refl
 
 module _ {X : Type 0} (cmp : X → X → Ordering) (x : X) where
-  -- it goes before the first that is greater, or to the end
+  -- it is inserted before the first greater one, or at the end
   pub put_is_insert : (xs : List X) → put cmp x xs ≡ insert xs (position_or_len (λ y. is_gt (cmp y x)) xs) x
   put_is_insert [] = refl
   put_is_insert (y ∷ ys) = elim (is_gt (cmp y x)) as (λ b. cond b (x ∷ y ∷ ys) (y ∷ put cmp x ys) ≡ insert (y ∷ ys)
@@ -23,7 +23,7 @@ module _ {X : Type 0} (cmp : X → X → Ordering) (x : X) where
         | false ↦ ap (λ rest. y ∷ rest) (put_is_insert ys) ∙ sym (insert-next y ys (position_or_len (λ y. is_gt (cmp y x)) ys) x)
       ]
 
--- where a search finds a place, or the end
+-- the position that a search finds, or the end
 place_or_end : (found : Bool) (place end : ℕ) → ltb place end ≡ found → place ≤ end → unwrap_or (cond found (Some place) None) end ≡ place
 place_or_end true place end e least = refl
 place_or_end false place end e least = let past = ltb-false place end e in omega (arith, past, least)

@@ -1,4 +1,4 @@
--- Two texts of one length are alike where no two of their bytes differ.
+-- Shows that two texts of the same length are equal if none of their bytes differ.
 use Rattle.std.proofs.Common.{◌≡◌, ℕ, ◌==◌, true, false, cond, not, ◌&&◌, nat_eq, filter, zip, List, [], ◌∷◌, length, refl}
 use Rattle.std.proofs.Math.Dec.{eqb-suc-zero}
 use Rattle.std.specs.Str.{bytes_eq}

@@ -1,4 +1,4 @@
--- The definitions at small registers.
+-- Shows the definitions by examples of small registers.
 use Rattle.std.proofs.Common.{◌≡◌, ℕ, List, [], ◌∷◌, ◌++◌, Some, None, Ok, Err, codes, refl}
 use Rattle.toml.proofs.OnLiterals.{toml_on_literals}
 use Rattle.hub_parties.specs.Rows.{RegisterRows, role_of}
@@ -21,7 +21,7 @@ alpha = codes "4012345500004"
 abbrev beta : List ℕ
 beta = codes "8712345000004"
 
--- suppliers with one prefix, and with any number of them
+-- suppliers with one prefix, and with several
 abbrev supplier : List ℕ → List ℕ → SupplierRow
 supplier gln prefix = row_with gln (prefix ∷ []) (codes "alpha-key-1")
 

@@ -1,4 +1,4 @@
--- The map from GLNs to rows: a row that is put in, and what is found.
+-- Shows what inserting a row into the map from GLNs to rows does, and what is found in it.
 use Rattle.std.proofs.Common.{◌≡◌, ℕ, if◌then◌else◌, List, [], ◌∷◌, map, find, get_or, drop, Some, Ordering, refl, sym, ap, ap₂, ◌∙◌}
 use Rattle.std.specs.BTreeMap.{insert_entry, is_at}
 use Rattle.std.specs.Cmp.Lexicographic.{slice_cmp}
@@ -15,7 +15,7 @@ use Rattle.hub_register.specs.InOrder.{put}
 abbrev pub by_gln : List ℕ → List ℕ → Ordering
 by_gln = slice_cmp nat_cmp
 
--- each row stands at its GLN
+-- each row is stored under its GLN
 abbrev pub AtGln : List (List ℕ × SupplierRow) → Type 0
 AtGln entries = keys_of entries ≡ map (λ row. row.gln) (values_of entries)
 
@@ -28,7 +28,7 @@ values_at Less a b c = refl
 values_at Equal a b c = refl
 values_at Greater a b c = refl
 
--- the rows of the map are those before, with the new one at its place
+-- the rows of the map are those from before, with the new one at its place
 pub put-insert : (entries : List (List ℕ × SupplierRow)) (row : SupplierRow)
     → AtGln entries
     → values_of (insert_entry by_gln entries row.gln row) ≡ put row (values_of entries)
@@ -54,7 +54,7 @@ pub at-insert : (entries : List (List ℕ × SupplierRow)) (row : SupplierRow)
 at-insert [] row at = refl
 at-insert (e ∷ es) row at = at-case (by_gln row.gln e.0) e es row _ (exact_bytes row.gln e.0) at (at-insert es row (ap (drop 1) at))
 
--- what the map finds is the row of that GLN
+-- the map finds the row with this GLN
 pub lookup-find : (gln : List ℕ) (entries : List (List ℕ × SupplierRow))
     → AtGln entries
     → lookup (is_at (by_gln gln)) entries ≡ find (λ row. bytes_eq row.gln gln) (values_of entries)

@@ -1,4 +1,4 @@
--- Valid rows are those of a register exactly where they pass the tests, and rows that rise stay as they stand.
+-- Shows that valid rows form a register exactly if they pass the tests, and that rising rows keep their order.
 use Rattle.std.proofs.Common.{◌≡◌, ℕ, Bool, true, false, not, ◌&&◌, List, [], ◌∷◌, ◌++◌, length, map, refl, sym, ap, ◌∙◌, subst}
 use Rattle.std.specs.List.{list_all, AllByRecursion}
 use Rattle.std.specs.Ordering.{is_lt, is_eq, match_ordering, ordering_reverse}
@@ -22,7 +22,7 @@ use Rattle.hub_register.specs.Kept.{is_valid, goes_before, are_in_order, is_othe
 use Rattle.hub_register.proofs.Ordered.{Apart}
 use Rattle.hub_register.proofs.Right.{Differ, Free, not_among, once, free, prefix_free}
 
--- Rows that rise, put one after another.
+-- Rising rows, inserted one after another.
 abbrev pub Below : SupplierRow → SupplierRow → Type 0
 Below r s = bytes_cmp r.gln s.gln ≡ Less
 
@@ -58,7 +58,7 @@ put_after (row ∷ rows) done rises =
 pub as_they_stand : (rows : List SupplierRow) → Rises bytes_cmp (map (λ r. r.gln) rows) → put_all rows [] ≡ rows
 as_they_stand rows rises = put_after rows [] rises
 
--- The tests, and what they mean.
+-- What the tests mean.
 pub is_less : (o : Ordering) → is_lt o ≡ true → o ≡ Less
 is_less Less h = refl
 is_less Equal h = cc
@@ -160,7 +160,7 @@ module _ (hub retailer key : List ℕ) (rows : List SupplierRow) where
   pub kept_stand : keep_all hub retailer rows ≡ true → put_all rows [] ≡ rows
   kept_stand kept = as_they_stand rows (rises rows (kept_order kept))
 
--- and back
+-- and the converse
 pub in_order : (rows : List SupplierRow) → Rises bytes_cmp (map (λ r. r.gln) rows) → Apart Free rows → are_in_order rows ≡ true
 in_order [] rising apart = refl
 in_order (row ∷ rows) rising apart = and_from _ _ (before rows rising.0 apart.0) (in_order rows rising.1 apart.1)

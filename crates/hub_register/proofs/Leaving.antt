@@ -1,4 +1,4 @@
--- The map from GLNs to rows: a row that is taken out, and whether there is one.
+-- Shows what removing a row from the map from GLNs to rows does, and whether a row is found.
 use Rattle.std.proofs.Common.{◌≡◌, ℕ, Bool, true, false, cond, ◌||◌, List, [], ◌∷◌, map}
 use Rattle.std.proofs.Common.{find, get_or, drop, Option, Some, refl, ap, ap₂, ◌∙◌}
 use Rattle.std.specs.Prelude.{is_some}
@@ -15,7 +15,7 @@ use Rattle.hub_register.proofs.Inserted.{AtGln, by_gln}
 abbrev head : List (List ℕ) → List ℕ
 head keys = get_or keys 0 []
 
--- what is taken out of the map is the row of the GLN
+-- the row that is removed from the map is that of the GLN
 pub without-remove : (gln : List ℕ) (entries : List (List ℕ × SupplierRow))
     → AtGln entries
     → values_of (remove_entry (is_at (by_gln gln)) entries) ≡ without gln (values_of entries)
@@ -29,7 +29,7 @@ without-remove gln (e ∷ es) at =
     values_at true xs ys = refl
     values_at false xs ys = refl
 
--- each row stands at its GLN then too
+-- each row is still stored under its GLN
 pub at-remove : (gln : List ℕ) (entries : List (List ℕ × SupplierRow))
     → AtGln entries
     → AtGln (remove_entry (is_at (by_gln gln)) entries)
@@ -39,7 +39,7 @@ at-remove gln (e ∷ es) at = elim (is_at (by_gln gln) e.0) as (λ b. AtGln (con
   | false ↦ ap₂ (λ key keys. key ∷ keys) (ap head at) (at-remove gln es (ap (drop 1) at))
 ]
 
--- a row is found exactly where one has the GLN
+-- a row is found exactly if one has the GLN
 pub found_is_any : (gln : List ℕ) (rows : List SupplierRow)
     → is_some (find (λ row. bytes_eq row.gln gln) rows) ≡ list_any (bytes_eq gln) (map (λ row. row.gln) rows)
 found_is_any gln [] = refl

@@ -1,4 +1,4 @@
--- What holds of rows holds of them in the order of their GLNs.
+-- Shows that what holds for rows still holds once they are sorted by GLN.
 use Rattle.std.proofs.Common.{◌≡◌, ℕ, ◌+◌, ◌≤◌, Bool, true, List, [], ◌∷◌, length, map, Ordering, refl, ap, ◌∙◌, arith}
 use Rattle.std.specs.List.{list_all, AllByRecursion}
 use Rattle.std.specs.Cmp.Lexicographic.{slice_cmp}
@@ -10,7 +10,7 @@ use Rattle.hub_parties.specs.KeyOrder.{bytes_cmp, Rises}
 use Rattle.hub_parties.specs.declared.row.SupplierRow.{SupplierRow}
 use Rattle.hub_register.specs.InOrder.{put, put_all}
 
--- what holds of the rows wherever the new one goes
+-- what holds for the rows wherever the new one is inserted
 by_place : (Q : List SupplierRow → Type 0) (o : Ordering) (a b c : List SupplierRow) → Q a → Q b → Q c → Q (match_ordering o a b c)
 by_place Q Less a b c x y z = x
 by_place Q Equal a b c x y z = y
@@ -59,7 +59,7 @@ module _ (P : SupplierRow → Type 0) where
   every-put_all [] done waiting put = put
   every-put_all (row ∷ rows) done waiting put = every-put_all rows _ waiting.1 (every-put row done waiting.0 put)
 
--- rows of rising GLNs
+-- rows with rising GLNs
 abbrev gln_cmp : SupplierRow → SupplierRow → Ordering
 gln_cmp r s = bytes_cmp r.gln s.gln
 

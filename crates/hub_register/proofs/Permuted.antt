@@ -1,4 +1,4 @@
--- Rows of different GLNs, put in the order of their GLNs, are the same rows.
+-- Shows that sorting rows with different GLNs by GLN keeps the same rows.
 use Rattle.std.proofs.Common.{◌≡◌, ℕ, ◌+◌, Bool, true, false, not, nat_lt, length, option_map, if◌then◌else◌, List, [], ◌∷◌}
 use Rattle.std.proofs.Common.{◌++◌, map, Ordering, Option, Some, None, Ok, refl, sym, ap, ◌∙◌}
 use Rattle.std.specs.List.{AllByRecursion, list_all}
@@ -27,7 +27,7 @@ use Rattle.hub_register.proofs.Ordered.{every-put, Apart}
 use Rattle.hub_register.proofs.Right.{Differ, differ-turned, differ}
 use Rattle.hub_register.proofs.SortedPrefixes.{same_glns, each_the_same}
 
--- a row at its place is the row and the others, where none of them has its GLN
+-- inserting a row gives that row and the others, if none of them has its GLN
 put-case : (o : Ordering) (row r : SupplierRow) (rs more : List SupplierRow) → is_eq o ≡ false → IsPermutation (row ∷ rs) more
     → IsPermutation (row ∷ r ∷ rs) (match_ordering o (row ∷ r ∷ rs) (row ∷ rs) (r ∷ more))
 put-case Less row r rs more differs ih = IsPermutation-refl (row ∷ r ∷ rs)
@@ -70,7 +70,7 @@ with_nothing : (rows : List SupplierRow) → rows ++ [] ≡ rows
 with_nothing [] = refl
 with_nothing (row ∷ rows) = ap (λ rest. row ∷ rest) (with_nothing rows)
 
--- what the third of the conditions says, where no fault stands against the rows
+-- what the third condition says if the rows have no fault
 third : (a b c : Bool) (f g h : RegisterFault) (rest : Option RegisterFault)
     → (if a then Some f else if b then Some g else if c then Some h else rest) ≡ None
     → c ≡ false

@@ -1,4 +1,4 @@
--- No prefix of one supplier of a register of a text begins a prefix of another.
+-- Shows that in the register of a text no prefix of one supplier begins a prefix of another.
 use Rattle.std.proofs.Common.{◌≡◌, ◌+◌, Bool, true, false, not, nat_lt, if◌then◌else◌, length, map, option_map, Option, Some}
 use Rattle.std.proofs.Common.{None, Ok, refl, subst}
 use Rattle.std.specs.List.{list_all}
@@ -21,7 +21,7 @@ was_unmapped : {A B : Type 0} (o : Option A) (f : A → B) → option_map f o �
 was_unmapped None f h = refl
 was_unmapped (Some a) f h = cc
 
--- what the last of the conditions says, where no fault stands against the rows
+-- what the last condition says if the rows have no fault
 last : (a b c d e : Bool) (f g h k l : RegisterFault) (rest : Option RegisterFault)
     → (if a then Some f else if b then Some g else if c then Some h else if d then Some k else if e then Some l else rest)
     ≡ None

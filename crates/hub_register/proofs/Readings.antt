@@ -1,7 +1,7 @@
--- What is read one after another.
+-- Combines what is read one after another.
 use Rattle.std.proofs.Common.{◌≡◌, List, [], ◌++◌, Option, Some, None, option_map, refl}
 
--- what was read, and what the rest says
+-- what was read so far, then the rest
 abbrev pub after : {X : Type 0} → List X → Option (List X) → Option (List X)
 after done rest = option_map (λ more. done ++ more) rest
 

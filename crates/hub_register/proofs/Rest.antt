@@ -1,4 +1,4 @@
--- The rows of the entries from a place on.
+-- Handles the rows of the entries from a position on.
 use Rattle.std.proofs.Common.{◌≡◌, ℕ, ◌+◌, ◌<◌, List, ◌∷◌, length, get_or, drop, map, true, ◌&&◌, ap, ◌∙◌}
 use Rattle.std.specs.List.{list_all}
 use Rattle.std.proofs.lemmas.List.{drop_more, get_or-map, length-map}
@@ -21,7 +21,7 @@ module _ (entries : List Entry) (i : ℕ) (entry : Entry) (within : i < length e
   pub first_is : map row_in (drop i entries) ≡ row_in (get_or entries i entry) ∷ map row_in (drop (i + 1) entries)
   first_is = ap (map row_in) (drop_more entries i entry within)
 
-  -- what a column has of the row there
+  -- the value of a column in the row at this position
   pub at_place : {A : Type 0} (f : SupplierRow → A) (column : List A) (x : A)
       → column ≡ map f (map row_in entries)
       → x ≡ get_or column i x

@@ -1,4 +1,4 @@
--- Rows that no fault stands against are those of a register, in the order of their GLNs too.
+-- Shows that rows without a fault form a register, also once they are sorted by GLN.
 use Rattle.std.proofs.Common.{◌≡◌, ℕ, suc, ◌≤◌, true, false, ◌&&◌, List, [], ◌∷◌, length, get_or, map, refl}
 use Rattle.std.proofs.Common.{ap, ap₂, ◌∙◌, arith, All, None}
 use Rattle.std.specs.List.{list_all, AllByRecursion}

@@ -1,4 +1,4 @@
--- Rows of which each GLN is below the next, and no two prefixes overlap.
+-- Handles rows whose GLNs rise and of whose prefixes no two overlap.
 use Rattle.std.proofs.Common.{◌≡◌, suc, ◌+◌, List, [], ◌∷◌, length, get_or, map, arith, true, subst}
 use Rattle.std.specs.List.{AllAdjacentBelow, AllByRecursion, flat_map}
 use Rattle.std.specs.declared.cmp.Ordering.TheVariants.{Less}

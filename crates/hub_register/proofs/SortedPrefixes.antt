@@ -1,4 +1,4 @@
--- Rows with the prefixes of each supplier by their bytes.
+-- Shows what sorting the prefixes of each supplier by their bytes keeps.
 use Rattle.std.proofs.Common.{◌≡◌, ℕ, get_or, ◌&&◌, None, List, [], ◌∷◌, map, All, refl, ap, subst, sym, ◌∙◌}
 use Rattle.std.specs.List.{list_all}
 use Rattle.std.specs.List.Sorted.{IsPermutation}
@@ -11,7 +11,7 @@ use Rattle.hub_parties.specs.declared.row.SupplierRow.{SupplierRow}
 use Rattle.hub_parties.proofs.ByBytes.{by_bytes-permutes, overlap_some-by_bytes}
 use Rattle.hub_register.specs.InOrder.{with_sorted_prefixes}
 
--- the prefixes of a row, by their bytes
+-- the prefixes of a row, sorted by their bytes
 abbrev pub sorted : SupplierRow → List (List ℕ)
 sorted row = by_bytes row.prefixes
 
@@ -33,7 +33,7 @@ pub all_sorted : (rows : List SupplierRow)
 all_sorted [] = refl
 all_sorted (row ∷ rows) = ap (λ rest. are_company_prefixes (sorted row) && rest) (all_sorted rows)
 
--- suppliers overlap where they did in the order of the text
+-- the same suppliers overlap as in the order of the text
 pub same_overlap : (rows : List SupplierRow) → first_overlap_between (map sorted rows) ≡ first_overlap_between (company_prefixes rows)
 same_overlap rows =
     first_pair-alike overlap_some sorted (λ (row : SupplierRow). row.prefixes) (λ r s. overlap_some-by_bytes r.prefixes s.prefixes) rows

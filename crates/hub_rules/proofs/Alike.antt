@@ -1,4 +1,4 @@
--- Whether others used an SSCC matters to a verdict only under the supplier's prefixes.
+-- Shows that SSCCs used by others matter to a verdict only under the supplier's own prefixes.
 use Rattle.std.proofs.Common.{◌≡◌, ℕ, Bool, true, not, inl, inr, List, [], ◌∷◌, Option, Some, refl, ◌∙◌, ap}
 use Rattle.gs1_ids.specs.Sscc.{under_some}
 use Rattle.edi_documents.specs.EdiGoods.declared.despatch.Despatch.{Despatch}

@@ -1,4 +1,4 @@
--- Which changes are those of one supplier's rows, judged on what it sees.
+-- Defines which changes belong to one supplier's rows, decided on what it sees.
 use Rattle.std.specs.Prelude.{◌≡◌, ◌≢◌, ℕ, true, false, List, [], ◌∷◌, ⊤}
 use Rattle.gs1_ids.specs.Sscc.{under_some}
 use Rattle.hub_parties.specs.declared.row.SupplierRow.{SupplierRow}
@@ -11,9 +11,9 @@ use Rattle.hub_tables.specs.declared.change.Change.TheVariants.{AddContent, AddR
 use Rattle.hub_rules.specs.Laws.{PartiesStay}
 use Rattle.hub_rules.specs.Sound.{IsOwn, Kept, Rooted}
 
--- No row of the hub, no key and no prefix. Rows name the supplier; a new pallet's SSCC is under its prefixes and new to it; a
--- pallet that is set, or gets a content or a receipt, is one of its own; and so is one of which the receipts go, from rows
--- that are as they are to be.
+-- The change concerns no hub row, no key and no prefix. Its row names the supplier; the SSCC of a new pallet is under
+-- the supplier's prefixes and new; and a pallet that is set, that gets a content or a receipt, or whose receipts are
+-- deleted from sound rows, is one of its own.
 abbrev pub Belongs : SupplierRow → Tables → Change → Type 0
 Belongs s state (AddHub row) = ⊥
 Belongs s state (SetHub row) = ⊥
@@ -33,20 +33,20 @@ Belongs s state (Remember row) = row.supplier ≡ s.gln
 Belongs s state (AddMail row) = row.supplier ≡ s.gln
 Belongs s state (SetMail row) = row.supplier ≡ s.gln
 
--- each on what the earlier ones left
+-- each change belongs, on what the earlier ones left
 abbrev pub BelongAll : SupplierRow → Tables → List Change → Type 0
 BelongAll s state [] = ⊤
 BelongAll s state (change ∷ changes) = Belongs s state change × BelongAll s (apply change state) changes
 
--- The supplier sees its changes done to what it saw, nobody else sees them, the register is what it was, and the tables still
--- keep suppliers apart.
+-- The supplier sees its changes applied to what it saw, no one else sees them, the register is the same, and the tables
+-- still keep suppliers apart.
 pub record Follows (suppliers : List SupplierRow) (s : SupplierRow) (t after : Tables) (changes : List Change) : Type 0 where
   pub seen : view s.gln after ≡ apply_all changes (view s.gln t)
   pub unseen : (other : List ℕ) → other ≢ s.gln → view other after ≡ view other t
   pub parties : PartiesStay t after
   pub rooted : Rooted suppliers after
 
--- changes that are the supplier's, and leave its rows so
+-- the changes belong to the supplier, and keep its rows its own and sound
 pub record Keeps (s : SupplierRow) (state : Tables) (changes : List Change) : Type 0 where
   pub belong : BelongAll s state changes
   pub own : IsOwn s.gln (apply_all changes state)

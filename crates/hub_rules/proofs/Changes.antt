@@ -1,4 +1,4 @@
--- What a change of one supplier's rows does to what each supplier sees.
+-- Shows what a change of one supplier's rows does to what each supplier sees.
 use Rattle.std.proofs.Common.{◌≡◌, ◌≢◌, ℕ, true, false, not, ◌&&◌, inl, inr, List, [], ◌∷◌, filter, Some, refl, sym}
 use Rattle.std.proofs.Common.{◌∙◌, ap, subst, arith}
 use Rattle.std.specs.List.{AllByRecursion}
@@ -29,7 +29,7 @@ use Rattle.hub_rules.proofs.Belonging.{Belongs, BelongAll, Follows}
 use Rattle.hub_rules.proofs.OnPallets.{OnPallet, contents_after, receipts_after}
 use Rattle.hub_rules.proofs.Prefixes.{ours, under_held, holds_seen, holds_all, holds_none}
 
--- a pallet set keeps its SSCC and supplier, so each supplier holds what it held
+-- setting a pallet keeps its SSCC and its supplier, so each supplier still has the same pallets
 holds_set : (other : List ℕ) (r : PalletRow) (ps : List PalletRow) (x : List ℕ)
     → AllByRecursion (λ q. same q.sscc r.sscc ≡ true → q.supplier ≡ r.supplier) ps
     → holds other (replace (same_pallet r) r ps) x ≡ holds other ps x
@@ -45,7 +45,7 @@ holds_set other r (p ∷ ps) x all =
       | inr e ↦ grind (arith, e, ih)
     ]
 
--- a new pallet's SSCC is in no content and no receipt
+-- no content and no receipt has the SSCC of a new pallet
 holds_new : (other : List ℕ) (r : PalletRow) (t : Tables) (x : List ℕ)
     → has_pallet t r.sscc ≡ false
     → has_pallet t x ≡ true
@@ -66,7 +66,7 @@ module _ (suppliers : List SupplierRow) (free : PrefixFree (company_prefixes sup
   below_held : (x : List ℕ) → has_pallet (view s.gln t) x ≡ true → under_some x s.prefixes ≡ true
   below_held x h = under_held suppliers free s.gln s known t.pallets x rooted.pallets (held x h)
 
-  -- what is used anywhere under the supplier's prefixes is used by the supplier
+  -- an SSCC under the supplier's prefixes is used somewhere exactly if the supplier uses it
   pub used_seen : (x : List ℕ) → under_some x s.prefixes ≡ true → has_pallet t x ≡ has_pallet (view s.gln t) x
   used_seen x below = holds_all s.gln t.pallets x (mine x below) ∙ sym (holds_seen s.gln t.pallets x)
 
@@ -259,7 +259,7 @@ module _ (suppliers : List SupplierRow) (free : PrefixFree (company_prefixes sup
     receipts = receipts_after t c (on_pallet c h) rooted.receipts;
   }
 
--- nothing of the register is changed
+-- the register does not change
 pub parties_stay : (s : SupplierRow) (state t : Tables) (c : Change) → Belongs s state c → PartiesStay t (apply c t)
 parties_stay s state t (AddHub r) h = absurd h
 parties_stay s state t (SetHub r) h = absurd h

@@ -1,4 +1,4 @@
--- The rules at small states.
+-- Shows the rules by examples of small states.
 use Rattle.std.proofs.Common.{◌≡◌, ℕ, ◌+◌, nat_lt, Bool, true, false, List, [], ◌∷◌, ◌++◌}
 use Rattle.std.proofs.Common.{length, map, Option, Some, None, codes, refl, ◌∙◌}
 use Rattle.edi_documents.specs.EdiOrders.declared.order.Order.{Order}
@@ -64,7 +64,7 @@ next_sscc = codes "340123455000000029"
 abbrev theirs : List ℕ
 theirs = codes "387123450000000012"
 
--- a line of the order, with what is open, refused and cancelled of it, and its answer
+-- a line of the order, with its open, refused and cancelled quantities and its answer
 abbrev line : ℕ → ℕ → ℕ → ℕ → ℕ → Answered → LineRow
 line n ordered open_qty refused cancelled answer = record {
   supplier = gln;
@@ -84,14 +84,14 @@ with_lines lines = record empty { orders = record { supplier = gln; number = num
 abbrev pallet : PalletRow
 pallet = record { sscc = sscc; supplier = gln; advice = codes "DA1"; received = arrival_number Announced }
 
--- what is on the pallet: so much of line 1
+-- puts this quantity of line 1 on the pallet
 abbrev with_content : ℕ → Tables → Tables
 with_content quantity t = record t {
   pallets = pallet ∷ [];
   contents = record { sscc = sscc; place = 1; number = number; line = 1; quantity = quantity } ∷ [];
 }
 
--- an answer to a line that is ordered with 48 and waits, 12 of it despatched
+-- an answer to a line that waits, with 48 ordered and 12 of it despatched
 abbrev answered : Option ℕ → List ℕ → ℕ → Verdict
 answered n gtin quantity =
     judge_answer number (record { order_line = n; gtin = gtin; answer = says.Changed quantity })
@@ -147,7 +147,7 @@ no_order_to_answer : judge_new_response
     ≡ Refuse codes_of.NoOrder
 no_order_to_answer = refl
 
--- a despatch of units to a line of 48, 24 of it open
+-- a despatch of units for a line of 48, of which 24 are open
 abbrev of_line : ℕ → DespatchLine
 of_line quantity = record { order = number; order_line = None; gtin = article; quantity = quantity }
 
@@ -198,7 +198,7 @@ item_before_open : despatched_to (codes "DA2") unused
     ≡ Refuse codes_of.OtherArticle
 item_before_open = refl
 
--- a line number that the order does not have; and an article of two of its lines, where none is given
+-- a line number that the order does not have; and an article of two of its lines, if no number is given
 no_line_of_the_number : despatched_to (codes "DA2") unused (
     record { sscc = sscc; lines = record (of_line 1) { order_line = Some 2 } ∷ [] } ∷ []) ≡ Refuse codes_of.NoLine
 no_line_of_the_number = refl
@@ -208,7 +208,7 @@ two_lines_of_the_item : judge_new_despatch alpha unused (
     with_lines (line 1 48 24 24 0 Changed ∷ line 2 48 24 24 0 Changed ∷ [])) ≡ Refuse codes_of.NoLine
 two_lines_of_the_item = refl
 
--- one SSCC in two units of a message
+-- the same SSCC in two units of a message
 sscc_of_an_earlier_unit : despatched_to (codes "DA2") unused
     (record { sscc = sscc; lines = of_line 1 ∷ [] } ∷ record { sscc = sscc; lines = of_line 1 ∷ [] } ∷ [])
     ≡ Refuse codes_of.SsccUsed
@@ -217,7 +217,7 @@ sscc_of_an_earlier_unit = refl
 abbrev incoming : List ℕ → List ℕ → IncomingMessage
 incoming control content = record { control = control; message = codes "1"; content = content; moment = 1748942400; decimal = 46 }
 
--- a receipt of units, that takes the place of those before or not
+-- a receipt of units that replaces earlier ones, or does not
 abbrev received_on : Bool → Tables → List ReceiptUnit → Verdict
 received_on replaces state units =
     judge_new_receipt gln (incoming (codes "1005") []) (codes "body")
@@ -226,14 +226,14 @@ received_on replaces state units =
 abbrev announced : Tables
 announced = with_content 12 (with_lines (line 1 48 24 12 0 Changed ∷ []))
 
--- on what is on the pallet
+-- for what is on the pallet
 abbrev received_of : List ReceiptUnit → Verdict
 received_of = received_on false announced
 
 abbrev received_line : List ℕ → ℕ → ℕ → ReceiptLine
 received_line gtin accepted returned = record { gtin = gtin; accepted = accepted; returned = returned; destroyed = 0 }
 
--- two lines of one article are one receipt
+-- two lines of the same article give one receipt
 sums_of_items : received_of
     (record { sscc = sscc; lines = received_line article 6 1 ∷ received_line other_article 3 0 ∷ received_line article 4 0 ∷ [] }
     ∷ [])
@@ -264,7 +264,7 @@ received_twice_before_unknown : received_of (record { sscc = sscc; lines = recei
     ≡ Refuse codes_of.PalletReceived
 received_twice_before_unknown = refl
 
--- The pallet is received with two articles, and then by an advice that replaces, with twelve of one of them alone.
+-- The pallet is received with two articles, and then, by an advice that replaces, with twelve of only one of them.
 abbrev first_units : List ReceiptUnit
 first_units = record { sscc = sscc; lines = received_line article 10 1 ∷ received_line other_article 3 0 ∷ [] } ∷ []
 
@@ -299,7 +299,7 @@ arrival_replaced = refl
 both_told_in_the_mailbox : map (λ (entry : MailRow). entry.number) replaced.mail ≡ 1 ∷ 2 ∷ []
 both_told_in_the_mailbox = refl
 
--- the receipts go between the pallet and the new sums
+-- the deletion of the receipts comes between the pallet and the new totals
 replaced_by : received_on true once_received units_of_twelve
     ≡ Accept (
     AddMail (record {
@@ -332,7 +332,7 @@ no_pallet_to_receive : received_on false replaced (record { sscc = next_sscc; li
     ≡ Refuse codes_of.NoPallet
 no_pallet_to_receive = refl
 
--- a pallet that was not received is received so
+-- a pallet that was not received before is received in this way too
 replaced_at_first : (left_by (λ t. received_on true t units_of_twelve) announced).pallets ≡ record pallet { received = 2 } ∷ []
 replaced_at_first = refl
 
@@ -340,7 +340,7 @@ sums_at_first : (left_by (λ t. received_on true t units_of_twelve) announced).r
     ≡ record { sscc = sscc; gtin = article; accepted = 12; returned = 0; destroyed = 0 } ∷ []
 sums_at_first = refl
 
--- what was received of another pallet stays, and so does the pallet
+-- the receipts of another pallet stay, and so does that pallet
 abbrev beside : Tables
 beside = record once_received {
   pallets = once_received.pallets ++ record pallet { sscc = next_sscc; received = arrival_number Received } ∷ [];
@@ -358,7 +358,7 @@ other_pallets_stay : (left_by (λ t. received_on true t units_of_twelve) beside)
     ≡ record pallet { received = 2 } ∷ record pallet { sscc = next_sscc; received = 1 } ∷ []
 other_pallets_stay = refl
 
--- a cancellation of line 1, 24 of it open, where C1 with ten is remembered, or nothing
+-- a cancellation of line 1, of which 24 are open, when C1 with ten is remembered, or nothing
 abbrev cancelled : List ℕ → List ℕ → ℕ → Cancel
 cancelled reference order quantity = record { supplier = gln; reference = reference; order = order; line = 1; quantity = quantity }
 
@@ -424,7 +424,7 @@ order_known = refl
 buyer_before_supplier : judge_order gln None (incoming (codes "1002") (codes "content")) (codes "body") order empty ≡ Refuse codes_of.Buyer
 buyer_before_supplier = refl
 
--- an advice that is there, under its references and under others
+-- an advice that exists already, under its references and under others
 abbrev advised : Tables
 advised =
     record (with_lines []) {
@@ -462,7 +462,7 @@ not_the_caller : judge_response buyer (Some alpha) (incoming (codes "S1") []) (r
     ≡ Refuse codes_of.Supplier
 not_the_caller = refl
 
--- the letters of lines: one that waits is accepted, refused, and changed
+-- the letters of lines: one that waits is accepted, refused and changed
 abbrev answered_so : LineAnswer → Verdict
 answered_so answer =
     judge_answer number (record { order_line = Some 1; gtin = article; answer = answer })
@@ -488,7 +488,7 @@ answer_before_range = refl
 range_before_item : answered (Some 1) other_article 49 ≡ Refuse codes_of.OutOfRange
 range_before_item = refl
 
--- what is remembered of a supplier's message, and of the retailer's
+-- what is remembered of a supplier's message, and of one of the retailer's
 abbrev response : Response
 response = record { number = codes "R1"; buyer = buyer; supplier = gln; order = number; answer = answers.AllAccepted }
 
@@ -518,7 +518,7 @@ receipt_remembered :
     ∷ [])
 receipt_remembered = refl
 
--- another message of the same interchange, and one of the other side under the same references, are new
+-- another message of the same interchange, and one of the other side under the same references, are both new
 abbrev remembering : ℕ → List ℕ → Tables
 remembering side message =
     record empty {
@@ -536,7 +536,7 @@ other_side_is_new : judge_order buyer (Some alpha) (incoming (codes "1001") (cod
     ≡ judge_order buyer (Some alpha) (incoming (codes "1001") (codes "content")) (codes "body") order empty
 other_side_is_new = refl
 
--- the checks of a mailbox that is full, whatever else is there
+-- the checks for a full mailbox, whatever else the tables hold
 refused_at : (test : Bool) (code : Code) (rest : Verdict) → test ≡ true → refuse_if test code rest ≡ Refuse code
 refused_at true code rest h = refl
 refused_at false code rest h = cc

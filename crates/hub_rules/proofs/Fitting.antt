@@ -1,4 +1,5 @@
--- What the rules accept fits the tables of all: they rise by their keys after it, and before rows go.
+-- Shows that what the rules accept fits the tables of all suppliers: keys rise strictly after it, and before rows are
+-- deleted.
 use Rattle.std.proofs.Common.{◌≡◌, ◌≢◌, ℕ, inl, inr, List, [], ◌∷◌, Some, sym, subst}
 use Rattle.gs1_ids.specs.Overlap.{PrefixFree}
 use Rattle.hub_parties.specs.KeyOrder.{Rises}
@@ -27,7 +28,7 @@ parties_still_rise t after stay rise = record {
 
 module _ (suppliers : List SupplierRow) (free : PrefixFree (company_prefixes suppliers)) (s : SupplierRow)
     (known : supplier_row suppliers s.gln ≡ Some s) where
-  -- what each other supplier sees is as it is to be
+  -- what each other supplier sees is sound
   abbrev Others : Tables → Type 0
   Others t = (other : List ℕ) → other ≢ s.gln → Kept (view other t)
 

@@ -1,4 +1,4 @@
--- Rows that are the supplier's and as they are to be, and what a rule finds among them.
+-- Describes rows that are the supplier's and sound, and what a rule finds among them.
 use Rattle.std.proofs.Common.{◌≡◌, ℕ, true, ◌==◌, List, [], ◌∷◌, filter, Option, Some, None}
 use Rattle.std.specs.List.{AllByRecursion}
 use Rattle.hub_parties.specs.declared.row.SupplierRow.{SupplierRow}
@@ -66,7 +66,7 @@ good_lines s state good = joined state.lines good.own.lines good.kept.line_order
     joined [] a b c = tt
     joined (line ∷ lines) a b c = (record { whose = a.0; known = b.0; balance = c.0 }, joined lines a.1 b.1 c.1)
 
--- a line may be set where it stays the supplier's, known and balanced
+-- a line may be set if it stays the supplier's, known and balanced
 pub leaves_set_line : (s : SupplierRow) (state : Tables) (line : LineRow)
     → KeptOwn s state
     → GoodLine s state line

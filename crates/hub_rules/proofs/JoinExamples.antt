@@ -1,4 +1,4 @@
--- The rules of joins at small registers, and at full ones.
+-- Shows the rules of joins by examples of small registers and of full ones.
 use Rattle.std.proofs.Common.{◌≡◌, ℕ, true, false, List, [], ◌∷◌, Some, None, codes, replicate, refl}
 use Rattle.hub_parties.specs.Rows.{RegisterRows, rows_by}
 use Rattle.hub_parties.specs.declared.row.SupplierRow.{SupplierRow}
@@ -49,7 +49,7 @@ a_known_gln_is_told_before_an_overlap = refl
 a_known_gln_is_told_before_a_full_register : judged (replicate 1000 alpha) hub (codes "4006381" ∷ []) ≡ Refuse GlnKnown
 a_known_gln_is_told_before_a_full_register = refl
 
--- B19: of each prefix with each, both ways
+-- B19: each prefix with each, both ways
 it_begins_anothers : judged (alpha ∷ []) gamma (codes "4012" ∷ []) ≡ Refuse PrefixOverlaps
 it_begins_anothers = refl
 
@@ -83,7 +83,7 @@ one_more_does_not = refl
 an_overlap_is_told_before_a_full_register : judged (replicate 1000 alpha) gamma (codes "4012" ∷ []) ≡ Refuse PrefixOverlaps
 an_overlap_is_told_before_a_full_register = refl
 
--- what a join is: prefixes in whatever order, none twice, one to eight, and a key of 8 bytes at least
+-- what a join is: prefixes in any order, none twice, one to eight of them, and a key of at least 8 bytes
 prefixes_are_put_in_order : join_of gamma gammas_key (codes "9501101" ∷ codes "4006381" ∷ codes "40063812" ∷ []) ≡
     Some (record { gln = gamma; prefixes = codes "4006381" ∷ codes "40063812" ∷ codes "9501101" ∷ []; key = gammas_key })
 prefixes_are_put_in_order = refl

@@ -1,4 +1,4 @@
--- A supplier that joins.
+-- Shows what a supplier that joins does to sound tables.
 use Rattle.std.proofs.Common.{◌≡◌, ℕ, suc, ◌<◌, ◌≤◌, nat_le, Bool, true, false, cond, ◌||◌, ◌&&◌, List, [], ◌∷◌}
 use Rattle.std.proofs.Common.{length, map, Some, None, refl, sym, ◌∙◌, ap, subst, arith}
 use Rattle.std.specs.List.{AllByRecursion, list_any, list_all}
@@ -46,7 +46,7 @@ use Rattle.hub_rules.specs.declared.verdict.Verdict.TheVariants.{Accept}
 use Rattle.hub_rules.proofs.Keeping.{kept_others}
 use Rattle.hub_rules.proofs.Verdicts.{not_refused}
 
--- Lists with one more.
+-- Lists with one more element.
 module _ {X : Type 0} (cmp : X → X → Ordering) where
   length_put : (xs : List X) (x : X) → length (put cmp x xs) ≡ suc (length xs)
   length_put [] x = refl
@@ -111,7 +111,7 @@ module _ (hub retailer key : List ℕ) (suppliers : List SupplierRow) (row : Sup
       let rest = and_parts (are_company_prefixes row.prefixes) (is_party_key row.key) parts.1 in
       (parts.0, rest.0, rest.1)
 
-  -- it is none of the GLNs
+  -- its GLN is none of the existing ones
   not_hub : (same row.gln hub ≡ false) × (same row.gln retailer ≡ false) × (list_any (same row.gln) (map gln_of suppliers) ≡ false)
   not_hub =
       let one = or_parts (same row.gln hub) (list_any (same row.gln) (retailer ∷ map gln_of suppliers)) unknown in
@@ -162,7 +162,7 @@ module _ (hub retailer key : List ℕ) (suppliers : List SupplierRow) (row : Sup
         ∙ none_of (same row.gln) (map gln_of suppliers) not_hub.2 text there)));
   }
 
--- The rows of the parties alone are others.
+-- Only the rows of the parties change.
 pub kept_beside : (t after : Tables) → OnlyParties t after → (gln : List ℕ) → Kept (view gln t) → Kept (view gln after)
 kept_beside t after only gln kept =
     subst (λ u. Kept (view gln u)) (sym only)
@@ -175,7 +175,7 @@ enrolled t holds = record {
   prefixes_had = holds.prefixes_had;
 }
 
--- A supplier whom a register takes that tables hold.
+-- A supplier that the register of sound tables accepts.
 module _ (row : SupplierRow) (t : Tables) (here : SoundHub t) (may : is_join row ≡ true) (changes : List Change)
     (accepted : judge_join (register_of t) row ≡ Accept changes) where
   abbrev holds : HoldsRegister t
@@ -304,7 +304,7 @@ module _ (row : SupplierRow) (t : Tables) (here : SoundHub t) (may : is_join row
   pub joined_by : JoinedBy row t (apply_all changes t)
   joined_by = subst (JoinedBy row t) (sym (row_added row t) ∙ ap (λ cs. apply_all cs t) rules.3) joined_row
 
--- Tables with the rows of a register alone are sound.
+-- Tables that have only the rows of a register are sound.
 pub founded_sound : (register : RegisterRows) → IsRegister register → SoundHub (founded register)
 founded_sound register right =
     let holds = holds_register register right in

@@ -1,4 +1,4 @@
--- What each change has to be for the rows of a supplier to stay as they are to be.
+-- Shows what each change must be like for a supplier's rows to stay sound.
 use Rattle.std.proofs.Common.{◌≡◌, ℕ, ◌+◌, true, false, ◌&&◌, ◌==◌, inl, inr, List, [], ◌∷◌, filter, length, refl, sym, ◌∙◌}
 use Rattle.std.proofs.Common.{ap, ap₂, subst, arith}
 use Rattle.std.specs.List.{AllByRecursion, list_any}
@@ -30,7 +30,7 @@ use Rattle.hub_rules.proofs.KeptLists.{single_replace, numbered_put, contents_pu
 use Rattle.hub_rules.proofs.KeptLists.{receipts_put, is_received, received_more, single_put}
 
 module _ (state : Tables) (kept : Kept state) where
-  -- only rows change on which no row of another kind rests
+  -- only rows change on which no rows of another kind depend
   pub kept_others : {after : Tables}
       → after ≡ record after {
         orders = state.orders;
@@ -155,7 +155,7 @@ module _ (state : Tables) (kept : Kept state) where
     balanced = all_replace (Balanced state) (same_line r) r state.lines kept.balanced balance;
   }
 
-  -- a line set together with a content that names it
+  -- a line that is set together with a content that names it
   pub kept_despatched : (s : List ℕ) (r : LineRow) (c : ContentRow)
       → InOrder content_cmp state.contents
       → AllByRecursion (λ l. l.supplier ≡ s) state.lines

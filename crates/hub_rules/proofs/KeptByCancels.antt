@@ -1,4 +1,4 @@
--- What cancellations leave of a supplier's rows.
+-- Shows that cancellations keep a supplier's rows sound.
 use Rattle.std.proofs.Common.{◌≡◌, ℕ, ◌+◌, ◌-◌, nat_lt, false, not, List, [], ◌∷◌, Some, refl, arith}
 use Rattle.std.proofs.lemmas.Bool.Decides.{nat_tests}
 use Rattle.hub_parties.specs.declared.row.SupplierRow.{SupplierRow}

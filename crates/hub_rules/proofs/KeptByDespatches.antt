@@ -1,4 +1,4 @@
--- What despatches leave of a supplier's rows.
+-- Shows that despatch advices keep a supplier's rows sound.
 use Rattle.std.proofs.Common.{◌≡◌, ℕ, ◌+◌, ◌-◌, ◌≤◌, nat_lt, Bool, true, false, not, ◌||◌, List, [], ◌∷◌, Some, refl, ◌∙◌, ap, arith}
 use Rattle.std.specs.List.{AllByRecursion}
 use Rattle.std.proofs.lemmas.Bool.{not-false, or_parts, or_right}
@@ -45,7 +45,7 @@ balanced_despatched : (ordered open_qty refused cancelled sent quantity : ℕ)
     → ordered ≡ (open_qty - quantity) + refused + cancelled + (sent + quantity)
 balanced_despatched ordered open_qty refused cancelled sent quantity h enough = grind (arith, nat_tests)
 
--- while a pallet is filled: it is there, with contents up to a place
+-- while a pallet is filled: it exists and has contents up to place `n`
 record Filled (s : SupplierRow) (sscc : List ℕ) (n : ℕ) (state : Tables) : Type 0 where
   pub good : KeptOwn s state
   pub there : has_pallet state sscc ≡ true

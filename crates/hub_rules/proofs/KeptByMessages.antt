@@ -1,4 +1,4 @@
--- What the checks that stand in front of those of a message or a cancellation leave of a supplier's rows.
+-- Shows that the checks before those of a message or a cancellation keep a supplier's rows sound.
 use Rattle.std.proofs.Common.{◌≡◌, ℕ, true, false, cond, not, ◌⊎◌, inl, inr, List, [], ◌∷◌, Option, Some, None, refl}
 use Rattle.hub_parties.specs.declared.row.SupplierRow.{SupplierRow}
 use Rattle.hub_tables.specs.Rows.{same}

@@ -1,4 +1,4 @@
--- What orders leave of a supplier's rows.
+-- Shows that orders keep a supplier's rows sound.
 use Rattle.std.proofs.Common.{◌≡◌, ℕ, nat_eq, true, false, ◌&&◌, ◌||◌, ◌==◌, inl, inr, List, [], ◌∷◌, map, filter, Some}
 use Rattle.std.proofs.Common.{sum_by, refl, sym, ◌∙◌, ap, arith, length}
 use Rattle.std.specs.List.{AllByRecursion, list_any}
@@ -33,7 +33,7 @@ use Rattle.hub_rules.proofs.Keeping.{kept_order, kept_line, kept_mail}
 use Rattle.hub_rules.proofs.KeptByMessages.{leads_message}
 use Rattle.hub_rules.proofs.Verdicts.{not_refused, Leaves, Leads, leaves_given, leaves_nothing, leaves_next}
 
--- where a line is known its order is
+-- if a line exists, its order does
 order_of_line : (state : Tables) (number : List ℕ) (n : ℕ) (lines : List LineRow)
     → AllByRecursion (λ line. knows_order state line.number ≡ true) lines
     → list_any (λ line. same line.number number && (line.line == n)) lines ≡ true
@@ -45,7 +45,7 @@ order_of_line state number n (l ∷ ls) all h =
       | inr e ↦ order_of_line state number n ls all.1 e
     ]
 
--- no content names an order that is not there
+-- no content names an order that does not exist
 unnamed : (state : Tables)
     → Kept state
     → (number : List ℕ)
@@ -83,7 +83,7 @@ row_of supplier number line = record {
 }
 
 module _ (s : SupplierRow) (number : List ℕ) where
-  -- lines of other numbers are not known after one line more
+  -- after one more line, lines with other numbers still do not exist
   still_unknown : (state : Tables) (line : OrderLine) (others : List OrderLine)
       → list_any (nat_eq line.line) (map (λ other. other.line) others) ≡ false
       → AllByRecursion (λ other. knows_line state number other.line ≡ false) others

@@ -1,4 +1,4 @@
--- What receipts leave of a supplier's rows.
+-- Shows that receiving advices keep a supplier's rows sound.
 use Rattle.std.proofs.Common.{◌≡◌, ℕ, Bool, true, false, cond, not, ◌&&◌, ◌||◌, inl, inr, List, [], ◌∷◌, ◌++◌, map, filter, Some}
 use Rattle.std.proofs.Common.{refl, sym, ◌∙◌, ap, ap₂, subst, arith, length}
 use Rattle.std.specs.List.{AllByRecursion, list_any}
@@ -40,7 +40,7 @@ use Rattle.hub_rules.proofs.OnPallets.{pallet_stays}
 use Rattle.hub_rules.proofs.Verdicts.{not_refused, was_given, Leaves, Leads, leaves_given, leaves_nothing, leaves_next}
 use Rattle.hub_rules.proofs.Verdicts.{leads_in_order, leaves_in_turn}
 
--- what does not come in a list does not come in a part of it
+-- what does not occur in a list does not occur in a part of it
 any_less : {X : Type 0} (q p : X → Bool) (xs : List X) → list_any q xs ≡ false → list_any q (filter p xs) ≡ false
 any_less q p [] h = refl
 any_less q p (x ∷ xs) h =
@@ -56,7 +56,7 @@ single_filter alike p (x ∷ xs) a =
     elim (p x) as (λ v. Single alike (cond v (x ∷ filter p xs) (filter p xs)))
     [ true ↦ (any_less (alike x) p xs a.0, single_filter alike p xs a.1) | false ↦ single_filter alike p xs a.1 ]
 
--- the receipts of a pallet go
+-- deleting the receipts of a pallet
 kept_cleared : (state : Tables) (sscc : List ℕ) → Kept state → Kept (apply (ClearReceipts sscc) state)
 kept_cleared state sscc kept =
     kept_goods state kept refl kept.pallets
@@ -72,7 +72,7 @@ gone gtin (other ∷ others) =
     let turn = bytes_eq-sym gtin other in
     elim (decide (same other gtin)) [ inl e ↦ grind (arith, e, ih) | inr e ↦ grind (arith, e, turn, ih) ]
 
--- each article comes once
+-- each article occurs once
 gtins_single : (lines : List ReceiptLine) → Single same (gtins lines)
 gtins_single [] = tt
 gtins_single (line ∷ lines) =
@@ -115,7 +115,7 @@ module _ (s : SupplierRow) where
         still_lacking sscc lines gtin state good others parts.1 lacking.1,
       )
 
-  -- receipts of items that are all different, on a received pallet that has none of them
+  -- receipts of different articles, for a received pallet that has none of them
   leaves_receipts : (sscc : List ℕ) (lines : List ReceiptLine) (gtins : List (List ℕ)) (state : Tables)
       → KeptOwn s state
       → has_pallet state sscc ≡ true
@@ -131,7 +131,7 @@ module _ (s : SupplierRow) where
       (kept_receipt state good.kept row good.own.ordered.receipts received lacking.0)) there received single.1
       (still_lacking sscc lines gtin state good gtins single.0 lacking.1))
 
-  -- a pallet of the supplier is received, and then come changes of what is received
+  -- a pallet of the supplier is received, then its receipts change
   leaves_arrived : (sscc : List ℕ) (row : PalletRow) (state : Tables) (later : List Change)
       → KeptOwn s state
       → row.sscc ≡ sscc
@@ -152,7 +152,7 @@ module _ (s : SupplierRow) where
       (pallet_stays sscc state (SetPallet row) there)
       (ap (was_received after) (sym which) ∙ received_now row state.pallets now here))
 
-  -- no receipt is there of a pallet that was not received
+  -- a pallet that was not received has no receipts
   none_yet : (sscc : List ℕ) (state : Tables)
       → KeptOwn s state
       → was_received state sscc ≡ false

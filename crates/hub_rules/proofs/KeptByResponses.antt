@@ -1,4 +1,4 @@
--- What responses leave of a supplier's rows.
+-- Shows that order responses keep a supplier's rows sound.
 use Rattle.std.proofs.Common.{◌≡◌, ℕ, ◌+◌, ◌-◌, nat_lt, false, not, List, [], ◌∷◌, map, Some, arith}
 use Rattle.std.specs.List.{AllByRecursion}
 use Rattle.std.proofs.lemmas.Bool.{or_parts}
@@ -79,7 +79,7 @@ module _ (s : SupplierRow) where
       leaves_given s (KeptOwn s) state (SetLine line ∷ []) changes c.1
       (leaves_set_line s state line good (good_answer said.answer state found.0 fine b.0))
 
-  -- several lines are set, each of them as it may be
+  -- several lines are set, each as allowed
   leaves_set_lines : (f : LineRow → LineRow) (lines : List LineRow) (state : Tables)
       → KeptOwn s state
       → AllByRecursion (λ line. GoodLine s state (f line)) lines

@@ -1,4 +1,4 @@
--- What messages and cancellations leave of a supplier's rows, and what they are remembered by, whichever they are.
+-- Shows that messages and cancellations of every kind keep a supplier's rows sound, and what they are remembered by.
 use Rattle.std.proofs.Common.{Some}
 use Rattle.edi_documents.specs.declared.document.Document.{Document}
 use Rattle.edi_documents.specs.declared.document.Document.TheVariants.{Order, Response, Despatch, Receipt}

@@ -1,4 +1,4 @@
--- Lists of rows that are numbered, or in which no two are alike, with one more row or one in place of another.
+-- Shows what inserting or replacing a row does to lists that are numbered, or in which no key occurs twice.
 use Rattle.std.proofs.Common.{◌≡◌, ℕ, ◌+◌, ◌<◌, ◌≤◌, Bool, true, false, cond, not, ◌&&◌, ◌||◌, ◌==◌, inl, inr, List, []}
 use Rattle.std.proofs.Common.{◌∷◌, ◌++◌, filter, find, Some, length, sum_by, refl, sym, ◌∙◌, ap, ap₂, subst, arith}
 use Rattle.std.specs.List.{AllByRecursion, list_any}
@@ -22,9 +22,9 @@ use Rattle.hub_tables.proofs.KindOrders.{content_total, receipt_total}
 use Rattle.hub_tables.proofs.Lists.{any_replaced, decide, same_is, same_if}
 use Rattle.hub_rules.specs.Sound.{Numbered, Single, same_place, same_gtin, same_sscc}
 
--- A list with one more.
+-- A list with one more element.
 module _ {X : Type 0} (cmp : X → X → Ordering) where
-  -- one that is like none of them
+  -- an element with a key that none of them has
   pub single_put : (alike : X → X → Bool)
       → ((x y : X) → alike x y ≡ alike y x)
       → (xs : List X) (x : X)
@@ -90,7 +90,7 @@ mail_before s n (x ∷ xs) m a own whose h = (
   mail_before s (n + 1) xs m a.1 own.1 whose (omega arith),
 )
 
--- the next number of a supplier stands last
+-- the supplier's next number comes last
 pub numbered_put : (s : List ℕ) (ms : List MailRow) (m : MailRow)
     → Numbered 0 ms
     → AllByRecursion (λ x. x.supplier ≡ s) ms
@@ -101,7 +101,7 @@ numbered_put s ms m a own whose h =
     subst (Numbered 0) (sym (put_last mail_cmp ms m (mail_before s 0 ms m a own whose (omega arith))))
     (numbered_push 0 ms m a (omega arith))
 
--- what the contents of one test amount to, with one more
+-- the total of the contents that pass a test, after one more
 pub sent_more : (p : ContentRow → Bool) (cs : List ContentRow) (c : ContentRow)
     → InOrder content_cmp cs
     → p c ≡ true
@@ -115,7 +115,7 @@ pub sent_same : (p : ContentRow → Bool) (cs : List ContentRow) (c : ContentRow
     → sum_by (λ c. c.quantity) (filter p (put content_cmp c cs)) ≡ sum_by (λ c. c.quantity) (filter p cs)
 sent_same p cs c h = ap (sum_by (λ c. c.quantity)) (filter_put_out content_cmp p cs c h)
 
--- one that is like none of its group, where those of each group are apart
+-- an element with a key that none of its group has, if keys within each group differ
 module _ {X : Type 0} {cmp : X → X → Ordering} (total : IsTotalOrder cmp) (group : X → List ℕ) (alike : X → X → Bool)
     (turn : (x y : X) → alike x y ≡ alike y x) where
   grouped_put : (text : List ℕ) (xs : List X) (x : X)
@@ -133,7 +133,7 @@ module _ {X : Type 0} {cmp : X → X → Ordering} (total : IsTotalOrder cmp) (g
         | inr e ↦ subst (Single alike) (sym (filter_put_out cmp (λ y. same (group y) text) xs x e)) single
       ]
 
--- a content at a place that none on its pallet has
+-- a content at a place that no content of its pallet has
 pub contents_put : (sscc : List ℕ) (cs : List ContentRow) (c : ContentRow)
     → InOrder content_cmp cs
     → Single same_place (filter (λ y. same y.sscc sscc) cs)
@@ -141,7 +141,7 @@ pub contents_put : (sscc : List ℕ) (cs : List ContentRow) (c : ContentRow)
     → Single same_place (filter (λ y. same y.sscc sscc) (put content_cmp c cs))
 contents_put = grouped_put content_total (λ (c : ContentRow). c.sscc) same_place (λ x y. nat_eq-sym x.place y.place)
 
--- a receipt of an article that none on its pallet has
+-- a receipt of an article that no receipt of its pallet has
 pub receipts_put : (sscc : List ℕ) (rs : List ReceiptRow) (r : ReceiptRow)
     → InOrder receipt_cmp rs
     → Single same_gtin (filter (λ y. same y.sscc sscc) rs)
@@ -149,7 +149,7 @@ pub receipts_put : (sscc : List ℕ) (rs : List ReceiptRow) (r : ReceiptRow)
     → Single same_gtin (filter (λ y. same y.sscc sscc) (put receipt_cmp r rs))
 receipts_put = grouped_put receipt_total (λ (r : ReceiptRow). r.sscc) same_gtin (λ x y. bytes_eq-sym x.gtin y.gtin)
 
--- where the places on a pallet are below one, none is at it
+-- if all places on a pallet are below one, no content is at that place
 pub none_at : (sscc : List ℕ) (n : ℕ) (cs : List ContentRow) (c : ContentRow)
     → c.place ≡ n + 1
     → AllByRecursion (λ y. same y.sscc sscc ≡ true → y.place ≤ n) cs
@@ -212,7 +212,7 @@ none_received x (q ∷ qs) h =
     let apart = or_parts (same x q.sscc) (list_any (λ q. same x q.sscc) qs) h in
     ap₂ (λ v w. (v && is_received q) || w) (bytes_eq-sym q.sscc x ∙ apart.0) (none_received x qs apart.1)
 
--- the one pallet of the SSCC was not received, so none was
+-- the only pallet with the SSCC was not received, so no pallet with it was
 pub found_unreceived : (x : List ℕ) (ps : List PalletRow) (p : PalletRow)
     → Single same_sscc ps
     → find (λ p. same p.sscc x) ps ≡ Some p

@@ -1,4 +1,4 @@
--- Entries of a mailbox that are set keep their numbers.
+-- Shows that mailbox entries keep their numbers when they are set.
 use Rattle.std.proofs.Common.{ℕ, ◌+◌, cond, inl, inr, List, [], ◌∷◌, refl, sym, ◌∙◌, ap}
 use Rattle.hub_tables.specs.Change.{apply}
 use Rattle.hub_parties.specs.KeyOrder.{replace}

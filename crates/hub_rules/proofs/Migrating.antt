@@ -1,4 +1,4 @@
--- A register that is founded beside sound rows to which it fits.
+-- Shows that founding a register beside sound rows that it fits gives sound tables.
 use Rattle.std.proofs.Common.{◌≡◌, true, List, [], ◌∷◌, Option, None, Some, refl, sym, ap, subst}
 use Rattle.std.specs.List.{AllByRecursion, list_all}
 use Rattle.std.proofs.lemmas.Bool.{and_parts}

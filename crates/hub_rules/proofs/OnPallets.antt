@@ -1,4 +1,4 @@
--- Pallets stay, and contents and receipts are on pallets that are there.
+-- Shows that pallets are never removed, so contents and receipts stay on existing pallets.
 use Rattle.std.proofs.Common.{◌≡◌, ℕ, true, not, ◌||◌, List, [], ◌∷◌, ap, ◌∙◌}
 use Rattle.std.specs.Prelude.{⊤}
 use Rattle.std.specs.List.{AllByRecursion, list_any}
@@ -12,7 +12,7 @@ use Rattle.hub_tables.specs.declared.rows.ReceiptRow.{ReceiptRow}
 use Rattle.hub_tables.proofs.KeyOrder.{all_put, any_put}
 use Rattle.hub_tables.proofs.Lists.{any_replaced, same_is, all_filter, all_weaker}
 
--- a pallet stays
+-- a pallet still exists after a change
 pub pallet_stays : (sscc : List ℕ) (t : Tables) (change : Change)
     → has_pallet t sscc ≡ true
     → has_pallet (apply change t) sscc ≡ true
@@ -22,13 +22,13 @@ pallet_stays sscc t (SetPallet r) h =
     any_replaced (λ p. same p.sscc sscc) (same_pallet r) r t.pallets (λ y e. ap (λ n. same n sscc) (same_is y.sscc r.sscc e)) ∙ h
 pallet_stays sscc t other h = h
 
--- a content or a receipt that is added is on a pallet that is there
+-- a content or a receipt that is added belongs to an existing pallet
 abbrev pub OnPallet : Tables → Change → Type 0
 OnPallet t (AddContent row) = has_pallet t row.sscc ≡ true
 OnPallet t (AddReceipt row) = has_pallet t row.sscc ≡ true
 OnPallet t other = ⊤
 
--- rows are on pallets that are there
+-- rows belong to existing pallets
 abbrev AreOn : {X : Type 0} → (X → List ℕ) → Tables → List X → Type 0
 AreOn sscc t rows = AllByRecursion (λ row. has_pallet t (sscc row) ≡ true) rows
 
@@ -53,7 +53,7 @@ module _ (t : Tables) where
   receipts_then (ClearReceipts sscc) h all = all_filter (λ c. has_pallet t c.sscc ≡ true) (λ c. not (same c.sscc sscc)) t.receipts all
   receipts_then other h all = all
 
-  -- after a change all are on pallets that are there then
+  -- after a change, all rows belong to existing pallets
   pub contents_after : (change : Change)
       → OnPallet t change
       → AllByRecursion (λ c. has_pallet t c.sscc ≡ true) t.contents

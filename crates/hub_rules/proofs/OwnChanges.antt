@@ -1,4 +1,4 @@
--- Changes that keep a supplier's rows, in the tables of all.
+-- Shows what changes that keep a supplier's rows sound do in the tables of all suppliers.
 use Rattle.std.proofs.Common.{◌≡◌, inl, inr, List, Some, sym, subst}
 use Rattle.gs1_ids.specs.Overlap.{PrefixFree}
 use Rattle.hub_parties.specs.Rows.{company_prefixes, supplier_row}
@@ -16,7 +16,7 @@ use Rattle.hub_rules.proofs.GoodRows.{keeps_from}
 use Rattle.hub_rules.proofs.Verdicts.{Leaves}
 use Rattle.hub_rules.proofs.Views.{view_own}
 
--- what a supplier sees of sound tables is its own, and as it is to be
+-- what a supplier sees of sound tables is its own and sound
 pub good_view : (suppliers : List SupplierRow) (s : SupplierRow) (t : Tables) → Sound suppliers t → KeptOwn s (view s.gln t)
 good_view suppliers s t sound = record { own = view_own s.gln t (sound.rooted).ordered; kept = sound.kept s.gln }
 

@@ -1,4 +1,4 @@
--- Each change that is the supplier's leaves its rows its own.
+-- Shows that a supplier's rows stay its own after each change that belongs to it.
 use Rattle.std.proofs.Common.{◌≡◌, []}
 use Rattle.std.specs.List.{AllByRecursion}
 use Rattle.hub_parties.specs.declared.row.SupplierRow.{SupplierRow}
@@ -64,7 +64,7 @@ on_pallet s state (AddContent r) h = h
 on_pallet s state (AddReceipt r) h = h
 on_pallet s state other h = tt
 
--- what a change of a supplier's rows leaves is the supplier's
+-- what a change that belongs to the supplier leaves is the supplier's
 pub own_after : (s : SupplierRow) (state : Tables) (change : Change)
     → Belongs s state change
     → IsOwn s.gln state

@@ -1,4 +1,4 @@
--- Whose an SSCC is.
+-- Shows to which supplier an SSCC belongs.
 use Rattle.std.proofs.Common.{◌≡◌, ◌≢◌, ℕ, suc, ◌<◌, true, false, cond, ◌&&◌, ◌||◌, inl, inr, List, [], ◌∷◌}
 use Rattle.std.proofs.Common.{length, get_or, filter, Some, refl, sym, ◌∙◌, ap, arith}
 use Rattle.std.specs.Bool.{⊤}
@@ -21,7 +21,7 @@ gln_found suppliers gln s known =
     same_is s.gln gln (all_found (λ _. ⊤) (λ supplier. same supplier.gln gln) suppliers s (all_always (λ _. ⊤) (λ _. tt) suppliers)
     known).1
 
--- a supplier that is found stands at a place
+-- a supplier that is found has a position in the list
 place_of : (suppliers : List SupplierRow) (gln : List ℕ) (s : SupplierRow)
     → supplier_row suppliers gln ≡ Some s
     → (i : ℕ) × (i < length suppliers) × (get_or suppliers i s ≡ s)
@@ -33,7 +33,7 @@ place_of (first ∷ suppliers) gln s h =
       | false ↦ λ e. let later = place_of suppliers gln s e in (suc later.0, omega (arith, later.1), later.2)
     ] h
 
--- an SSCC under prefixes of two suppliers is under those of one
+-- an SSCC under prefixes of two suppliers shows that they are the same
 one_supplier_of : (suppliers : List SupplierRow)
     → PrefixFree (company_prefixes suppliers)
     → (one other sscc : List ℕ) (a b : SupplierRow)
@@ -60,7 +60,7 @@ one_supplier_of suppliers free one other sscc a b first second of_first of_secon
 
 module _ (suppliers : List SupplierRow) (free : PrefixFree (company_prefixes suppliers)) (gln : List ℕ) (s : SupplierRow)
     (known : supplier_row suppliers gln ≡ Some s) where
-  -- a pallet whose SSCC is under the supplier's prefixes is the supplier's
+  -- a pallet whose SSCC is under the supplier's prefixes belongs to the supplier
   pub owner : (q : PalletRow) → IsRooted suppliers q → under_some q.sscc s.prefixes ≡ true → q.supplier ≡ gln
   owner q rooted below = one_supplier_of suppliers free q.supplier gln q.sscc rooted.supplier s rooted.known known rooted.is_under below
 
@@ -72,7 +72,7 @@ module _ (suppliers : List SupplierRow) (free : PrefixFree (company_prefixes sup
       all_weaker (IsRooted suppliers) (λ q. same q.sscc x ≡ true → q.supplier ≡ gln)
       (λ q rooted e. owner q rooted (ap (λ v. under_some v s.prefixes) (same_is q.sscc x e) ∙ below)) t.pallets all
 
-  -- what the supplier holds is under its prefixes
+  -- the SSCCs of a supplier's pallets are under its prefixes
   pub under_held : (ps : List PalletRow) (x : List ℕ)
       → AllByRecursion (IsRooted suppliers) ps
       → holds gln ps x ≡ true
@@ -92,7 +92,7 @@ module _ (suppliers : List SupplierRow) (free : PrefixFree (company_prefixes sup
         | inr e ↦ under_held ps x all.1 (ap (λ v. v || holds gln ps x) (sym e) ∙ h)
       ]
 
--- what a supplier has is what it sees
+-- a supplier sees exactly the pallets that it has
 pub holds_seen : (s : List ℕ) (ps : List PalletRow) (x : List ℕ)
     → list_any (λ p. same p.sscc x) (filter (λ p. same p.supplier s) ps) ≡ holds s ps x
 holds_seen s [] x = refl

@@ -1,4 +1,4 @@
--- What is accepted is remembered, or was.
+-- Shows that what is accepted is remembered, or was already.
 use Rattle.std.proofs.Common.{◌≡◌, ℕ, Bool, true, false, cond, not, List, [], ◌∷◌, Option, Some, None, refl, sym, ◌∙◌, ap}
 use Rattle.std.specs.Bool.{⊤}
 use Rattle.hub_parties.specs.declared.row.SupplierRow.{SupplierRow}
@@ -22,7 +22,7 @@ use Rattle.hub_rules.specs.declared.verdict.Verdict.{Verdict}
 use Rattle.hub_rules.specs.declared.verdict.Verdict.TheVariants.{Accept, Refuse}
 
 module _ (r : Reference) (content : List ℕ) (state : Tables) where
-  -- one that is new
+  -- a new message
   new_remembers : remembered_of state r.side r.control r.message ≡ None
       → (rest : Verdict)
       → Remembers r content ⊤ state (joined (Remember (remembered r content) ∷ []) rest)
@@ -37,7 +37,7 @@ module _ (r : Reference) (content : List ℕ) (state : Tables) where
         repeated = (λ h. cc, λ there. let both : None ≡ Some (there.1).row = sym none ∙ (there.1).found in absurd (cc));
       }
 
-  -- one that is there
+  -- a message that is remembered already
   old_remembers : (row : RememberedRow)
       → remembered_of state r.side r.control r.message ≡ Some row
       → (v : Bool)
@@ -70,7 +70,7 @@ module _ (r : Reference) (content : List ℕ) (state : Tables) where
   judged_remembers : (fresh : Judge) → Remembers r content ⊤ state (judge_once r content fresh state)
   judged_remembers fresh = once_remembers fresh (remembered_of state r.side r.control r.message) refl
 
-  -- after a check
+  -- after one more check
   checked_remembers : (A : Type 0) (b : Bool) (code : Code) (rest : Verdict)
       → Remembers r content A state rest
       → Remembers r content ((b ≡ false) × A) state (refuse_if b code rest)
@@ -83,7 +83,7 @@ module _ (r : Reference) (content : List ℕ) (state : Tables) where
             (λ h. let found = (there.repeated).0 h in ((refl, found.0), found.1), λ both. (there.repeated).1 ((both.0).1, both.1));
       }
 
-  -- admitted by another fact
+  -- admitted by an equivalent condition
   admitted_by : (A B : Type 0) (verdict : Verdict)
       → (A → B)
       → (B → A)
@@ -95,7 +95,7 @@ module _ (r : Reference) (content : List ℕ) (state : Tables) where
         repeated = (λ h. let found = (there.repeated).0 h in (f found.0, found.1), λ both. (there.repeated).1 (g both.0, both.1));
       }
 
-  -- of the supplier itself
+  -- by the supplier itself
   pub registered_remembers : (s : SupplierRow) (named : List ℕ) (fresh : Judge)
       → Remembers r content (named ≡ s.gln) state (if_registered (Some s) named (λ s. judge_once r content fresh state))
   registered_remembers s named fresh =

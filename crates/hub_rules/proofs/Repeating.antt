@@ -1,4 +1,4 @@
--- What is accepted is remembered, and what is remembered is repeated.
+-- Shows that what is accepted is remembered, and that what is remembered is repeated.
 use Rattle.std.proofs.Common.{◌≡◌, ℕ, Bool, true, false, cond, ◌&&◌, ◌==◌, inl, inr, List, [], ◌∷◌, find, Option}
 use Rattle.std.proofs.Common.{Some, None, refl, sym, ◌∙◌, ap, subst, arith}
 use Rattle.std.proofs.lemmas.Bool.{and_from}
@@ -21,7 +21,7 @@ use Rattle.hub_rules.specs.declared.code.Code.TheVariants.{OtherContent}
 use Rattle.hub_rules.specs.declared.verdict.Verdict.{Verdict}
 use Rattle.hub_rules.specs.declared.verdict.Verdict.TheVariants.{Accept, Refuse}
 
--- the one row that passes is found
+-- the only row that passes is found
 found_single : {X : Type 0} (alike : X → X → Bool) (p : X → Bool) (x : X)
     → ((y : X) → p y ≡ true → alike y x ≡ true)
     → p x ≡ true
@@ -53,7 +53,7 @@ pub has_after_all : (changes : List Change) (t : Tables) (row : RememberedRow)
 has_after_all [] t row h = h
 has_after_all (change ∷ changes) t row h = has_after_all changes (apply change t) row (has_after change t row h)
 
--- what tables remember of a supplier is found among what it sees, where its keys are single
+-- what tables remember of a supplier is found in its view, if its keys occur once
 pub found_again : (gln : List ℕ) (t : Tables) (r : Reference) (content : List ℕ)
     → Single same_reference (view gln t).remembered
     → r.supplier ≡ gln

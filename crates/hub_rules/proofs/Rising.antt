@@ -1,4 +1,4 @@
--- Rows in key order with single keys rise strictly: those of one supplier, and those of all.
+-- Shows that rows in key order rise strictly if no key occurs twice: those of one supplier, and those of all.
 use Rattle.std.proofs.Common.{◌≡◌, ℕ, ◌+◌, ◌≤◌, nat_lt, Bool, true, false, cond, ◌&&◌, ◌||◌, ◌==◌, inl, inr, List, [], ◌∷◌}
 use Rattle.std.proofs.Common.{filter, refl, sym, ◌∙◌, ap, ap₂, subst, arith}
 use Rattle.std.specs.Bool.{⊤}
@@ -29,7 +29,7 @@ use Rattle.hub_rules.specs.Sound.{same_gtin, same_reference, Kept, IsRooted, Roo
 use Rattle.hub_rules.proofs.Prefixes.{owner}
 use Rattle.hub_rules.proofs.Views.{ordered_view}
 
--- Keys that tie.
+-- When keys compare as equal.
 first_tied : (o p : Ordering) → ordering_then o p ≡ Equal → o ≡ Equal
 first_tied Less p h = h
 first_tied Equal p h = refl
@@ -56,7 +56,7 @@ only_less Less g ne = refl
 only_less Equal g ne = absurd (ne refl)
 only_less Greater g ne = cc
 
--- rows in order of which no two are alike, where those of one key are alike
+-- sorted rows, if rows that compare as equal have the same key and no key occurs twice
 module _ {X : Type 0} (cmp : X → X → Ordering) (alike : X → X → Bool) (tied : (x y : X) → cmp x y ≡ Equal → alike x y ≡ true) where
   rises : (xs : List X) → InOrder cmp xs → Single alike xs → Rises cmp xs
   rises [] a b = tt
@@ -71,7 +71,7 @@ module _ {X : Type 0} (cmp : X → X → Ordering) (alike : X → X → Bool) (t
           let parts = or_parts (alike x y) (list_any (alike x) ys) d in
           (only_less (cmp x y) c.0 (λ e. let yes = tied x y e in (cc)), below ys c.1 parts.1)
 
--- rows in order that rise where one part of them is the same, where those of one key have the same part
+-- sorted rows that rise within each part, if rows that compare as equal have the same part
 module _ {X : Type 0} (cmp : X → X → Ordering) (part : X → List ℕ) (P : X → Type 0)
     (tied : (x y : X) → P x → P y → cmp x y ≡ Equal → part y ≡ part x) where
   rises_by_parts : (xs : List X)
@@ -130,7 +130,7 @@ numbered_single : (n : ℕ) (ms : List MailRow) → Numbered n ms → Single (λ
 numbered_single n [] a = tt
 numbered_single n (m ∷ ms) a = (numbered_far m.number (n + 1) ms (omega (arith, a.0)) a.1, numbered_single (n + 1) ms a.1)
 
--- Rows of two texts, and of a text and a number.
+-- Rows with two texts as their key, and with a text and a number.
 module _ (a b : List ℕ) (o : Ordering) (h : ordering_then (bytes_cmp a b) o ≡ Equal) where
   first_same : b ≡ a
   first_same = sym (same_is a b (text_tied a b (first_tied (bytes_cmp a b) o h)))
@@ -138,7 +138,7 @@ module _ (a b : List ℕ) (o : Ordering) (h : ordering_then (bytes_cmp a b) o �
   rest_tied : o ≡ Equal
   rest_tied = then_tied (bytes_cmp a b) o h
 
--- the kinds of which rows are kept rise by their keys
+-- the keys of the kinds that a supplier's rows may be of rise
 pub record KindsRise (t : Tables) : Type 0 where
   pub orders : Rises order_cmp t.orders
   pub lines : Rises line_cmp t.lines
@@ -149,7 +149,7 @@ pub record KindsRise (t : Tables) : Type 0 where
   pub remembered : Rises remembered_cmp t.remembered
   pub mail : Rises mail_cmp t.mail
 
--- what one supplier has as it is to be rises
+-- the sound rows of one supplier rise
 pub kept_rises : (state : Tables) → Ordered state → Kept state → KindsRise state
 kept_rises state ordered kept = record {
   orders =
@@ -186,7 +186,7 @@ kept_rises state ordered kept = record {
       (numbered_single 0 state.mail kept.mail);
 }
 
--- what a supplier sees of tables in key order rises, where it is as it is to be
+-- what a supplier sees of sorted tables rises, if it is sound
 pub view_rises : (gln : List ℕ) (t : Tables) → Ordered t → Kept (view gln t) → KindsRise (view gln t)
 view_rises gln t ordered kept = kept_rises (view gln t) (ordered_view gln t ordered) kept
 
@@ -217,7 +217,7 @@ module _ {X : Type 0} (cmp : X → X → Ordering) (sscc : X → List ℕ) (t : 
             ]) xs there))) tt
       ]
 
--- the rows of all suppliers rise, where those that each sees are as they are to be
+-- the rows of all suppliers rise, if what each of them sees is sound
 pub all_rise : (suppliers : List SupplierRow) (t : Tables)
     → PrefixFree (company_prefixes suppliers)
     → Rooted suppliers t
@@ -252,7 +252,7 @@ all_rise suppliers t free rooted kept =
           (λ gln. (seen gln).mail);
     }
 
--- all kinds rise where those of the parties do
+-- all kinds rise if those of the register do
 pub rising_from : (t : Tables) → PartiesRise t → KindsRise t → Rising t
 rising_from t parties kinds = record {
   hubs = parties.hubs;

@@ -1,4 +1,4 @@
--- Totals of an article over the lines of a unit, and the articles of these lines.
+-- Provides lemmas about the totals of an article over the lines of a unit, and about the articles of these lines.
 use Rattle.std.proofs.Common.{◌≡◌, ℕ, ◌+◌, true, false, cond, inl, inr, List}
 use Rattle.std.proofs.Common.{[], ◌∷◌, filter, sum_by, refl, ◌∙◌, ap, arith, map, not}
 use Rattle.std.proofs.lemmas.List.Sums.{sum_by-cons}
@@ -27,7 +27,7 @@ module _ (article : List ℕ) (line : ReceiptLine) (lines : List ReceiptLine) wh
       sum_by kind (cond v (line ∷ filter (λ line. same line.gtin article) lines)
       (filter (λ line. same line.gtin article) lines))) e
 
--- amounts of one kind
+-- totals of one quantity
 module _ (kind : ReceiptLine → ℕ) where
   abbrev pub sum_by_kind : List ℕ → List ReceiptLine → ℕ
   sum_by_kind article lines =
@@ -46,7 +46,7 @@ module _ (kind : ReceiptLine → ℕ) where
 
 -- Articles.
 
--- what each line says of its article holds of each article
+-- what holds for the article of each line holds for each article
 pub all_gtins : (P : List ℕ → Type 0) (lines : List ReceiptLine) → AllByRecursion (λ line. P line.gtin) lines
     → AllByRecursion P (gtins lines)
 all_gtins P [] all = tt

@@ -1,4 +1,5 @@
--- What an accepted verdict tells of its parts, and judges that lead from one property of a supplier's rows to another.
+-- Shows what an accepted verdict says about its parts, and combines judges that lead from one property of a supplier's
+-- rows to another.
 use Rattle.std.proofs.Common.{◌≡◌, Bool, true, false, List, [], ◌∷◌, ◌++◌, Option, Some, None, refl, subst}
 use Rattle.hub_parties.specs.declared.row.SupplierRow.{SupplierRow}
 use Rattle.hub_tables.specs.Change.{apply, apply_all}
@@ -22,19 +23,19 @@ pub was_given : {X : Type 0} (o : Option X) (code : Code) (rest : X → Verdict)
 was_given None code rest changes h = cc
 was_given (Some x) code rest changes h = (x, refl, h)
 
--- what was joined to changes that were given
+-- what was joined to the given changes
 pub joined_rest : (first : List Change) (verdict : Verdict) (changes : List Change)
     → joined first verdict ≡ Accept changes
     → (rest : List Change) × (verdict ≡ Accept rest) × (first ++ rest ≡ changes)
 joined_rest first (Refuse code) changes h = cc
 joined_rest first (Accept rest) changes h = (rest, refl, cc)
 
--- changes that are the supplier's, and leave a property of its rows
+-- changes that belong to the supplier, and after which its rows have a property
 pub record Leaves (s : SupplierRow) (After : Tables → Type 0) (state : Tables) (changes : List Change) : Type 0 where
   pub belong : BelongAll s state changes
   pub after : After (apply_all changes state)
 
--- all that a judge accepts where the one property is leaves the other
+-- if the rows have the first property, they have the second after everything that the judge accepts
 abbrev pub Leads : SupplierRow → (Tables → Type 0) → (Tables → Type 0) → Judge → Type 0
 Leads s Before After judge =
     (state : Tables) (changes : List Change) → Before state → judge state ≡ Accept changes → Leaves s After state changes
@@ -63,7 +64,7 @@ module _ (s : SupplierRow) where
   leaves_both After (change ∷ changes) b state belong rest =
       leaves_next After state change (changes ++ b) belong.0 (leaves_both After changes b (apply change state) belong.1 rest)
 
-  -- changes that are given, and what a judge makes of what they left
+  -- the given changes, then what a judge decides on what they left
   pub leaves_in_turn : (Between After : Tables → Type 0) (first : List Change) (second : Judge) (state : Tables)
       (changes : List Change)
       → Leaves s Between state first

@@ -1,4 +1,4 @@
--- What a supplier sees is its own.
+-- Shows that what a supplier sees is its own.
 use Rattle.std.proofs.Common.{◌≡◌, ℕ, true, List, filter, refl, ◌∙◌}
 use Rattle.std.specs.List.{AllByRecursion}
 use Rattle.hub_tables.specs.Rows.{key_cmp, prefix_cmp}
@@ -9,7 +9,7 @@ use Rattle.hub_tables.proofs.Lists.{same_is, all_weaker, all_passes}
 use Rattle.hub_rules.specs.Sound.{IsOwn}
 use Rattle.hub_rules.proofs.Prefixes.{holds_seen}
 
--- it is in key order
+-- the view is in key order
 pub ordered_view : (gln : List ℕ) (t : Tables) → Ordered t → Ordered (view gln t)
 ordered_view gln t o = record {
   hubs = tt;
@@ -32,7 +32,7 @@ picked gln supplier rows =
     all_weaker (λ row. same (supplier row) gln ≡ true) (λ row. supplier row ≡ gln) (λ row e. same_is (supplier row) gln e)
     (filter (λ row. same (supplier row) gln) rows) (all_passes (λ row. same (supplier row) gln) rows)
 
--- rows on pallets that a supplier holds are on pallets that it sees
+-- rows of pallets that a supplier has are rows of pallets that it sees
 on_seen : {X : Type 0} (gln : List ℕ) (t : Tables) (sscc : X → List ℕ) (rows : List X)
     → AllByRecursion (λ row. has_pallet (view gln t) (sscc row) ≡ true) (filter (λ row. holds gln t.pallets (sscc row)) rows)
 on_seen gln t sscc rows =

@@ -1,4 +1,4 @@
--- What the making of the register's tables leaves beside those of schema 1.
+-- Shows what making the register's tables leaves beside those of schema 1.
 use Rattle.std.proofs.Common.{◌≡◌, ℕ, pos, if◌then◌else◌, IsTrue, List, [], ◌∷◌, map, drop, Result, Ok, Err, OnOk, refl}
 use Rattle.std.proofs.Common.{sym, ap, subst, ◌∙◌, arith}
 use Rattle.sqlite.specs.State.{State, ExecutesInside, Shows}
@@ -24,7 +24,7 @@ bare_at_all = (refl, (refl, (refl, (refl, (refl, (refl, (refl, (refl, (refl, (re
 pub none_beside : (rows : Trees) → HaveNoRows party_tables (traffic_rows rows)
 none_beside rows = (refl, (refl, (refl, tt)))
 
--- schema 1 is what was made so far
+-- the tables of schema 1 count as made so far
 pub old_made : (s : State) → IsOldHub s → IsTrue s.in_transaction
     → HasMade (traffic_rows s.now.trees) (schema_with traffic_tables) s
 old_made s old begun = record {
@@ -33,7 +33,7 @@ old_made s old begun = record {
   mode = begun;
 }
 
--- beside the rows of schema 1 the register's tables are in order, which have none
+-- the register's tables, which have no rows, are in order beside the rows of schema 1
 pub old_ordered : (rows : Trees) → AreOldOrdered rows → AreOrdered (traffic_rows rows)
 old_ordered rows it = (
   it.0,
@@ -68,7 +68,7 @@ renumbered n [] one = absurd cc
 renumbered n (row ∷ []) one = rw (cast_int (pos 3))
 renumbered n (row ∷ next ∷ rows) one = absurd cc
 
--- the row with the schema's number is set, and all tables are as they were
+-- the row with the schema's number is set, and all tables stay the same
 pub number_set : (n : ℕ) (rows : Trees) (old new : State) (r : Result ℕ Error) → HasNumber n rows → AreOrdered rows
     → HasMade rows hub_schema old → ExecutesInside 0 set_number [] old new r
     → OnOk r (Makes (λ _. tables_in rows) old new)

@@ -1,4 +1,4 @@
--- Lists that are compared with what definitions say.
+-- Compares lists with what definitions say.
 use Rattle.std.proofs.Common.{◌≡◌, ◌<◌, ◌≤◌, ℕ, suc, ◌+◌, min, ◌==◌, Bool, IsTrue, List, [], ◌∷◌, length, take, get_or, refl, sym}
 use Rattle.std.proofs.Common.{ap, ap₂, ◌∙◌, arith}
 use Rattle.std.proofs.lemmas.Bool.Decides.{nat_tests}

@@ -1,4 +1,4 @@
--- Rows put one after another are the list in the order of their keys.
+-- Shows that inserting rows one after another gives their list in the order of the keys.
 use Rattle.std.proofs.Common.{◌≡◌, ◌⊎◌, inl, inr, Bool, true, false, cond, ◌||◌, List, [], ◌∷◌, ◌++◌, fold, filter, map}
 use Rattle.std.proofs.Common.{refl, sym, ap, ap₂, ◌∙◌}
 use Rattle.std.specs.Bool.{⊤}
@@ -15,7 +15,7 @@ use Rattle.hub_tables.proofs.Lists.{decide}
 use Rattle.hub_tables.proofs.Setting.{rises_put}
 use Rattle.hub_schema.specs.Rows.{in_key_order}
 
--- put one after another into rows that are there
+-- inserts rows one after another into existing ones
 abbrev pub put_all : {X : Type 0} → (X → X → Ordering) → List X → List X → List X
 put_all cmp xs there = fold (λ sorted row. put cmp row sorted) there xs
 
@@ -30,7 +30,7 @@ module _ {X : Type 0} (cmp : X → X → Ordering) where
   all_more [] x there = refl
   all_more (y ∷ ys) x there = all_more ys x (put cmp y there)
 
-  -- a row that comes last
+  -- the last row is inserted last
   pub listed_more : (xs : List X) (x : X) → in_key_order cmp (xs ++ x ∷ []) ≡ put cmp x (in_key_order cmp xs)
   listed_more xs x = all_more xs x []
 
@@ -48,7 +48,7 @@ module _ {X : Type 0} (cmp : X → X → Ordering) where
   all_map f e [] there = refl
   all_map f e (x ∷ xs) there = ap (put_all cmp (map f xs)) (put_map f e there x) ∙ all_map f e xs (put cmp x there)
 
-  -- rows that are set and keep their keys
+  -- rows that are replaced but keep their keys
   pub listed_map : (f : X → X) → ((x y : X) → cmp (f x) (f y) ≡ cmp x y) → (xs : List X)
       → in_key_order cmp (map f xs) ≡ map f (in_key_order cmp xs)
   listed_map f e xs = all_map f e xs []
@@ -95,7 +95,7 @@ module _ {X : Type 0} (cmp : X → X → Ordering) where
     | inr g ↦ inr (put_has there x z (inr g))
   ])
 
-  -- they are the same rows
+  -- the rows are the same
   pub listed_same : (xs : List X) → SameSet xs (in_key_order cmp xs)
   listed_same xs = record {
     there = λ z h. has_all xs [] z (inl h);
@@ -118,7 +118,7 @@ module _ {X : Type 0} (cmp : X → X → Ordering) where
       all_any p xs (put cmp x there) ∙ ap (λ v. list_any p xs || v) (any_put cmp p there x)
       ∙ turned (list_any p xs) (list_any p there) (p x)
 
-  -- whether some row passes
+  -- whether some row passes the test
   pub listed_any : (p : X → Bool) (xs : List X) → list_any p (in_key_order cmp xs) ≡ list_any p xs
   listed_any p xs = all_any p xs [] ∙ or-false (list_any p xs)
 
@@ -135,7 +135,7 @@ module _ {X : Type 0} {cmp : X → X → Ordering} (total : IsTotalOrder cmp) wh
             ∙ ap (λ v. put_all cmp (cond v (x ∷ filter p xs) (filter p xs)) (filter p there)) (sym e)
       ]
 
-  -- the rows that pass
+  -- filtering the rows
   pub listed_filter : (p : X → Bool) (xs : List X) → filter p (in_key_order cmp xs) ≡ in_key_order cmp (filter p xs)
   listed_filter p xs = all_filter p xs [] tt
 
@@ -152,7 +152,7 @@ module _ {X : Type 0} {cmp : X → X → Ordering} (total : IsTotalOrder cmp) wh
   none_equal x [] a = refl
   none_equal x (y ∷ ys) a = ap₂ (λ v w. v || w) a.0 (none_equal x ys a.1)
 
-  -- each of the new rows differs from each that is there
+  -- each new row differs from each existing one
   abbrev Differ : List X → List X → Type 0
   Differ xs there = AllByRecursion (λ x. AllByRecursion (λ y. is_eq (cmp y x) ≡ false) there) xs
 
@@ -180,6 +180,6 @@ module _ {X : Type 0} {cmp : X → X → Ordering} (total : IsTotalOrder cmp) wh
   from_none [] = tt
   from_none (x ∷ xs) = (tt, from_none xs)
 
-  -- rows of single keys rise
+  -- rows rise if no two have the same key
   pub listed_rises : (xs : List X) → Apart cmp xs → Rises cmp (in_key_order cmp xs)
   listed_rises xs apart = all_rises xs [] apart tt (from_none xs)

@@ -1,4 +1,4 @@
--- What a statement leaves that failed.
+-- Shows what a failed statement leaves.
 use Rattle.std.proofs.Common.{◌≡◌, ◌⊎◌, inl, inr, ℕ, false, IsTrue, List, Result, Ok, Err, OnOk, OnErr, refl, sym, subst}
 use Rattle.std.proofs.Common.{◌∙◌}
 use Rattle.sqlite_trees.specs.declared.store.Store.{Ghosts}
@@ -37,7 +37,7 @@ same_then a b c one two = record {
   is_open = two.is_open ∙ one.is_open;
 }
 
--- undone later, with nothing committed before
+-- undone later, after nothing was committed
 pub undone_later : (a b c : State) → KeepsCommit a b → IsUndone b c → IsUndone a c
 undone_later a b c kept back = record {
   ended = back.ended;
@@ -49,12 +49,12 @@ undone_later a b c kept back = record {
 pub keeps_commit : (old new : State) → ShowsTheSame old new → KeepsCommit old new
 keeps_commit old new it = record { was_open = λ up. sym it.is_open ∙ up; committed = λ _. it.committed }
 
--- a call that leaves all as it was, whatever it answers
+-- a call that leaves everything as it was, whatever it returns
 pub spared : {X E : Type 0} (old new : State) (result : Result X E) → ShowsTheSame old new → Spares old new result
 spared old new (Ok x) same = record { done = same; fault = tt }
 spared old new (Err e) same = record { done = tt; fault = inl same }
 
--- one look-up after another
+-- a look-up after one that changed nothing
 pub spares_then : {X E : Type 0} (a b c : State) (result : Result X E) → ShowsTheSame a b → Spares b c result
     → Spares a c result
 spares_then a b c (Ok x) one two = record { done = same_then a b c one two.done; fault = tt }

@@ -1,4 +1,4 @@
--- What the making of a table leaves.
+-- Shows what making a table leaves.
 use Rattle.std.proofs.Common.{◌≡◌, ◌⊎◌, ◌<◌, ◌≤◌, ℕ, pos, if◌then◌else◌, List, [], ◌∷◌, ◌++◌, length, map, drop, take}
 use Rattle.std.proofs.Common.{◌-◌, get_or, ◌==◌, None, Result, Ok, Err, OnOk, OnErr, inl, inr, false, refl, sym, ap, subst}
 use Rattle.std.proofs.Common.{append_assoc, append-nil, ◌∙◌, arith}
@@ -62,7 +62,7 @@ made_one text old new (Ok count) rows schema table defines bare has h =
           w.shown).committed_is;
     }
 
--- Tables made one after another.
+-- Making tables one after another.
 
 with_more : (made : Schema) (begun : List Table) (table : Table)
     → fold (λ schema t. created schema (record t { tree = 0 })) made (begun ++ table ∷ [])
@@ -126,7 +126,7 @@ module _ (rows : Trees) (d : Definition) (definitions : List Definition) (old mi
 others : {X : Type 0} (x : X) (xs : List X) → take (length (x ∷ xs) - 1) (drop 1 (x ∷ xs)) ≡ xs
 others x xs = let less : length (x ∷ xs) - 1 ≡ length xs = omega arith in ap (λ n. take n xs) less ∙ take-length xs
 
--- the first of the definitions, and what is behind it
+-- the first of the definitions, then the rest
 module _ (rows : Trees) (none : Definition) (old mid new : State) where
   pub all_made : {X : Type 0} (r : Result X Error) (definitions : List Definition) → 1 ≤ length definitions
       → ((schema : Schema) (table : Table) → Defines (get_or definitions 0 none).text.now schema table
@@ -158,7 +158,7 @@ module _ (rows : Trees) (none : Definition) (old mid new : State) where
       (λ begun tables rest make bare are has.
       left begun tables rest (subst (λ ds. Make begun ds tables) (sym (others d definitions)) make) bare are has)
 
--- where there is nothing to make, nothing is made
+-- if there is nothing to make, nothing is made
 pub made_none : (rows : Trees) (begun tables : List Table) (definitions : List Definition) (s : State)
     → length definitions < 1 → Make begun definitions tables → HasMade rows (schema_with begun) s
     → MakesOn rows (schema_with (begun ++ tables)) s s
@@ -171,7 +171,7 @@ pub none_left : (definitions : List Definition) → length definitions < 1 → d
 none_left [] low = refl
 none_left (d ∷ definitions) low = absurd (omega (arith, low))
 
--- the first row of the table with the schema's number; all other tables have none
+-- the first row of the table with the schema's number; all other tables are empty
 pub number_put : (old new : State) (r : Result ℕ Error) → HasMade no_trees hub_schema old
     → ExecutesInside 0 put_number [] old new r → OnOk r (Makes (λ _. no_rows) old new)
 number_put old new (Err e) has h = tt
@@ -234,14 +234,14 @@ number_put old new (Ok count) has h =
       mode = w.shown.mode ∙ has.mode;
     }
 
--- where tables are to be made, there are definitions
+-- if tables are to be made, there are definitions
 pub some_made : (begun : List Table) (definitions : List Definition) (tables : List Table) → (length tables == 0) ≡ false
     → Make begun definitions tables → definitions ≡ [] → ⊥
 some_made begun [] [] some make none = absurd (grind (arith, nat_tests, some))
 some_made begun [] (table ∷ tables) some make none = make
 some_made begun (d ∷ definitions) tables some make none = absurd cc
 
--- What is left where the making stops.
+-- What is left if the making stops.
 
 still_made : (rows : Trees) (schema : Schema) (old new : State) → ShowsTheSame old new → HasMade rows schema old
     → HasMade rows schema new
@@ -252,7 +252,7 @@ still_made rows schema old new same has = record {
   mode = same.mode ∙ has.mode;
 }
 
--- a statement failed behind these tables
+-- a statement failed after these tables were made
 pub stops_at : {X Y : Type 0} (rows : Trees) (first rest : List Table) → hub_tables ≡ first ++ rest → (old new : State)
     (e : Error) → StatementLeaves {X = X} old new (Err e) → LeavesTables {X = Y} rows first old new (Err e)
 stops_at rows first rest are old new e left = record {
@@ -268,7 +268,7 @@ stops_at rows first rest are old new e left = record {
   ended = left.ended;
 }
 
--- a part of the making failed, behind one that is done
+-- a later part of the making failed, after one that was done
 pub stops_later : {X Y : Type 0} (rows : Trees) (begun made : List Table) (old mid new : State) (e : Error)
     → (HasCleanDisk mid → HasMade rows (schema_with begun) old → MakesOn rows (schema_with made) old mid)
     → (old.in_transaction ≡ false → ⊥) → (HasCleanDisk mid → KeepsCommit old mid)
@@ -289,7 +289,7 @@ stops_later rows begun made old mid new e makes ran kept early left = record {
   ended = λ none. absurd (ran none);
 }
 
--- a part that is done met an open transaction
+-- a part that was done ran in an open transaction
 pub ran_before : {X : Type 0} (x : X) (old new : State) → StatementLeaves {E = Error} old new (Ok x) → old.in_transaction ≡ false
     → ⊥
 ran_before x old new left none = (left.ended none).0
@@ -303,13 +303,13 @@ pub stops_nowhere : {X : Type 0} (rows : Trees) (begun : List Table) (old new : 
     → (old.in_transaction ≡ false → ⊥) → LeavesTables rows begun old new (Ok x)
 stops_nowhere rows begun old new x ran = record { fault = λ clean has. tt; ended = λ none. absurd (ran none) }
 
--- what is left where the first part stopped
+-- what is left if the first part stopped
 pub stops_first : {X : Type 0} (rows : Trees) (begun : List Table) (old new : State) (e : Error)
     → (HasCleanDisk new → HasMade rows (schema_with begun) old → MakesFirstTables rows old new ⊎ IsUndone old new)
     → (old.in_transaction ≡ false → ShowsTheSame old new) → LeavesTables {X = X} rows begun old new (Err e)
 stops_first rows begun old new e fault ended = record { fault = fault; ended = λ none. (tt, ended none) }
 
--- the row with the schema's number, behind all tables
+-- the row with the schema's number, after all tables
 pub number_leaves : (rows : Trees) (old new : State) (r : Result ℕ Error) → StatementLeaves old new r
     → LeavesTables rows hub_tables old new r
 number_leaves rows old new (Ok count) left = record {

@@ -1,4 +1,4 @@
--- What is known of a connection that shows the tables of another.
+-- Shows that what is known of a connection also holds for another that shows the same tables.
 use Rattle.std.proofs.Common.{◌≡◌, ap, sym, subst, ◌∙◌}
 use Rattle.sqlite.specs.Effect.{IsDatabase}
 use Rattle.sqlite.specs.State.{State}

@@ -1,4 +1,4 @@
--- No key of a table stands twice, so what its rows say rises by the key.
+-- Shows that no key of a table occurs twice, so the rows that its rows stand for have rising keys.
 use Rattle.std.proofs.Common.{◌≡◌, ℕ, ◌+◌, ◌*◌, ◌^◌, nat_lt, ℤ, pos, negsuc, Bool, true, false, not, ◌&&◌}
 use Rattle.std.proofs.Common.{inl, inr, List, [], ◌∷◌, map, refl, sym, ap, ap₂, subst, ◌∙◌, arith, IsTrue}
 use Rattle.std.proofs.Common.{true≢false}
@@ -45,7 +45,7 @@ use Rattle.sql_rows.proofs.Answers.{is_truth, same_bytes}
 use Rattle.hub_schema.specs.Cells.{bytes_in, number_in, natural}
 use Rattle.hub_schema.proofs.InKeyOrder.{Apart, listed_rises}
 
--- Cells that say the same are the same.
+-- Cells that stand for the same value are the same.
 
 odd_even : (n m : ℕ) → 2 ^ 65 + 2 * n + 1 ≡ 2 * m → ⊥
 odd_even n m e = omega (arith, e)
@@ -104,7 +104,7 @@ same_numbers v w n m is at e =
     let whole : n ≡ m = natural_same n m (sym (ap number_in is) ∙ e ∙ ap number_in at) in
     ap₂ (equal Binary) is at ∙ ap (λ k. equal Binary (value.Int n) (value.Int k)) (sym whole) ∙ same_wholes n
 
--- rows whose numbers rise are different ones
+-- rows whose row numbers rise are different
 different : (x y : Row) → IsTrue (is_int (rowid x)) → IsTrue (is_int (rowid y)) → value_cmp (rowid x) (rowid y) ≡ Less
     → differ (rowid x) (rowid y) ≡ true
 unfolding binary
@@ -115,7 +115,7 @@ different x y p q less =
     ) (is_truth (is_ne (value_cmp (value.Int (id_in (rowid x))) (value.Int (id_in (rowid y)))))
     ∙ ap is_ne (sym (ap₂ value_cmp (int_is (rowid x) p) (int_is (rowid y) q)) ∙ less))
 
--- Keys that tie.
+-- When keys compare as equal.
 
 both_tied : (o p : Ordering) → is_eq (ordering_then o p) ≡ true → (is_eq o ≡ true) × (is_eq p ≡ true)
 both_tied Less p h = cc
@@ -128,7 +128,7 @@ text_tied a b h = same_is a b (sym (is_eq-slice_cmp a b) ∙ h)
 number_tied : (a b : ℕ) → is_eq (nat_cmp a b) ≡ true → a ≡ b
 number_tied a b h = grind (arith, nat_tests, h)
 
--- No two rows of a table have one key, where none clashes with another.
+-- No two rows of a table have the same key, if no two rows violate it.
 
 module _ {X : Type 0} (cmp : X → X → Ordering) (f : Row → X) (places : List ℕ) (Typed : Row → Type 0)
     (tied : (a b : Row) → Typed a → Typed b → is_eq (cmp (f a) (f b)) ≡ true
@@ -166,7 +166,7 @@ module _ {X : Type 0} (cmp : X → X → Ordering) (f : Row → X) (places : Lis
     all_apart xs up.1 whole.1 typed.1 (freer x xs xs free.1),
   )
 
--- Each kind.
+-- For each kind.
 
 unclashed : (clash rest : Row → Bool) (rows : List Row)
     → AllByRecursion (λ row. (not (clash row) && rest row) ≡ true) rows → AllByRecursion (λ row. clash row ≡ false) rows
@@ -174,7 +174,7 @@ unclashed clash rest [] a = tt
 unclashed clash rest (row ∷ rows) a =
     (not-true _ (and_parts (not (clash row)) (rest row) a.0).0, unclashed clash rest rows a.1)
 
--- the kinds of the columns; those of an advice are an order's
+-- the types of the columns; an advice has those of an order
 abbrev pub order_kinds : List Kind
 order_kinds = map (λ c. c.kind) order_table.columns
 
@@ -297,7 +297,7 @@ module _ (db : Database) (has : db.schema ≡ hub_schema) (sound : IsDatabase db
   rules : Obeys hub_schema db.trees
   rules = subst (λ schema. Obeys schema db.trees) has sound.obeys
 
-  -- what is known of each stored row
+  -- the types of the cells of each stored row
   pub order_cells : AllByRecursion (AreOf order_kinds 0) (db.trees 1)
   order_cells = all_cells_of hub_schema db.trees order_table (db.trees 1) refl refl (rules.rules Datatype).1.0
       (rules.rules NotNull).1.0
@@ -433,7 +433,7 @@ module _ (db : Database) (has : db.schema ≡ hub_schema) (sound : IsDatabase db
       (unclashed (clashes plain (1
       ∷ []) (db.trees 22)) (λ _. true) (db.trees 22) (rules.rules Unique).1.1.1.1.1.1.1.1.1.1.1.0))
 
-  -- what the rows of all tables say rises by its keys
+  -- the keys of all tables' rows rise
   pub tables_rise : Rising (tables_in db.trees)
   tables_rise = record {
     hubs = hubs_rise;
@@ -452,7 +452,7 @@ module _ (db : Database) (has : db.schema ≡ hub_schema) (sound : IsDatabase db
 pub held_rise : (s : State) → HasTables s → Rising (tables_in s.now.trees)
 held_rise s has = tables_rise s.now has.schema has.sound has.ordered
 
--- a hub's tables are all tables
+-- the tables of a hub are all tables
 pub hub_has_tables : (s : State) → IsHub s → HasTables s
 hub_has_tables s hub = record { schema = hub.schema; ordered = hub.ordered; sound = hub.sound }
 

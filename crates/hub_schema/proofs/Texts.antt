@@ -1,4 +1,4 @@
--- What the texts that make the tables stand for.
+-- Shows what the texts that make the tables stand for.
 use Rattle.std.proofs.Common.{◌≡◌, ℕ, pos, List, [], ◌∷◌, codes, refl}
 use Rattle.sqlite.specs.Listing.{understood}
 use Rattle.sqlite.specs.Command.TheVariants.{Insert, Update}
@@ -25,7 +25,7 @@ put_number_plain = (refl, refl)
 abbrev pub set_number : List ℕ
 set_number = codes "UPDATE schema SET number = 3"
 
--- the row's number, twice, and the schema's as it becomes
+-- the row's number, twice, and the schema's new number
 abbrev pub set_number_shows : List Term
 set_number_shows = col 1 0 ∷ col 1 0 ∷ lit (Int (pos 3)) ∷ []
 

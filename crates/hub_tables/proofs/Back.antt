@@ -1,4 +1,4 @@
--- Where changes fit, tables rise before each of them, and after all.
+-- Shows that if changes fit, the keys rise before each of them and after all.
 use Rattle.std.proofs.Common.{◌≡◌, Bool, true, false, cond, List, [], ◌∷◌, refl, sym, ap, ◌∙◌}
 use Rattle.std.specs.List.{AllByRecursion}
 use Rattle.std.specs.Ordering.{is_gt}
@@ -43,7 +43,7 @@ rise_before = record {
   set = rises_replace_back;
 }
 
--- before a change at which no rows go
+-- before a change that deletes no rows
 uncleared_back : (c : Change) (t : Tables) → clears c ≡ false → Rising (apply c t) → Rising t
 uncleared_back c t none h = record {
   hubs = hubs_after rise_before c t h.hubs;
@@ -63,22 +63,22 @@ rising_back : (c : Change) (t : Tables) → RisesAt c t → Rising (apply c t) �
 rising_back (ClearReceipts sscc) t at h = at
 rising_back c t at h = uncleared_back c t refl h
 
--- before them
+-- before all changes
 pub fit_before : (cs : List Change) (t : Tables) → Fit cs t → Rising t
 fit_before [] t fit = fit
 fit_before (c ∷ cs) t fit = rising_back c t fit.0 (fit_before cs (apply c t) fit.1)
 
--- after them
+-- after all changes
 pub fit_after : (cs : List Change) (t : Tables) → Fit cs t → Rising (apply_all cs t)
 fit_after [] t fit = fit
 fit_after (c ∷ cs) t fit = fit_after cs (apply c t) fit.1
 
--- where tables rise, they do so where rows go
+-- if the keys rise, they also do before a change that deletes rows
 pub rises_at : (c : Change) (t : Tables) → Rising t → RisesAt c t
 rises_at (ClearReceipts sscc) t rising = rising
 rises_at _ t rising = tt
 
--- changes at which no rows go fit where the tables rise after them
+-- changes that delete no rows fit if the keys rise after all of them
 pub fit_uncleared : (cs : List Change) (t : Tables) → AllByRecursion (λ c. clears c ≡ false) cs → Rising (apply_all cs t) → Fit cs t
 fit_uncleared [] t none rising = rising
 fit_uncleared (c ∷ cs) t none rising = (uncleared c none.0, fit_uncleared cs (apply c t) none.1 rising)

@@ -1,4 +1,4 @@
--- What the changes of a supplier's row do to tables.
+-- Shows what the changes that add a supplier do to tables.
 use Rattle.std.proofs.Common.{◌≡◌, ◌≢◌, ℕ, Bool, true, false, cond, ◌||◌, inl, inr, List, [], ◌∷◌, ◌++◌, filter, find, map}
 use Rattle.std.proofs.Common.{Some, None, refl, sym, ◌∙◌, ap, subst}
 use Rattle.std.specs.List.{AllByRecursion, list_any, list_all}
@@ -34,7 +34,7 @@ use Rattle.hub_tables.proofs.Lists.{decide, same_is, same_if, differ, all_weaker
 use Rattle.hub_tables.proofs.Members.{all_of, all_if, none_of, none_if, one_of, has_map, has_filter}
 use Rattle.hub_tables.proofs.Setting.{rises_put}
 
--- Rows put one after another.
+-- Inserts rows one after another.
 abbrev pub puts : {X : Type 0} → (X → X → Ordering) → List X → List X → List X
 puts cmp [] there = there
 puts cmp (x ∷ xs) there = puts cmp xs (put cmp x there)
@@ -50,7 +50,7 @@ module _ {X : Type 0} (cmp : X → X → Ordering) where
   all_puts P [] there a b = b
   all_puts P (x ∷ xs) there a b = all_puts P xs (put cmp x there) a.1 (all_put cmp P there x b a.0)
 
-  -- a function that keeps keys
+  -- a function that keeps keys can be applied before or after inserting
   pub map_put : {Y : Type 0} (other : Y → Y → Ordering) (f : X → Y)
       → ((x y : X) → other (f x) (f y) ≡ cmp x y)
       → (xs : List X) (x : X)
@@ -75,7 +75,7 @@ module _ {X : Type 0} {cmp : X → X → Ordering} (total : IsTotalOrder cmp) wh
       filter_puts_in p xs (put cmp x there) (in_order_put total there x ordered) all.1
       ∙ ap (puts cmp xs) (filter_put_in total p there x ordered all.0)
 
-  -- rows that rise, one of which none is there
+  -- rising rows, none of which is there already, still rise once they are inserted
   pub rises_puts : (xs there : List X)
       → Rises cmp xs
       → Rises cmp there
@@ -96,7 +96,7 @@ module _ {X : Type 0} {cmp : X → X → Ordering} (total : IsTotalOrder cmp) wh
         still ys c.1 d.1,
       )
 
--- rows that rise, put where none is
+-- rising rows that come after all others are inserted at the end
 pub puts_rising : {X : Type 0} (cmp : X → X → Ordering) (xs done : List X)
     → AllByRecursion (λ x. AllByRecursion (λ y. is_gt (cmp y x) ≡ false) done) xs
     → Rises cmp xs
@@ -140,14 +140,14 @@ prefixes_added gln (prefix ∷ prefixes) t =
 pub row_added : (row : SupplierRow) (t : Tables) → apply_all (row_changes row) t ≡ with_row row t
 row_added row t = prefixes_added row.gln row.prefixes (apply (AddKey (key_row row)) t)
 
--- each of its rows is the supplier's
+-- each prefix row is the supplier's
 its_prefixes : (P : List ℕ → Type 0) (gln : List ℕ) (prefixes : List (List ℕ))
     → P gln
     → AllByRecursion (λ (r : PrefixRow). P r.supplier) (prefix_rows gln prefixes)
 its_prefixes P gln [] p = tt
 its_prefixes P gln (prefix ∷ prefixes) p = (p, its_prefixes P gln prefixes p)
 
--- the supplier sees its row come, and nobody else does
+-- the supplier sees its rows added, and no one else does
 pub row_seen : (row : SupplierRow) (t : Tables) → Ordered t → view row.gln (with_row row t) ≡ with_row row (view row.gln t)
 row_seen row t ordered =
     let mine = same_if row.gln row.gln refl in
@@ -164,7 +164,7 @@ row_unseen row t other ne =
     (its_prefixes (λ gln. same gln other ≡ false) row.gln row.prefixes theirs) in
     λ i. record (view other t) { keys = keys i; prefixes = prefixes i }
 
--- what is found by a GLN in tables is found in what is seen of them
+-- what is found by a GLN in tables is also found in that GLN's view
 pub own_row : (gln : List ℕ) (t : Tables) → row_at gln (view gln t) ≡ row_at gln t
 own_row gln t = by_keys t.keys
   where
@@ -193,7 +193,7 @@ own_row gln t = by_keys t.keys
           | false ↦ λ e. by_keys keys
         ] refl
 
--- a prefix of a supplier is one of its row
+-- a supplier's prefix is in its row
 module _ (t : Tables) where
   pub prefix_there : (k : KeyRow) (r : PrefixRow)
       → Has t.prefixes r
@@ -203,7 +203,7 @@ module _ (t : Tables) where
       has_map (λ (found : PrefixRow). found.prefix) (filter (λ found. same found.supplier k.supplier) t.prefixes) r
       (has_filter (λ found. same found.supplier k.supplier) t.prefixes r there e)
 
-  -- who is found has a key
+  -- a supplier that is found has a key
   pub key_found : (gln : List ℕ) (s : SupplierRow) → row_at gln t ≡ Some s → has_key t.keys gln ≡ true
   key_found gln s known = sym (by_keys t.keys) ∙ any_if_found (λ supplier. same supplier.gln gln) (suppliers_of t) s known
     where
@@ -212,7 +212,7 @@ module _ (t : Tables) where
       by_keys [] = refl
       by_keys (k ∷ keys) = ap (λ v. same k.supplier gln || v) (by_keys keys)
 
--- what does not pass is passed by
+-- a row that fails the test does not change what is found
 pub find_past : {X : Type 0} (cmp : X → X → Ordering) (p : X → Bool) (xs : List X) (x : X)
     → p x ≡ false
     → find p (put cmp x xs) ≡ find p xs
@@ -253,13 +253,13 @@ module _ (row : SupplierRow) (t : Tables) (new : has_key t.keys row.gln ≡ fals
       map_alike [] all = refl
       map_alike (k ∷ keys) all = λ i. all.0 i ∷ map_alike keys all.1 i
 
-  -- the suppliers after it: one more, whose prefixes are those that are added to what lay there
+  -- afterwards there is one more supplier, which has the added prefixes and those that were there for it already
   suppliers_and : suppliers_of (with_row row t) ≡ put supplier_cmp (row_in rows_after (key_row row)) (suppliers_of t)
   suppliers_and =
       map_put key_cmp supplier_cmp (row_in rows_after) (λ x y. refl) t.keys (key_row row)
       ∙ ap (put supplier_cmp (row_in rows_after (key_row row))) old_rows
 
-  -- who is found stays found
+  -- a supplier that was found still is
   pub row_stays : (gln : List ℕ) (s : SupplierRow) → row_at gln t ≡ Some s → row_at gln (with_row row t) ≡ Some s
   row_stays gln s known =
       ap (λ suppliers. supplier_row suppliers gln) suppliers_and
@@ -275,17 +275,17 @@ module _ (row : SupplierRow) (t : Tables) (new : has_key t.keys row.gln ≡ fals
         | inr e ↦ e
       ]
 
--- The keys and the prefixes stand in their order, none twice, and each prefix's supplier has a key.
+-- Keys and prefixes rise strictly, and each prefix's supplier has a key.
 pub record Enrolled (t : Tables) : Type 0 where
   pub keys_rise : Rises key_cmp t.keys
   pub prefixes_rise : Rises prefix_cmp t.prefixes
   pub prefixes_had : AllByRecursion (λ row. has_key t.keys row.supplier ≡ true) t.prefixes
 
--- one text is below another, by their bytes
+-- whether a text is lower than another, by their bytes
 abbrev is_below : List ℕ → List ℕ → Bool
 is_below text other = is_lt (bytes_cmp text other)
 
--- a supplier that is new, with rising prefixes that are apart from those of the others
+-- a new supplier, with rising prefixes that do not overlap those of the others
 module _ (row : SupplierRow) (t : Tables) (here : Enrolled t) (new : has_key t.keys row.gln ≡ false)
     (rises : rising row.prefixes ≡ true) (apart : (s : SupplierRow) → Has (suppliers_of t) s → Apart row s) where
   rows_rise : Rises prefix_cmp (prefix_rows row.gln row.prefixes)
@@ -332,7 +332,7 @@ module _ (row : SupplierRow) (t : Tables) (here : Enrolled t) (new : has_key t.k
       back [] = refl
       back (p ∷ ps) = ap (λ rest. p ∷ rest) (back ps)
 
-  -- is one more supplier
+  -- adds exactly one supplier
   pub suppliers_after : suppliers_of (with_row row t) ≡ put supplier_cmp row (suppliers_of t)
   suppliers_after = suppliers_and row t new ∙ ap (λ r. put supplier_cmp r (suppliers_of t)) new_row
 

@@ -1,4 +1,4 @@
--- What passes two tests.
+-- Shows what remains after two tests.
 use Rattle.std.proofs.Common.{◌≡◌, Bool, true, not, inl, inr, List, [], ◌∷◌, filter, refl, arith}
 use Rattle.hub_tables.proofs.Lists.{decide}
 

@@ -1,4 +1,4 @@
--- Tables with the rows of a register alone hold it.
+-- Shows that tables which have only the rows of a register hold that register.
 use Rattle.std.proofs.Common.{◌≡◌, ℕ, nat_le, true, false, List, [], ◌∷◌, ◌++◌, length, map, refl, sym, ◌∙◌, ap, subst}
 use Rattle.std.specs.List.{AllByRecursion, list_all}
 use Rattle.std.specs.Ordering.{is_eq, is_gt}
@@ -31,11 +31,11 @@ pub applied_in_turn : (first second : List Change) (t : Tables) → apply_all (f
 applied_in_turn [] second t = refl
 applied_in_turn (change ∷ first) second t = applied_in_turn first second (apply change t)
 
--- the rows of the parties alone are others
+-- the tables differ only in the rows of the parties
 abbrev pub OnlyParties : Tables → Tables → Type 0
 OnlyParties t after = after ≡ record t { hubs = after.hubs; keys = after.keys; prefixes = after.prefixes }
 
--- the tables hold these suppliers, and beside them what other tables have
+-- the tables hold these suppliers, and otherwise what `t` has
 record Holds (t : Tables) (suppliers : List SupplierRow) (after : Tables) : Type 0 where
   pub hubs : after.hubs ≡ t.hubs
   pub rest : OnlyParties t after
@@ -59,7 +59,7 @@ module _ (one : SupplierRow) (others : List SupplierRow) where
       head [] all = all.0
       head (y ∷ ys) all = head ys all.1
 
--- one supplier after another
+-- adding one supplier after another
 enrolled_in_turn : (t start : Tables) (done rows : List SupplierRow)
     → Holds start done t
     → Rises supplier_cmp (done ++ rows)
@@ -95,7 +95,7 @@ enrolled_in_turn t start done (row ∷ rows) holds rises free right =
     (subst (Holds start ((done ++ row ∷ []) ++ rows)) (sym (applied_in_turn (row_changes row) (suppliers_changes rows) t
     ∙ ap (apply_all (suppliers_changes rows)) (row_added row t))) all)
 
--- what every register keeps, of its suppliers one by one
+-- what every register guarantees, for its suppliers one by one
 rise_by_gln : (suppliers : List SupplierRow)
     → Rises bytes_cmp (map (λ (row : SupplierRow). row.gln) suppliers)
     → Rises supplier_cmp suppliers
@@ -153,11 +153,11 @@ module _ (register : RegisterRows) (right : IsRegister register) where
     right = subst IsRegister (sym register_back) right;
   }
 
-  -- and nothing else
+  -- the tables hold nothing else
   pub nothing_else : OnlyParties empty (founded register)
   nothing_else = all_held.rest
 
-  -- and each kind rises by its key
+  -- the keys of each kind rise
   pub founded_rises : Rising (founded register)
   founded_rises = subst Rising (sym nothing_else) (record {
     hubs = subst (Rises hub_cmp) (sym all_held.hubs) (tt, tt);
@@ -173,7 +173,7 @@ module _ (register : RegisterRows) (right : IsRegister register) where
     mail = tt;
   })
 
--- no row goes as a register is founded
+-- founding a register deletes no rows
 prefixes_clear_none : (supplier : List ℕ) (prefixes : List (List ℕ)) (rest : List Change) → AllByRecursion (λ c. clears c ≡ false) rest
     → AllByRecursion (λ c. clears c ≡ false) (prefix_changes supplier prefixes ++ rest)
 prefixes_clear_none supplier [] rest none = none
@@ -183,7 +183,7 @@ suppliers_clear_none : (rows : List SupplierRow) → AllByRecursion (λ c. clear
 suppliers_clear_none [] = tt
 suppliers_clear_none (row ∷ rows) = (refl, prefixes_clear_none row.gln row.prefixes (suppliers_changes rows) (suppliers_clear_none rows))
 
--- so its changes fit
+-- so the changes fit
 pub founded_fits : (register : RegisterRows) → IsRegister register → Fit (register_changes register) empty
 founded_fits register right =
     fit_uncleared (register_changes register) empty (refl, suppliers_clear_none register.suppliers) (founded_rises register right)

@@ -1,4 +1,4 @@
--- Suppliers whose prefixes are free of one another, one after another.
+-- Handles suppliers whose prefixes do not overlap, one after another.
 use Rattle.std.proofs.Common.{◌≡◌, ℕ, zero, suc, Bool, true, false, ◌||◌, cond, List, [], ◌∷◌, All, refl, arith}
 use Rattle.std.specs.List.{AllByRecursion}
 use Rattle.std.specs.Ordering.{is_gt}
@@ -46,7 +46,7 @@ apart_to one other f =
     All-from_recursion (λ q. overlap p q ≡ false) other.prefixes
     (all_if (λ q. overlap p q ≡ false) other.prefixes (λ q there. f p q here there))))
 
--- the same of places
+-- the same, from positions
 pub free_from : (suppliers : List SupplierRow) → PrefixFree (company_prefixes suppliers) → Free suppliers
 free_from [] h = tt
 free_from (one ∷ others) h = (
@@ -73,7 +73,7 @@ free_to (one ∷ others) free zero (suc j) d before within = first others free.0
 free_to (one ∷ others) free (suc i) zero d before within = absurd (omega (arith, before))
 free_to (one ∷ others) free (suc i) (suc j) d before within = free_to others free.1 i j d (omega (arith, before)) (omega (arith, within))
 
--- one more that is apart from all
+-- adding one that overlaps none of the others
 pub free_put : (cmp : SupplierRow → SupplierRow → Ordering) (suppliers : List SupplierRow) (row : SupplierRow)
     → AllByRecursion (Apart row) suppliers
     → Free suppliers

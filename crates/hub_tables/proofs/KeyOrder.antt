@@ -1,4 +1,4 @@
--- Lists in the order of a key, under a put, a filter and a replacing.
+-- Shows what inserting, filtering and replacing do to lists sorted by a key.
 use Rattle.std.proofs.Common.{◌≡◌, ℕ, ◌+◌, Bool, true, false, cond, ◌||◌, inl, inr, List, [], ◌∷◌, ◌++◌, filter, map}
 use Rattle.std.proofs.Common.{sum_by, refl, sym, ◌∙◌, ap, arith}
 use Rattle.std.specs.List.{AllByRecursion, list_any}
@@ -12,7 +12,7 @@ use Rattle.std.proofs.lemmas.List.Sums.{sum_by-cons}
 use Rattle.hub_parties.specs.KeyOrder.{InOrder, Rises, put}
 use Rattle.hub_tables.proofs.Lists.{decide, all_filter, all_weaker}
 
--- Without any order.
+-- Without assuming any order.
 module _ {X : Type 0} (cmp : X → X → Ordering) where
   pub all_put : (P : X → Type 0) (xs : List X) (x : X) → AllByRecursion P xs → P x → AllByRecursion P (put cmp x xs)
   all_put P [] x a b = (b, tt)
@@ -87,7 +87,7 @@ module _ {X : Type 0} (cmp : X → X → Ordering) where
         | false ↦ in_order_filter p xs a.1
       ]
 
-  -- a function that keeps keys
+  -- a function that keeps keys keeps the order
   pub in_order_map : (f : X → X) → ((x y : X) → cmp (f x) (f y) ≡ cmp x y) → (xs : List X) → InOrder cmp xs → InOrder cmp (map f xs)
   in_order_map f e [] a = tt
   in_order_map f e (x ∷ xs) a = (mapped xs a.0, in_order_map f e xs a.1)
@@ -98,7 +98,7 @@ module _ {X : Type 0} (cmp : X → X → Ordering) where
       mapped [] b = tt
       mapped (y ∷ ys) b = (ap is_gt (e x y) ∙ b.0, mapped ys b.1)
 
--- In order.
+-- For sorted lists.
 module _ {X : Type 0} {cmp : X → X → Ordering} (total : IsTotalOrder cmp) where
   less_back : (x y : X) → is_gt (cmp y x) ≡ true → is_gt (cmp x y) ≡ false
   less_back x y h = ap is_gt (total.antisymm x y) ∙ by_answer (cmp y x) h
@@ -108,7 +108,7 @@ module _ {X : Type 0} {cmp : X → X → Ordering} (total : IsTotalOrder cmp) wh
       by_answer Equal g = cc
       by_answer Greater g = refl
 
-  -- what is after a greater one is greater
+  -- what comes after a greater row is greater too
   all_greater : (x y : X) (ys : List X)
       → is_gt (cmp y x) ≡ true
       → AllByRecursion (λ z. is_gt (cmp y z) ≡ false) ys
@@ -145,7 +145,7 @@ module _ {X : Type 0} {cmp : X → X → Ordering} (total : IsTotalOrder cmp) wh
         | inr g ↦ elim (decide (p y)) [ inl h ↦ grind (arith, g, h, ih) | inr h ↦ grind (arith, g, h, ih) ]
       ]
 
--- what passes a test of rows that rise
+-- rising rows still rise after a filter
 pub rises_filter : {X : Type 0} (cmp : X → X → Ordering) (p : X → Bool) (xs : List X) → Rises cmp xs → Rises cmp (filter p xs)
 rises_filter cmp p [] a = tt
 rises_filter cmp p (x ∷ xs) a =

@@ -1,4 +1,4 @@
--- The order of each kind, what changes do to the rows of each, and that they keep the order.
+-- Defines the order of each kind, and shows what changes do to its rows, and that they keep the order.
 use Rattle.std.proofs.Common.{◌≡◌, ℕ, Bool, true, false, cond, not, List, [], ◌∷◌, ◌&&◌, ◌==◌, refl, sym, ap₂, arith}
 use Rattle.std.specs.declared.cmp.Ordering.{Ordering}
 use Rattle.std.specs.Ordering.{nat_cmp, ordering_then}
@@ -61,7 +61,7 @@ remembered_total =
 pub mail_total : IsTotalOrder mail_cmp
 mail_total = then_total (on_total (λ r. r.supplier) nat_list_cmp_total) (on_total (λ r. r.number) nat_cmp_total)
 
--- a row set in place of one with its key is compared alike
+-- replacing a row by one with its key does not change comparisons
 replaced_alike : {X K : Type 0} (key : X → K) (cmp : K → K → Ordering) (at : X → Bool) (r : X) → ((y : X) → at y ≡ true → key y ≡ key r)
     → (x y : X) → cmp (key (cond (at x) r x)) (key (cond (at y) r y)) ≡ cmp (key x) (key y)
 replaced_alike key cmp at r f x y = ap₂ cmp (one x) (one y)
@@ -69,7 +69,7 @@ replaced_alike key cmp at r f x y = ap₂ cmp (one x) (one y)
     one : (z : _) → key (cond (at z) r z) ≡ key z
     one z = elim (at z) as (λ v. at z ≡ v → key (cond v r z) ≡ key z) [ true ↦ λ e. sym (f z e) | false ↦ λ e. refl ] refl
 
--- a row that is set has the key of the one in whose place it comes
+-- a replacing row has the key of the row that it replaces
 pub line_key : (r y : LineRow) → same_line r y ≡ true → (y.supplier ≡ r.supplier) × (y.number ≡ r.number) × (y.line ≡ r.line)
 line_key r y e =
     let parts = and_parts (same y.supplier r.supplier) (same y.number r.number && (y.line == r.line)) e in
@@ -102,8 +102,8 @@ mail_set r =
     (λ a b. ordering_then (bytes_cmp a.0 b.0) (nat_cmp a.1 b.1)) (same_mail r) r
     (λ y e. let key = mail_key r y e in λ i. (key.0 i, key.1 i))
 
--- A relation of the rows of one kind before a change to those after it, which holds where they stay, where one more is put
--- among them, and where one is set in the place of the one with its key.
+-- A relation between the rows of one kind before and after a change. It holds if they stay the same, if a row is
+-- inserted, and if a row replaces the one with its key.
 pub record Steps (R : (X : Type 0) → (X → X → Ordering) → List X → List X → Type 0) : Type 1 where
   pub stay : {X : Type 0} (cmp : X → X → Ordering) (rows : List X) → R X cmp rows rows
   pub add : {X : Type 0} (cmp : X → X → Ordering) → IsTotalOrder cmp → (rows : List X) (r : X) → R X cmp rows (put cmp r rows)
@@ -112,7 +112,7 @@ pub record Steps (R : (X : Type 0) → (X → X → Ordering) → List X → Lis
       → (rows : List X)
       → R X cmp rows (replace at r rows)
 
--- So it holds of each kind before and after any change; where rows go that has to be shown.
+-- So it holds for each kind before and after any change; if rows are deleted, that must be shown.
 module _ {R : (X : Type 0) → (X → X → Ordering) → List X → List X → Type 0} (steps : Steps R) where
   pub hubs_after : (c : Change) (t : Tables) → R _ hub_cmp t.hubs (apply c t).hubs
   hubs_after (AddHub r) t = steps.add hub_cmp hub_total t.hubs r

@@ -1,4 +1,4 @@
--- Tests and lists.
+-- Provides lemmas about tests and lists.
 use Rattle.std.proofs.Common.{◌≡◌, ◌≢◌, ℕ, Bool, true, false, cond, ◌||◌, ◌⊎◌, inl, inr, List, [], ◌∷◌, filter, find, Some}
 use Rattle.std.proofs.Common.{None, refl, sym, ◌∙◌, ap, ap₂, subst, arith}
 use Rattle.std.specs.List.{AllByRecursion, list_any}
@@ -21,7 +21,7 @@ same_if a b e = (bytes_eq-Decides a b).1 e
 pub differ : (a b : List ℕ) → a ≢ b → same a b ≡ false
 differ a b ne = elim (decide (same a b)) [ inl e ↦ absurd (ne (same_is a b e)) | inr e ↦ e ]
 
--- two tests that agree on the elements keep the same
+-- two tests that agree on all elements keep the same ones
 pub filter_alike : {X : Type 0} (p q : X → Bool) (xs : List X) → AllByRecursion (λ x. p x ≡ q x) xs → filter p xs ≡ filter q xs
 filter_alike p q [] all = refl
 filter_alike p q (x ∷ xs) all = ap₂ (λ v rest. cond v (x ∷ rest) rest) all.0 (filter_alike p q xs all.1)
@@ -50,7 +50,7 @@ filter_replace_out p at r (y ∷ ys) pr all =
       | inr e ↦ elim (decide (p y)) [ inl py ↦ grind (arith, e, py, ih) | inr py ↦ grind (arith, e, py, ih) ]
     ]
 
--- a row with the same key is found alike
+-- replacing a row by one with the same key does not change whether some row passes
 pub any_replaced : {X : Type 0} (p at : X → Bool) (r : X) (xs : List X)
     → ((y : X) → at y ≡ true → p y ≡ p r)
     → list_any p (replace at r xs) ≡ list_any p xs
@@ -62,7 +62,7 @@ any_replaced p at r (y ∷ ys) f =
       | inr e ↦ grind (arith, e, ih)
     ]
 
--- What holds of each element.
+-- For what holds for each element.
 module _ {X : Type 0} (P : X → Type 0) where
   pub all_filter : (p : X → Bool) (xs : List X) → AllByRecursion P xs → AllByRecursion P (filter p xs)
   all_filter p [] a = tt
@@ -82,7 +82,7 @@ module _ {X : Type 0} (P : X → Type 0) where
   all_always f [] = tt
   all_always f (x ∷ xs) = (f x, all_always f xs)
 
-  -- the rows that are not replaced, and the row itself
+  -- if it holds for the rows that are not replaced, and for the new row
   pub all_replaced : (at : X → Bool) (r : X) (xs : List X)
       → AllByRecursion (λ y. at y ≡ false → P y) xs
       → P r
@@ -112,7 +112,7 @@ all_passes p (x ∷ xs) =
     elim (p x) as (λ v. p x ≡ v → AllByRecursion (λ x. p x ≡ true) (cond v (x ∷ filter p xs) (filter p xs)))
     [ true ↦ λ e. (e, all_passes p xs) | false ↦ λ e. all_passes p xs ] refl
 
--- each element is found by itself
+-- each element is found when searching for itself
 pub all_itself : {X : Type 0} (p : X → X → Bool)
     → ((x : X) → p x x ≡ true)
     → (xs : List X)

@@ -1,4 +1,4 @@
--- The members of a list.
+-- Provides lemmas about the members of a list.
 use Rattle.std.proofs.Common.{◌≡◌, Bool, true, false, cond, ◌||◌, inl, inr, List, [], ◌∷◌, filter, map, refl, sym, ◌∙◌, ap, ap₂, subst}
 use Rattle.std.specs.List.{AllByRecursion, list_any}
 use Rattle.std.specs.Ordering.{is_gt}
@@ -25,7 +25,7 @@ pub none_if : {X : Type 0} (p : X → Bool) (xs : List X) → ((x : X) → Has x
 none_if p [] f = refl
 none_if p (x ∷ xs) f = ap₂ (λ v w. v || w) (f x (inl refl)) (none_if p xs (λ y there. f y (inr there)))
 
--- one that passes
+-- an element that passes
 pub one_of : {X : Type 0} (p : X → Bool) (xs : List X) → list_any p xs ≡ true → (x : X) × Has xs x × (p x ≡ true)
 one_of p [] h = cc
 one_of {X} p (y ∷ ys) h =

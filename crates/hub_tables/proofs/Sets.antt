@@ -1,4 +1,4 @@
--- A set of rows has one list that rises by its key.
+-- Shows that a set of rows has exactly one list with rising keys.
 use Rattle.std.proofs.Common.{◌≡◌, inl, inr, List, [], ◌∷◌, refl, sym, ◌∙◌, ap, subst}
 use Rattle.std.specs.declared.cmp.Ordering.{Ordering}
 use Rattle.std.specs.declared.cmp.Ordering.TheVariants.{Less, Equal, Greater}
@@ -82,7 +82,7 @@ rows_are_one t u a b s =
       mail = mail i;
     }
 
--- what rises is in order
+-- rising rows are in order
 pub rising_ordered : (t : Tables) → Rising t → Ordered t
 rising_ordered t rising = record {
   hubs = in_order_rising _ t.hubs rising.hubs;

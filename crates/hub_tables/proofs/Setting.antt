@@ -1,4 +1,4 @@
--- A row that is put, or set, in rows that rise by their keys.
+-- Shows what inserting or replacing a row does to rows with rising keys.
 use Rattle.std.proofs.Common.{◌≡◌, ℕ, suc, ◌+◌, ◌<◌, Bool, true, false, cond, ◌||◌, List, [], ◌∷◌, length, refl, sym, ap, ◌∙◌, arith}
 use Rattle.std.specs.List.{AllByRecursion, list_any, prefix_len, insert}
 use Rattle.std.specs.Prelude.{slice_set}
@@ -17,7 +17,7 @@ module _ {X : Type 0} {cmp : X → X → Ordering} (total : IsTotalOrder cmp) (r
   abbrev pub has : List X → Bool
   has xs = list_any (λ x. is_eq (cmp x r)) xs
 
-  -- what is above one above r is above r
+  -- what comes after a row above r is above r
   above_next : (x y : X) → cmp x r ≡ Greater → cmp x y ≡ Less → cmp y r ≡ Greater
   above_next x y g less =
       let back : cmp r x ≡ Less = total.antisymm r x ∙ ap ordering_reverse g in
@@ -27,7 +27,7 @@ module _ {X : Type 0} {cmp : X → X → Ordering} (total : IsTotalOrder cmp) (r
       AllByRecursion (λ y. cmp y r ≡ Greater) xs
   all_above x xs g all = all_weaker (λ y. cmp x y ≡ Less) (λ y. cmp y r ≡ Greater) (λ y less. above_next x y g less) xs all
 
-  -- what is above one at r is above r
+  -- what comes after a row that compares as equal to r is above r
   pub after_equal : (x : X) (xs : List X) → cmp x r ≡ Equal → AllByRecursion (λ y. cmp x y ≡ Less) xs →
       AllByRecursion (λ y. cmp y r ≡ Greater) xs
   after_equal x xs e all = all_weaker (λ y. cmp x y ≡ Less) (λ y. cmp y r ≡ Greater) (λ y less. total.antisymm y r
@@ -37,9 +37,9 @@ module _ {X : Type 0} {cmp : X → X → Ordering} (total : IsTotalOrder cmp) (r
   none_above [] all = refl
   none_above (x ∷ xs) all = ap (λ o. is_eq o || has xs) all.0 ∙ none_above xs all.1
 
-  -- A row that is put.
+  -- Inserting a row.
 
-  -- where its key is new
+  -- if its key is new
   pub rises_put : (xs : List X) → Rises cmp xs → has xs ≡ false → Rises cmp (put cmp r xs)
   rises_put [] rises new = (tt, tt)
   rises_put (x ∷ xs) rises new =
@@ -62,7 +62,7 @@ module _ {X : Type 0} {cmp : X → X → Ordering} (total : IsTotalOrder cmp) (r
         | Greater ↦ λ new. refl
       ] new
 
-  -- where its key is there
+  -- if its key exists already
   pub not_put : (xs : List X) → Rises cmp xs → has xs ≡ true → Rises cmp (put cmp r xs) → ⊥
   not_put [] rises there h = cc
   not_put (x ∷ xs) rises there h =
@@ -72,7 +72,7 @@ module _ {X : Type 0} {cmp : X → X → Ordering} (total : IsTotalOrder cmp) (r
         | Greater ↦ λ e there h. let none = none_above xs (all_above x xs e rises.0) in cc
       ] refl there h
 
-  -- A row that is set.
+  -- Replacing a row.
 
   pub found_within : (xs : List X) → Rises cmp xs → has xs ≡ true → below xs < length xs
   found_within [] rises there = cc
@@ -113,7 +113,7 @@ module _ {X : Type 0} {cmp : X → X → Ordering} (total : IsTotalOrder cmp) (r
     tied : (z : X) → is_eq (cmp z r) ≡ true → cmp z r ≡ Equal
     tied z e = (Equal-is (cmp z r)).0 e
 
-    -- what is set is compared as what was there
+    -- the new row compares like the one that it replaces
     set_alike : (x y : X) → cmp (cond (alike x) r x) (cond (alike y) r y) ≡ cmp x y
     set_alike x y = left ∙ right
       where

@@ -1,4 +1,4 @@
-//! What faults of a store tell, and what a crash leaves after a commit, over any store and over lists.
+//! Tests what the faults of a store mean, and what a crash leaves after a commit, for any store and for lists.
 ghost use Rattle.std.specs.Prelude.{◌≡◌, ◌≢◌, [], true, None, Some, Err, IsTrue, IfErr, OnOk};
 ghost use Rattle.std.specs.Option.{IfSome};
 ghost use Rattle.hub_tables.specs.Change.{apply_all};
@@ -20,14 +20,14 @@ use std::test::Fail;
 use trial_lists::VecStore;
 use trial_store::TrialStore;
 
-// What is answered first, which fault is for good then, and what is answered again.
+// The result of the first look-up, the lasting fault after it, and the result of the second.
 type Answers = (
     Result<bool, StoreFault>,
     Option<LastingFault>,
     Result<bool, StoreFault>,
 );
 
-// Asks twice for an order.
+// Looks for an order twice.
 fn ask_twice<S: Store>(store: &mut S, supplier: &Gln, number: &[u8]) -> Answers
     ensures told { result.1 ≡ broken_after (S.broken store.old) result.0 }
     ensures again { IfSome result.1 (λ fault. result.2 ≡ Err (fault_of fault)) }
@@ -40,7 +40,7 @@ fn ask_twice<S: Store>(store: &mut S, supplier: &Gln, number: &[u8]) -> Answers
     (first, fault, second)
 }
 
-// The same in lists, whose only fault is out of memory.
+// Does this with lists, whose only fault here is lack of memory.
 fn ask_list_twice(store: &mut VecStore, supplier: &Gln, number: &[u8]) -> Answers
     ensures told { result.1 ≡ broken_after None result.0 }
     ensures only_memory { IfErr result.0 (λ fault. fault ≡ Memory) }
@@ -48,14 +48,14 @@ fn ask_list_twice(store: &mut VecStore, supplier: &Gln, number: &[u8]) -> Answer
     ask_twice(store, supplier, number)
 }
 
-// The fault for good of lists: there is none.
+// Returns the lasting fault of lists: they have none.
 fn fault_of_list(store: &VecStore) -> Option<LastingFault>
     ensures { result ≡ None }
 {
     store.fault()
 }
 
-// The same in lists that are on trial: a fault of a disk is for good.
+// Does this with lists whose calls can be made to fail: a fault of the disk is lasting.
 fn ask_trial_twice(store: &mut TrialStore<VecStore>, supplier: &Gln, number: &[u8]) -> Answers
     ensures disk { result.0 ≡ Err Disk → (result.1 ≡ Some lasting.Disk) × (result.2 ≡ Err Disk) }
     ensures opened { IfErr result.0 (λ fault. fault ≢ Version) }
@@ -63,7 +63,7 @@ fn ask_trial_twice(store: &mut TrialStore<VecStore>, supplier: &Gln, number: &[u
     ask_twice(store, supplier, number)
 }
 
-// Asks for an order, where all rows may be of the kinds.
+// Looks for an order, in rows that may all be clean.
 fn ask_clean<S: Store>(store: &mut S, supplier: &Gln, number: &[u8]) -> Result<bool, StoreFault>
     ensures { S.honest store.new → S.broken store.old ≡ None →
         are_clean (S.content store.old) ≡ true → result ≢ Err Unclean }
@@ -71,7 +71,7 @@ fn ask_clean<S: Store>(store: &mut S, supplier: &Gln, number: &[u8]) -> Result<b
     store.order_known(supplier, number)
 }
 
-// The same in lists on trial.
+// Does this with lists whose calls can be made to fail.
 fn ask_clean_trial(
     store: &mut TrialStore<VecStore>,
     supplier: &Gln,
@@ -82,7 +82,7 @@ fn ask_clean_trial(
     ask_clean(store, supplier, number)
 }
 
-// Commits changes, where all rows before and after them may be of the kinds.
+// Commits changes, with rows that may all be clean before and after them.
 fn commit_clean<S: Store>(store: &mut S, changes: &[Change]) -> Result<(), StoreFault>
     requires { changes.now ≢ [] }
     ensures clean { S.honest store.new → S.broken store.old ≡ None → Fit changes.now (S.content store.old) →
@@ -96,7 +96,7 @@ fn commit_clean<S: Store>(store: &mut S, changes: &[Change]) -> Result<(), Store
     store.commit(changes)
 }
 
-// The same in lists, where a crash leaves the content.
+// Does this with lists, of which a crash leaves the content.
 fn commit_listed(store: &mut VecStore, changes: &[Change]) -> Result<(), StoreFault>
     requires { changes.now ≢ [] }
     ensures clean { Fit changes.now store.old → have_places changes.now store.old ≡ true →
@@ -114,7 +114,7 @@ fn order(alloc: Global, supplier: Gln) -> Result<Change, MemoryFault> {
     Ok(Change::AddOrder(OrderRow { supplier, number }))
 }
 
-// Commits the order. Each call stands alone from here on: its contract is then of no other's goals.
+// Commits the order. From here on, each call is in a function of its own, to keep its contract out of other proofs.
 fn commit_order(alloc: Global, list: &mut VecStore, supplier: Gln) -> Result<(), StoreFault> {
     let change = order(alloc, supplier)?;
     commit_listed(list, slice::from_ref(&change))

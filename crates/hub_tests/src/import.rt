@@ -15,7 +15,7 @@ const ORDERS: &[u8] =
         BGM+220+128576+9'DTM+137:20250603:102'NAD+BY+5412345000013::9'NAD+SU+4012345500004::9'\
         LIN+1++4000862141404:SRV'QTY+21:48'UNS+S'CNT+2:1'UNT+10+1'UNZ+1+1001'";
 
-// How the bytes of a file come.
+// How the bytes of a file arrive.
 #[derive(Clone, Copy)]
 enum How {
     // All of them.
@@ -24,11 +24,11 @@ enum How {
     Failing,
     // It cannot be opened.
     Shut,
-    // Memory gives out while it is opened.
+    // Memory runs out while it is opened.
     NoMemory,
 }
 
-// A file with its name, or one whose name is none.
+// A file with its name, or an unnamed one (a name that is not a text).
 #[derive(Clone, Copy, Drop)]
 struct Row {
     name: Option<&'static str>,
@@ -80,7 +80,7 @@ static NO_MEMORY: [Row; 3] = [
     ORDER,
 ];
 
-// A reader that gives what it has, and then has nothing more, or answers an error.
+// A reader that returns what it has, and then ends, or returns an error.
 #[derive(Drop)]
 struct Brittle {
     left: &'static [u8],
@@ -141,7 +141,7 @@ impl Files for Given {
     }
 }
 
-// What is printed.
+// Collects what is printed.
 #[derive(Drop)]
 struct Printed {
     bytes: Vec<u8>,
@@ -162,7 +162,7 @@ fn retailer() -> Option<(Gln, Moment)> {
     Some((Gln::parse(b"5412345000013")?, Moment::new(1_748_942_400)?))
 }
 
-// Imports the files of a table in the name of the retailer.
+// Imports the files of a table as the retailer.
 fn import(
     alloc: Global,
     hub: &mut Hub<VecStore>,
@@ -215,7 +215,7 @@ fn files_come_one_after_another(rt: HostRuntime) -> Result<(), Fail> {
     Ok(())
 }
 
-// The retailer asks for a status.
+// Makes the retailer's request for a status.
 fn asked(alloc: Global) -> Result<Input, Fail> {
     let (caller, moment) = retailer().ok_or("a GLN")?;
     Ok(Input {

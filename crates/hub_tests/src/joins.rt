@@ -1,4 +1,4 @@
-//! Suppliers that join while a hub runs.
+//! Tests suppliers that join while a hub runs.
 ghost use Rattle.std.specs.Prelude.{◌≡◌};
 
 use crate::lists::lists;
@@ -13,14 +13,14 @@ use std::test::Fail;
 use trial_lists::VecStore;
 use trial_store::TrialStore;
 
-// Who joins, with which key and which prefix.
+// The GLN, the key and the prefix of a supplier that joins.
 type Joining = (&'static [u8], &'static [u8], &'static [u8]);
 
 const GAMMA: Joining = (b"7612345000008", b"gamma-key-1", b"7612345");
 
 const DELTA: Joining = (b"3512345000005", b"delta-key-1", b"3512345");
 
-// Calls alone, so that what the contract says burdens no other goal.
+// A function of its own, to keep the contract of the call out of other proofs.
 fn join_of(
     alloc: Global,
     supplier: Gln,
@@ -52,8 +52,8 @@ fn joining(alloc: Global, row: &Joining) -> Result<Join, Fail> {
     Ok(join_of(alloc, supplier, key, prefix)?.ok_or("a join")?)
 }
 
-// What is answered to the retailer that lets a supplier in. Lists stop for want of memory alone, and nothing is answered where
-// there is none even for that.
+// Returns the reply to the retailer that registers a supplier. Lists stop only if memory runs out, and the reply is
+// empty if there is no memory even for the reply.
 fn told<S: Store>(hub: &mut Hub<S>, join: Join) -> Result<Reply, Fail> {
     let caller = Gln::parse(b"5412345000013").ok_or("a GLN")?;
     let moment = Moment::new(1_748_942_400).ok_or("a moment")?;
@@ -70,7 +70,7 @@ fn is_known<S: Store>(hub: &Hub<S>, row: &Joining) -> Result<bool, Fail> {
     Ok(role(hub, &supplier, key) == Some(Role::Supplier))
 }
 
-// Who joins, what is answered, and whether the supplier is known by the key then.
+// The supplier that joins, the reply, and whether the hub then knows the supplier by its key.
 type Answer = (Joining, &'static [u8], bool);
 
 static ANSWERS: [Answer; 6] = [
@@ -119,7 +119,7 @@ fn suppliers_join_a_hub_over_lists(rt: HostRuntime) -> Result<(), Fail> {
     Ok(())
 }
 
-// Lists that fail at their first call, which gives their register.
+// Makes lists that fail at their first call, which returns their register.
 fn failing(lists: VecStore, is_of_disk: bool) -> TrialStore<VecStore>
     ensures { result.0 ≡ lists }
 {
@@ -151,7 +151,7 @@ fn a_hub_wants_its_register(rt: HostRuntime) -> Result<(), Fail> {
     Ok(())
 }
 
-// Lists with a prefix of a supplier that has no key: their rows hold no register.
+// Makes lists with a prefix of a supplier that has no key: their rows do not form a register.
 fn lists_without_a_register(alloc: Global) -> Result<VecStore, Fail> {
     let mut lists = lists(alloc)?;
     let supplier = Gln::parse(b"3512345000005").ok_or("a GLN")?;

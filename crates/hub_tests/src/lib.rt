@@ -1,5 +1,5 @@
-//! Tests of the public calls of the register, the tables, the stores and the hub, in one crate, so that no crate below is
-//! proved twice.
+//! Tests the public calls of the register, the tables, the stores and the hub. They are in one crate, so that no crate
+//! below is proved twice.
 #![tactic(auto)]
 
 #[cfg(test)]

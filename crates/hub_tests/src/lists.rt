@@ -1,4 +1,4 @@
-//! Lists with the rows of a register of one supplier.
+//! Makes lists with the rows of a register of one supplier.
 use edi_base::MemoryFault;
 use hub_register::{Register, RegisterFault};
 use std::alloc::Global;
@@ -17,7 +17,7 @@ prefix = \"40123455\"
 key = \"alpha-key-1\"
 ";
 
-// Each call alone, so that what the contract says burdens no other goal.
+// A function of its own, as for each call, to keep its contract out of other proofs.
 fn register(alloc: Global) -> Result<Register, RegisterFault> {
     Register::from_toml(alloc, OF_ONE)
 }
@@ -26,7 +26,7 @@ fn founded(alloc: Global, register: &Register) -> Result<VecStore, MemoryFault> 
     VecStore::new(alloc, register)
 }
 
-/// Lists with the rows of a register alone.
+/// Makes lists that have only the rows of the register.
 pub(crate) fn lists(alloc: Global) -> Result<VecStore, Fail> {
     let register = register(alloc)?;
     Ok(founded(alloc, &register)?)

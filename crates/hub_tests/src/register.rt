@@ -12,7 +12,7 @@ const ALPHA: &str = "4012345500004";
 
 const GAMMA: &str = "7612345000008";
 
-// The register of two suppliers, the one with the greater GLN first, and with the greater prefix of the other first.
+// A register of two suppliers, the one with the greater GLN first, and with the greater prefix of the other first.
 const OF_TWO: &str = "hub = \"5412345000006\"
 
 [retailer]
@@ -30,7 +30,7 @@ prefix = [\"40123455\", \"4012\"]
 key = \"alpha-key-1\"
 ";
 
-// The GLN, the two prefixes and the key of a supplier.
+// Writes the GLN, the two prefixes and the key of a supplier.
 fn row_told(alloc: Global, row: &SupplierRow) -> Result<String, AllocError> {
     let key = str::from_utf8(row.key.bytes()).unwrap_or("no text");
     match row.prefixes.as_slice() {
@@ -39,7 +39,7 @@ fn row_told(alloc: Global, row: &SupplierRow) -> Result<String, AllocError> {
     }
 }
 
-// What a register says of a party as a supplier, or `none`.
+// Writes the row of the supplier with this GLN, or `none`.
 fn supplier_told(alloc: Global, register: &Register, gln: &Gln) -> Result<String, AllocError> {
     match register.supplier(gln) {
         Some(row) => row_told(alloc, row),
@@ -55,7 +55,7 @@ fn gln(digits: &str) -> Result<Gln, Fail> {
     Ok(Gln::parse(digits.as_bytes()).ok_or("a GLN")?)
 }
 
-// The hub, the retailer, and how many suppliers there are.
+// Writes the hub, the retailer, and how many suppliers there are.
 fn register_told(alloc: Global, register: &Register) -> Result<String, AllocError> {
     let (hub, retailer) = (register.hub(), register.retailer());
     format!(in alloc; "{hub} {retailer} {}", register.supplier_count())
@@ -65,7 +65,7 @@ fn is_the_register(alloc: Global, register: &Register) -> Result<bool, AllocErro
     Ok(register_told(alloc, register)?.as_str() == "5412345000006 5412345000013 2")
 }
 
-// Parties, and what the register says of each as a supplier.
+// Parties, and what is written for each as a supplier.
 type Supplier = (&'static str, &'static str);
 
 static SUPPLIERS: [Supplier; 3] = [
@@ -97,7 +97,7 @@ fn parties_are_found(rt: HostRuntime) -> Result<(), Fail> {
     assert_suppliers(&rt, rt.alloc(), &register)
 }
 
-// Parties, keys, and as whom the party may ask with the key.
+// Parties, keys, and the role that the party has with the key.
 type Asking = (&'static str, &'static [u8], Option<Role>);
 
 static ROLES: [Asking; 11] = [

@@ -43,7 +43,7 @@ fn ids_of(supplier: &[u8]) -> Option<Ids> {
     })
 }
 
-// A line of order 128575.
+// Makes a line of order 128575.
 fn line(alloc: Global, ids: &Ids, line: u32, open_qty: u32) -> Result<LineRow, MemoryFault> {
     Ok(LineRow {
         supplier: ids.supplier,
@@ -71,7 +71,8 @@ fn mail(alloc: Global, ids: &Ids, number: u64) -> Result<MailRow, MemoryFault> {
     })
 }
 
-// One change more. What is built so far is handed on as a result: an exit after each row costs the proof far more.
+// Appends a change. What is built so far is passed as a result, because an exit after each row makes the proof much
+// slower.
 fn with(
     changes: Result<Items<Change>, MemoryFault>,
     change: Result<Change, MemoryFault>,
@@ -106,7 +107,7 @@ fn adding_mail(alloc: Global, ids: &Ids, number: u64) -> Result<Change, MemoryFa
     Ok(Change::AddMail(mail(alloc, ids, number)?))
 }
 
-// An order of two lines, with its mailbox entry, and a second entry.
+// Makes an order of two lines, with its mailbox entry, and a second entry.
 fn ordered(alloc: Global, ids: &Ids) -> Result<Items<Change>, MemoryFault> {
     let changes = with(Ok(Items::new(alloc)), remembering(alloc, ids));
     let changes = with(changes, adding_order(alloc, ids));
@@ -152,7 +153,7 @@ fn adding_receipt(ids: &Ids) -> Change {
     })
 }
 
-// A pallet with one content, and what was received of it.
+// Makes a pallet with one content and one receipt.
 fn despatched(alloc: Global, ids: &Ids) -> Result<Items<Change>, MemoryFault> {
     let changes = with(Ok(Items::new(alloc)), adding_advice(alloc, ids));
     let changes = with(changes, adding_pallet(alloc, ids));
@@ -160,7 +161,8 @@ fn despatched(alloc: Global, ids: &Ids) -> Result<Items<Change>, MemoryFault> {
     with(changes, Ok(adding_receipt(ids)))
 }
 
-// What the look-ups of one supplier gave: of several rows their numbers as digits, and of one row a number of it.
+// What the look-ups of one supplier return: for several rows their numbers as digits, and for one row one of its
+// numbers.
 #[derive(Clone, Copy, PartialEq)]
 struct Seen {
     remembered: bool,
@@ -199,7 +201,7 @@ const ALL: Seen = Seen {
     used: true,
 };
 
-// Beta, of whom no row is: of alpha's pallet it gets what is told of a pallet of whatever supplier.
+// Beta, which has no rows: of alpha's pallet it gets only what is returned for a pallet of any supplier.
 const NOTHING: Seen = Seen {
     remembered: false,
     order: false,
@@ -218,7 +220,7 @@ const NOTHING: Seen = Seen {
     used: true,
 };
 
-// The numbers of lines, one after another.
+// Returns the numbers of lines, one after another.
 fn line_numbers(lines: &[LineRow]) -> u64 {
     let mut digits = 0_u64;
     for line in lines {
@@ -227,7 +229,7 @@ fn line_numbers(lines: &[LineRow]) -> u64 {
     digits
 }
 
-// The numbers of entries, one after another.
+// Returns the numbers of entries, one after another.
 fn entry_numbers(heads: &[MailHead]) -> u64 {
     let mut digits = 0_u64;
     for head in heads {
@@ -236,7 +238,7 @@ fn entry_numbers(heads: &[MailHead]) -> u64 {
     digits
 }
 
-// How many contents there are, and the quantity of the first.
+// Returns how many contents there are, and the quantity of the first.
 fn quantity(contents: &[ContentRow]) -> (usize, u32) {
     match contents {
         [first, ..] => (contents.len(), first.quantity),
@@ -244,7 +246,7 @@ fn quantity(contents: &[ContentRow]) -> (usize, u32) {
     }
 }
 
-// How many receipts there are, and what was accepted by the first.
+// Returns how many receipts there are, and the accepted quantity of the first.
 fn accepted(receipts: &[ReceiptRow]) -> (usize, u32) {
     match receipts {
         [first, ..] => (receipts.len(), first.accepted),
@@ -260,7 +262,7 @@ fn is_said(content: Option<Items<u8>>) -> bool {
     }
 }
 
-// Whether there is a pallet of this number.
+// Whether there is a pallet, and it has this SSCC.
 fn is_of(pallet: Option<PalletRow>, sscc: &Sscc) -> bool {
     match pallet {
         Some(pallet) => pallet.sscc == *sscc,
@@ -268,7 +270,7 @@ fn is_of(pallet: Option<PalletRow>, sscc: &Sscc) -> bool {
     }
 }
 
-// The number of an entry.
+// Returns the number of an entry, or 0.
 fn number_of(entry: Option<MailRow>) -> u64 {
     match entry {
         Some(entry) => entry.number,
@@ -276,7 +278,7 @@ fn number_of(entry: Option<MailRow>) -> u64 {
     }
 }
 
-// The look-ups, each by itself: its contract is then of no other's goals.
+// The look-ups are in functions of their own, to keep the contract of each out of other proofs.
 fn is_remembered<S: Store>(store: &mut S, supplier: &Gln) -> Result<bool, StoreFault> {
     Ok(is_said(store.remembered(supplier, Side::Retailer, b"1001", b"7")?))
 }
@@ -359,7 +361,7 @@ fn see_pallet<S: Store>(store: &mut S, ids: &Ids, seen: &mut Seen) -> Result<(),
     Ok(())
 }
 
-// What is told of a pallet of whatever supplier.
+// Looks up what is returned for a pallet of any supplier.
 fn see_any_pallet<S: Store>(store: &mut S, ids: &Ids, seen: &mut Seen) -> Result<(), StoreFault> {
     seen.contents_on = contents_on(store, &ids.pallet)?;
     seen.receipts_on = receipts_on(store, &ids.pallet)?;
@@ -383,7 +385,7 @@ fn look_ups<S: Store>(store: &mut S, ids: &Ids) -> Result<Seen, StoreFault> {
     Ok(seen)
 }
 
-// Commits changes, of which there are some.
+// Commits changes, unless there are none.
 fn commit<S: Store>(store: &mut S, changes: &[Change]) -> Result<(), StoreFault> {
     if changes.is_empty() {
         return Ok(());
@@ -401,7 +403,7 @@ fn add<S: Store>(alloc: Global, store: &mut S, ids: &Ids) -> Result<(), StoreFau
     commit_all(store, despatched(alloc, ids)?)
 }
 
-// Whether the look-ups of a supplier give this.
+// Whether the look-ups of a supplier return this.
 fn is_seen<S: Store>(store: &mut S, ids: &Ids, want: &Seen) -> Result<bool, StoreFault> {
     Ok(look_ups(store, ids)? == *want)
 }
@@ -410,7 +412,7 @@ fn has_counted(store: &TrialStore<VecStore>) -> bool {
     store.look_ups() == 30 && store.commits() == 2
 }
 
-// The look-ups of a supplier with rows, and of one without, are counted.
+// The look-ups of a supplier that has rows, and of one that has none, are counted.
 fn assert_counted(
     rt: &impl Abort,
     alloc: Global,
@@ -433,7 +435,7 @@ fn lists_answer_each_look_up(rt: HostRuntime) -> Result<(), Fail> {
     Ok(assert_counted(&rt, rt.alloc(), &mut store, &alpha, &beta)?)
 }
 
-// The rows are there after they were added, and after they were added again.
+// The rows are there after they were added, and also after they were added again.
 fn assert_added_twice(
     rt: &impl Abort,
     alloc: Global,
@@ -451,7 +453,7 @@ fn setting_none(alloc: Global, ids: &Ids) -> Result<Change, MemoryFault> {
     Ok(Change::SetLine(line(alloc, ids, 3, 0)?))
 }
 
-// Sets a line that is not there.
+// Sets a line that does not exist.
 fn set_none<S: Store>(alloc: Global, store: &mut S, ids: &Ids) -> Result<(), StoreFault> {
     commit_all(
         store,
@@ -498,14 +500,14 @@ fn fault_for_good<S: Store>(store: &S) -> Option<LastingFault> {
     store.fault()
 }
 
-// What a store answers round this one, where it fails at once for want of memory.
+// Returns the result of a store around this one, which fails at once with lack of memory.
 fn known_around<S: Store + Drop>(store: S, supplier: &Gln) -> Option<Result<bool, StoreFault>> {
     let mut outer = failing(store, 0, StoreFault::Memory)?;
     Some(is_known(&mut outer, supplier))
 }
 
-// What a store answers to a commit and to two look-ups of its order, which fault is for good then, and what a store round it
-// answers.
+// The results of a commit and of two look-ups of its order, the lasting fault after them, and the result of a store
+// around this one.
 type Told = (
     Result<(), StoreFault>,
     Result<bool, StoreFault>,
@@ -529,7 +531,7 @@ const DISK: StoreFault = StoreFault::Disk;
 
 const BROKEN: Option<LastingFault> = Some(LastingFault::Disk);
 
-// A fault, and behind how many calls it comes; and what is answered then.
+// A fault, after how many calls it occurs, and the results then.
 type Failure = (StoreFault, u64, Told);
 
 static FAILURES: [Failure; 4] = [
@@ -555,7 +557,7 @@ static FAILURES: [Failure; 4] = [
     ),
 ];
 
-// What lists answer that fail in this way.
+// Returns the results of lists that fail in this way.
 fn told_by_lists(
     lists: VecStore,
     fault: StoreFault,
@@ -567,7 +569,7 @@ fn told_by_lists(
     Some(told(store, supplier, changes))
 }
 
-// Whether this is answered. Where it is a fault, and none was wanted, that is told.
+// Whether this is the result. A fault that was not wanted is passed on.
 fn is_answer<T: PartialEq + Copy>(
     found: Result<T, StoreFault>,
     want: Result<T, StoreFault>,

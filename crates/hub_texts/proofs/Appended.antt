@@ -1,4 +1,4 @@
--- Parts that are appended one after another.
+-- Joins parts that are appended one after another.
 use Rattle.std.proofs.Common.{◌≡◌, ℕ, List, ◌++◌, ap, ◌∙◌, append_assoc}
 
 pub joined : {middle new : List ℕ} (old first second : List ℕ)

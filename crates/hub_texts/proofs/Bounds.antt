@@ -1,4 +1,4 @@
--- Sums of articles against those of all contents and receipts.
+-- Bounds the sums of an article by those of all contents and receipts.
 use Rattle.std.proofs.Common.{◌≡◌, ℕ, ◌+◌, ◌-◌, ◌^◌, ◌<◌, ◌≤◌, Bool, true, false, cond, not, ◌||◌, inl, inr, List, [], ◌∷◌}
 use Rattle.std.proofs.Common.{length, get_or, drop, filter, sum_by, zero, suc, ap, ◌∙◌, arith}
 use Rattle.std.specs.List.{list_any}
@@ -48,7 +48,7 @@ sum_three a b c (row ∷ rows) =
       sum_by-cons (λ row. a row + b row + c row) row rows,
     )
 
--- a content that cannot be counted after those from a place on
+-- a content that cannot be counted after those that follow it
 pub unclean_content : (lines : List LineRow) (contents : List ContentRow) (receipts : List ReceiptRow) (left : ℕ)
     (content : ContentRow) (table : Table)
     → 0 < left
@@ -75,7 +75,7 @@ unclean_content lines contents receipts left content table some within is so_far
           inr (inl (omega (arith, big, known, of_article, with_it, part)))
     ]
 
--- a receipt that cannot be counted after those from a place on
+-- a receipt that cannot be counted after those that follow it
 pub unclean_receipt : (lines : List LineRow) (receipts : List ReceiptRow) (left : ℕ) (receipt : ReceiptRow) (table : Table)
     → 0 < left
     → left ≤ length receipts

@@ -1,4 +1,5 @@
--- The body of a cancellation is five lines, and is written back.
+-- Shows that the body of a cancellation has five lines, and that the text of a cancellation is read back as the same
+-- one.
 use Rattle.std.proofs.Common.{◌≡◌, ℕ, true, false, cond, not, ◌&&◌, ◌==◌, List, [], ◌∷◌, ◌++◌, length, Option, Some, None}
 use Rattle.std.proofs.Common.{refl, sym, ap, ap₂, ◌∙◌, append_assoc, arith}
 use Rattle.std.specs.Char.{is_ascii_digit}
@@ -23,7 +24,7 @@ use Rattle.hub_texts.proofs.Digits.{decimal_positive, positive_within}
 abbrev OneLine : List ℕ → Type 0
 OneLine field = AllByRecursion (λ b. is_end b ≡ false) field
 
--- five lines, cut at their ends
+-- five lines, split at their ends
 five_cut : (s r o l q : List ℕ)
     → OneLine s
     → OneLine r
@@ -39,7 +40,7 @@ five_cut s r o l q in_s in_r in_o in_l in_q =
     ∙ ap (λ parts. o ∷ parts) (cut_line l (end q ++ []) in_l
     ∙ ap (λ parts. l ∷ parts) (cut_line q [] in_q))))
 
--- parts that were cut at ends of lines, joined again
+-- parts that were split at line ends, joined again
 five_joined : (body s r o l q : List ℕ) → slice_split is_end body ≡ s ∷ r ∷ o ∷ l ∷ q ∷ [] ∷ [] → body ≡ five_lines s r o l q
 five_joined body s r o l q cut =
     sym (join_with_byte-slice_split 0x0A body) ∙ ap (join_with_byte 0x0A) cut ∙ regrouped
@@ -74,7 +75,7 @@ positive_inside most field n h =
     let digits = (and_parts (are_digits 1 most field) (not (number_of field == 0)) read.0).0 in
     in_one_line is_digit digit_inside field (and_parts (has_length 1 most field) (list_all is_digit field) digits).1
 
--- what five lines within their limits say
+-- what five lines within their limits are read as
 pub said : (body : List ℕ) (c : Cancel) → Says body c → cancel_of body ≡ Some c
 said body c says =
     ap cancel_of says.lines
@@ -85,7 +86,7 @@ said body c says =
     ∙ ap₂ (cancel_with c.supplier c.reference c.order) says.is_line says.is_quantity
     ∙ ap (λ v. cond v (Some c) None) (ap₂ (λ a b. a && b) says.supplier (ap₂ (λ a b. a && b) says.reference says.order))
 
--- what is right of a cancellation that five parts give
+-- what holds for a cancellation that five parts give
 pub record Given (s r o l q : List ℕ) (c : Cancel) : Type 0 where
   pub alike : (c.supplier ≡ s) × (c.reference ≡ r) × (c.order ≡ o)
   pub right : (is_gln s ≡ true) × (is_reference r ≡ true) × (is_document_number o ≡ true)
@@ -135,7 +136,7 @@ says_of body (s ∷ r ∷ o ∷ l ∷ q ∷ [] ∷ []) c cut h =
 pub says : (body : List ℕ) (c : Cancel) → cancel_of body ≡ Some c → Says body c
 says body c h = says_of body (slice_split is_end body) c refl h
 
--- what a body says is written back
+-- the text of a cancellation that was read is read back as the same one
 pub written_back : (body : List ℕ) (c : Cancel) → cancel_of body ≡ Some c → cancel_of (cancel_text c) ≡ Some c
 written_back body c h =
     let s = says body c h in
@@ -152,7 +153,7 @@ written_back body c h =
       is_quantity = decimal_positive 9 c.quantity (omega arith) of_quantity.0 of_quantity.1 (omega (arith, of_quantity.1));
     })
 
--- two cancellations that bodies say have one text where they are one
+-- two cancellations that were read have the same text exactly if they are the same
 pub one_text : (first second : List ℕ) (c d : Cancel)
     → cancel_of first ≡ Some c
     → cancel_of second ≡ Some d

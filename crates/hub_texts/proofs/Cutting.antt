@@ -1,4 +1,4 @@
--- A text cut at the ends of its lines.
+-- Splits a text at its line ends.
 use Rattle.std.proofs.Common.{◌≡◌, ℕ, suc, ◌+◌, ◌<◌, Bool, true, false, cond, not, List, [], ◌∷◌, ◌++◌, length, take, drop}
 use Rattle.std.proofs.Common.{None, refl, sym, ap, ap₂, ◌∙◌, subst, append_assoc, length-drop, arith}
 use Rattle.std.specs.List.{AllByRecursion, list_all, prefix_len, slice_split, onto_first}
@@ -11,7 +11,7 @@ use Rattle.hub_texts.specs.Cancel.{is_end, cancel_in}
 abbrev pub inside : ℕ → Bool
 inside byte = not (is_end byte)
 
--- the first line, where one ends
+-- the first line, if a line ends
 first_cut : (text : List ℕ) (n : ℕ)
     → n ≡ prefix_len inside text
     → n < length text
@@ -42,7 +42,7 @@ cut_at text line rest n first after is front back two =
     let within : n < length text = omega (arith, length-drop n text, long) in
     first_cut text n is within ∙ ap₂ (λ one more. one ∷ slice_split is_end more) (sym front) (ap (drop 1) (sym back ∙ two))
 
--- the whole, where no line ends
+-- the whole text, if no line ends
 pub not_cut : (text : List ℕ) → prefix_len inside text ≡ length text → slice_split is_end text ≡ text ∷ []
 not_cut [] at = refl
 not_cut (b ∷ bs) at =
@@ -63,7 +63,7 @@ cut_somewhere (b ∷ bs) =
       | false ↦ (b ∷ rest.0, rest.1, ap (onto_first b) rest.2)
     ]
 
--- more than five lines say no cancellation
+-- more than five lines are not a cancellation
 pub more_after : (a b c d e rest : List ℕ) → 0 < length rest → cancel_in (a ∷ b ∷ c ∷ d ∷ e ∷ slice_split is_end rest) ≡ None
 more_after a b c d e [] some = absurd (omega arith)
 more_after a b c d e (x ∷ xs) some =
@@ -74,7 +74,7 @@ more_after a b c d e (x ∷ xs) some =
       | false ↦ ap (λ parts. cancel_in (a ∷ b ∷ c ∷ d ∷ e ∷ onto_first x parts)) cut.2
     ]
 
--- a text of bytes that pass a test has no end of a line in it
+-- a text whose bytes all pass such a test has no line end
 pub in_one_line : (test : ℕ → Bool)
     → ((b : ℕ) → test b ≡ true → is_end b ≡ false)
     → (text : List ℕ)
@@ -84,7 +84,7 @@ in_one_line test apart [] all = tt
 in_one_line test apart (b ∷ bs) all =
     let parts = and_parts (test b) (list_all test bs) all in (apart b parts.0, in_one_line test apart bs parts.1)
 
--- a line that stands before others
+-- a line that comes before others
 pub cut_line : (field rest : List ℕ)
     → AllByRecursion (λ b. is_end b ≡ false) field
     → slice_split is_end (line (field ∷ []) ++ rest) ≡ field ∷ slice_split is_end rest

@@ -1,4 +1,4 @@
--- Digits and the numbers that they write.
+-- Relates digits to the numbers that they write.
 use Rattle.std.proofs.Common.{◌≡◌, ℕ, ◌^◌, ◌<◌, ◌≤◌, true, not, ◌&&◌, ◌==◌, List, [], ◌∷◌}
 use Rattle.std.proofs.Common.{length, fold, cond, Some, None, Result, Ok, nat_le}
 use Rattle.std.proofs.Common.{ap, ap₂, ◌∙◌, arith, rules}
@@ -23,14 +23,14 @@ AreDigits digits = list_all is_digit digits ≡ true
 pub numerals : IsNumeralModel AreDigits number_of
 numerals = numerals_by_fold AreDigits (search rules) (λ n digits. fold with_digit n digits) (search rules)
 
--- so many digits write a number of no more digits
+-- n digits write a number below 10 ^ n
 pub digits_below : (most : ℕ) (digits : List ℕ) → are_digits 1 most digits ≡ true → number_of digits < 10 ^ most
 digits_below most digits h =
     let parts = and_parts (has_length 1 most digits) (list_all is_digit digits) h in
     let short : length digits ≤ most = leb-true _ _ (and_parts (nat_le 1 (length digits)) (nat_le (length digits) most) parts.0).1 in
     digits_value_short numerals digits most parts.1 short
 
--- a number of up to nine digits is not past the greatest
+-- a number of up to nine digits is not above the greatest one
 pub short_value : (most : ℕ) (digits : List ℕ) → most ≤ 9 → are_digits 1 most digits ≡ true → value_of digits ≡ Some (number_of digits)
 short_value most digits short h =
     let below = digits_below most digits h in
@@ -51,7 +51,7 @@ decimal_positive most n some above below small =
     ap₂ (λ a b. a && b) digits (ap (λ k. not (k == 0)) value ∙ some_digit) in
     ap₂ (λ v k. cond v (Some k) None) test value
 
--- what is read is a number of no more digits, and not zero
+-- a number that is read has at most that many digits, and is not zero
 pub positive_within : (most : ℕ) (digits : List ℕ) (n : ℕ) → positive most digits ≡ Some n → (0 < n) × (n < 10 ^ most)
 positive_within most digits n h =
     let read = cond_some (are_digits 1 most digits && not (number_of digits == 0)) (number_of digits) n h in
@@ -60,7 +60,7 @@ positive_within most digits n h =
     let above : 0 < number_of digits = grind (arith, nat_tests, parts.1) in
     (omega (arith, above, read.1), omega (arith, below, read.1))
 
--- so many digits are read as the number that they write
+-- 1 to 14 digits are read as the number that they write
 pub read : {E : Type 0} (digits : List ℕ) (r : Result ℕ E) → ParsesUnsigned 64 10 digits r → are_digits 1 14 digits ≡ true
     → r ≡ Ok (number_of digits)
 read digits r parses h =

@@ -1,4 +1,4 @@
--- What bodies of cancellations say, computed.
+-- Computes what some bodies are read as, as examples of cancellations.
 use Rattle.std.proofs.Common.{◌≡◌, ℕ, List, [], ◌∷◌, ◌++◌, Option, Some, None, codes, replicate, refl}
 use Rattle.std.specs.List.{flat_map}
 use Rattle.hub_law.specs.HubRules.declared.cancel.Cancel.{Cancel}

@@ -1,11 +1,11 @@
--- Digits that are written over blanks.
+-- Shows the text of digits that are written over blanks.
 use Rattle.std.proofs.Common.{◌≡◌, ℕ, ◌+◌, ◌-◌, ◌≤◌, min, List, ◌++◌, length, take, drop}
 use Rattle.std.proofs.Common.{sym, ap, ◌∙◌, arith, length-append, append_assoc}
 use Rattle.std.proofs.lemmas.List.{take_at, take-take, take-append-drop, drop-append-le, take-replicate, drop-replicate}
 use Rattle.std.proofs.lemmas.List.{length-replicate, replicate-append-replicate}
 use Rattle.hub_law.specs.Widths.{blanks, right}
 
--- what stands from a place before the digits on
+-- what comes from a position before the digits on
 from_before : (from start all : ℕ) (field behind : List ℕ)
     → from ≤ start
     → start ≤ all
@@ -21,7 +21,7 @@ from_before from start all field behind before fits front back =
     ∙ drop-append-le from (blanks start) behind (omega (arith, length-replicate {A = ℕ} start 0x20))
     ∙ ap (λ xs. xs ++ behind) (drop-replicate from start 0x20)
 
--- so many blanks and the digits, without what is behind these
+-- this many blanks and the digits, without what follows them
 up_to_digits : (count blank gap width : ℕ) (digits rest : List ℕ)
     → count ≡ blank + length digits
     → blank ≡ gap + (width - length digits)

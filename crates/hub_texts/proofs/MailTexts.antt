@@ -1,4 +1,4 @@
--- The list of a mailbox, by its first entries; and an entry's interchange, by its parts.
+-- Shows that a mailbox's list follows from its first entries, and joins the parts of an entry's interchange.
 use Rattle.std.proofs.Common.{◌≡◌, ℕ, zero, suc, ◌+◌, min, map, refl, List, [], ◌∷◌, ◌++◌}
 use Rattle.std.proofs.Common.{length, take, nat_lt, cond, codes, sym, ap, ap₂, ◌∙◌}
 use Rattle.std.proofs.Common.{append_assoc, length-take, arith}
@@ -15,7 +15,7 @@ use Rattle.hub_law.specs.Widths.{line}
 more_known : (n : ℕ) → nat_lt list_limit (min (list_limit + 1) n) ≡ nat_lt list_limit n
 more_known n = grind (arith, nat_tests)
 
--- the lines of the first entries, by what a list shows of them
+-- the lines of the first entries, from what a list shows of them
 lines_of_first : (n : ℕ) (all : List MailRow) → flat_map head_line (take n (map head_of all)) ≡ flat_map entry_line (take n all)
 lines_of_first zero all = refl
 lines_of_first (suc n) [] = refl
@@ -25,7 +25,7 @@ length_heads : (all : List MailRow) → length (map head_of all) ≡ length all
 length_heads [] = refl
 length_heads (entry ∷ all) = ap suc (length_heads all)
 
--- what is shown of the first entries, one more than a list has, tells the list of all
+-- what is shown of the first entries, one more than the list's limit, determines the list
 pub list_of_first : (all : List MailRow) (heads : List MailHead) → take (list_limit + 1) (map head_of all) ≡ heads
     → flat_map head_line (take list_limit heads)
     ++ line ((cond (nat_lt list_limit (length heads)) (codes "more") (codes "end")) ∷ [])

@@ -1,4 +1,4 @@
--- The line that a content names, in lines that rise by order number and line number.
+-- Finds the line that a content names, among lines that rise by order number and line number.
 use Rattle.std.proofs.Common.{◌≡◌, ℕ, false, ◌&&◌, ◌==◌, List, [], ◌∷◌, find, slice_get, Option, refl, sym, ap, ◌∙◌}
 use Rattle.std.specs.List.{prefix_len}
 use Rattle.std.specs.declared.cmp.Ordering.{Ordering}
@@ -42,7 +42,7 @@ in_order (row ∷ rows) rise = (
   in_order rows rise.1,
 )
 
--- what is at the place before which a search finds the others
+-- what is at the position before which a search finds all smaller lines
 pub named_at : (lines : List LineRow) (content : ContentRow) (n : ℕ)
     → Rises place_cmp lines
     → n ≡ prefix_len (precedes_named content) lines

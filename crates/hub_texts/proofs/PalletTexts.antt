@@ -1,4 +1,4 @@
--- The text of a pallet, by the table of its articles.
+-- Shows the text of a pallet from the table of its articles.
 use Rattle.std.proofs.Common.{◌≡◌, List, [], ◌∷◌, ◌++◌, map, refl, sym, ap, ◌∙◌}
 use Rattle.std.specs.List.{flat_map}
 use Rattle.hub_tables.specs.State.{contents_of, receipts_of}

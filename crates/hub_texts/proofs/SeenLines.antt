@@ -1,4 +1,4 @@
--- The lines that a supplier sees of sound tables rise by order number and line number.
+-- Shows that the lines which a supplier sees of sound tables rise by order number and line number.
 use Rattle.std.proofs.Common.{◌≡◌, ℕ, true, List, [], ◌∷◌, sym, ap, ap₂, ◌∙◌}
 use Rattle.std.specs.List.{AllByRecursion}
 use Rattle.std.specs.declared.cmp.Ordering.TheVariants.{Less, Equal}

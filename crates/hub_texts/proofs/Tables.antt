@@ -1,4 +1,4 @@
--- Tables of articles with one content or one receipt more.
+-- Shows what one more content or receipt does to a table of articles.
 use Rattle.std.proofs.Common.{◌≡◌, ℕ, ◌+◌, ◌-◌, ◌<◌, ◌≤◌, Bool, true, false, cond, ◌||◌, inl, inr, List, [], ◌∷◌, ◌++◌}
 use Rattle.std.proofs.Common.{length, get_or, drop, map, filter, sum_by, Some, refl, sym, ap, ap₂, ◌∙◌, subst, arith}
 use Rattle.std.specs.BTreeMap.{insert_entry}
@@ -49,7 +49,7 @@ none_above : (x : List ℕ) (ys : List (List ℕ)) → AllByRecursion (λ z. byt
 none_above x [] all = refl
 none_above x (y ∷ ys) all = ap₂ (λ a b. a || b) (below_differs x y all.0) (none_above x ys all.1)
 
--- One article more.
+-- One more article.
 
 with_below : (x y : List ℕ) (ys : List (List ℕ))
     → bytes_cmp x y ≡ Less
@@ -91,7 +91,7 @@ order_rises : (xs : List (List ℕ)) → Rises bytes_cmp (in_digit_order xs)
 order_rises [] = tt
 order_rises (x ∷ xs) = with_rises x (in_digit_order xs) (order_rises xs)
 
--- an article that is not in the order is none of the articles
+-- an article that is not in the sorted list is none of the articles
 not_ordered : (x : List ℕ) (xs : List (List ℕ)) → list_any (same x) (in_digit_order xs) ≡ false → list_any (same x) xs ≡ false
 not_ordered x [] none = refl
 not_ordered x (y ∷ ys) none =
@@ -111,7 +111,7 @@ not_ordered x (y ∷ ys) none =
           ap₂ (λ a b. a || b) (or_parts (same x y) false parts.1).0 (not_ordered x ys parts.0)
     ]
 
--- Tables of these articles, each with what a function gives.
+-- Tables of these articles, with what a function gives for each.
 
 abbrev entries : (List ℕ → Totals) → List (List ℕ) → Table
 entries f keys = map (λ key. (key, f key)) keys
@@ -125,7 +125,7 @@ alike f g x others [] all = refl
 alike f g x others (key ∷ keys) all =
     ap₂ (λ t rest. (key, t) ∷ rest) (sym (others key (below_differs x key all.0))) (alike f g x others keys all.1)
 
--- one with other totals, where the article gets them and the others keep theirs
+-- a table in which one article gets other totals, and the others keep theirs
 put_totals : (x : List ℕ) (v : Totals) (f g : List ℕ → Totals)
     → g x ≡ v
     → ((key : List ℕ) → same x key ≡ false → g key ≡ f key)
@@ -151,7 +151,7 @@ put_totals x v f g here others (y ∷ ys) rise =
           ∙ ap (entries g) (sym (with_above x y ys e))
     ] refl
 
--- what a table has of an article, where one that it has not gets nothing
+-- what a table has for an article; zero if the article is not in it
 found : (x : List ℕ) (f : List ℕ → Totals) (keys : List (List ℕ))
     → (list_any (same x) keys ≡ false → f x ≡ nothing)
     → totals_at (entries f keys) x ≡ f x
@@ -165,7 +165,7 @@ found x f (y ∷ ys) none =
     ] in
     ap at (is_eq-slice_cmp x y) ∙ here
 
--- Totals by contents and receipts.
+-- Totals from contents and receipts.
 
 any_append : {X : Type 0} (p : X → Bool) (xs ys : List X) → list_any p (xs ++ ys) ≡ (list_any p xs || list_any p ys)
 any_append p [] ys = refl
@@ -186,7 +186,7 @@ none_of article x (row ∷ rows) none =
     (same_back x (article row) parts.0)
     ∙ none_of article x rows parts.1
 
--- what is neither announced nor received has no totals
+-- an article that is neither announced nor received has zero totals
 no_totals : (lines : List LineRow) (contents : List ContentRow) (receipts : List ReceiptRow) (x : List ℕ)
     → list_any (same x) (articles_of lines contents receipts) ≡ false
     → totals_of lines contents receipts x ≡ nothing
@@ -204,13 +204,13 @@ no_totals lines contents receipts x none =
       destroyed = sum_by (λ (receipt : ReceiptRow). receipt.destroyed) (received i);
     }
 
--- what a table has of an article
+-- what a table has for an article
 pub totals_known : (lines : List LineRow) (contents : List ContentRow) (receipts : List ReceiptRow) (x : List ℕ)
     → totals_at (table_of lines contents receipts) x ≡ totals_of lines contents receipts x
 totals_known lines contents receipts x =
     found x (totals_of lines contents receipts) (articles_of lines contents receipts) (no_totals lines contents receipts x)
 
--- the sum of what passes with one row more
+-- the sum over the rows that pass, after one more row
 sum_with : {X : Type 0} (test : X → Bool) (size : X → ℕ) (row : X) (rows : List X)
     → test row ≡ true
     → sum_by size (filter test (row ∷ rows)) ≡ sum_by size (filter test rows) + size row
@@ -227,7 +227,7 @@ sum_without : {X : Type 0} (test : X → Bool) (size : X → ℕ) (row : X) (row
     → sum_by size (filter test (row ∷ rows)) ≡ sum_by size (filter test rows)
 sum_without test size row rows h = ap (λ v. sum_by size (cond v (row ∷ filter test rows) (filter test rows))) h
 
--- a table with one content more
+-- a table after one more content
 content_counted : (lines : List LineRow) (content : ContentRow) (contents : List ContentRow) (receipts : List ReceiptRow)
     → count_content lines content (table_of lines contents receipts) ≡ table_of lines (content ∷ contents) receipts
 content_counted lines content contents receipts =
@@ -246,7 +246,7 @@ content_counted lines content contents receipts =
     ∙ put_totals x (with_content content (old x)) old new here others keys
     (order_rises (map (article_in lines) contents ++ map (λ (receipt : ReceiptRow). receipt.gtin) receipts))
 
--- a table with one receipt more
+-- a table after one more receipt
 receipt_counted : (lines : List LineRow) (receipt : ReceiptRow) (receipts : List ReceiptRow)
     → count_receipt receipt (table_of lines [] receipts) ≡ table_of lines [] (receipt ∷ receipts)
 receipt_counted lines receipt receipts =
@@ -270,7 +270,7 @@ receipt_counted lines receipt receipts =
     ∙ put_totals x (with_receipt receipt (old x)) old new here others keys
     (order_rises (map (λ (receipt : ReceiptRow). receipt.gtin) receipts))
 
--- one row more, from the end of the rows
+-- one more row, counting from the end
 pub drop_before : {X : Type 0} (xs : List X) (left : ℕ) (x : X)
     → 0 < left
     → left ≤ length xs

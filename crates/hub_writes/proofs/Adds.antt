@@ -1,4 +1,4 @@
--- An INSERT of one row of a kind.
+-- Proves what an INSERT of one row of a kind does.
 use Rattle.std.proofs.Common.{◌≡◌, ℕ, ◌/◌, ◌==◌, ◌&&◌, ℤ, Bool, true, false, length, List, [], ◌∷◌, ◌++◌, filter, map}
 use Rattle.std.proofs.Common.{if◌then◌else◌, None, Ok, Err, Result, OnOk, IsTrue, refl, sym, ap, subst, ◌∙◌}
 use Rattle.std.specs.List.{AllByRecursion}
@@ -40,7 +40,7 @@ use Rattle.hub_writes.proofs.Alters.{ReadsAs, altered}
 use Rattle.hub_writes.proofs.Keys.{listed_last, is_new}
 use Rattle.hub_writes.proofs.RowKinds.{Kind, kinds_of, makes_rows, ordered, plain}
 
--- what a statement that adds a row does, and when it is refused for a key that is there
+-- what a statement that adds a row does, and when it is refused because the key exists already
 pub record Adds (change : Change) (sql : List ℕ) (cells : Row) : Type 1 where
   pub placed : (t : Tables) → have_places (change ∷ []) t ≡ true
   pub makes :
@@ -55,11 +55,11 @@ abbrev pub keys_of : ℕ → List Index → List Index
 keys_of tree = filter (λ i. i.is_unique && (i.table == tree))
 
 module _ (rows : List Row) (new : Row) where
-  -- no row has the new one's key
+  -- no row has the key of the new one
   abbrev IsNewBy : Index → Type 0
   IsNewBy i = IsNew i.order i.columns new rows
 
-  -- keys of other tables ask nothing
+  -- the keys of other tables do not matter
   new_by_one : (tree : ℕ) (i : Index) (more : List Index) (b : Bool)
       → AllByRecursion IsNewBy (if b then i ∷ keys_of tree more else keys_of tree more)
       → (b ≡ true → IsNewBy i) × AllByRecursion IsNewBy (keys_of tree more)
@@ -74,7 +74,7 @@ module _ (rows : List Row) (new : Row) where
       (parts.0, new_by_all tree more parts.1)
 
 module _ {X : Type 0} (kind : Kind X) where
-  -- a stored row that agrees with the new one in the columns of a key has the key of its kind
+  -- a stored row that agrees with the new one in the columns of a key also has the same key as a row of its kind
   abbrev pub AreTied : X → Row → List Index → Type 0
   AreTied row new keys =
       (r : Row) → AreOf (kinds_of kind.table) 0 r

@@ -1,4 +1,4 @@
--- Despatch advices in SQL.
+-- Proves the SQL statements for despatch advices.
 use Rattle.std.proofs.Common.{ℕ, List, [], ◌∷◌, codes, refl}
 use Rattle.sqlite_value.specs.declared.value.Value.TheVariants.{Null, Int, Blob}
 use Rattle.sqlite_value.specs.Order.{Row, column}

@@ -1,4 +1,4 @@
--- One table of a hub is altered, inside a transaction.
+-- Proves what altering one table of a hub inside a transaction does.
 use Rattle.std.proofs.Common.{◌≡◌, ◌≢◌, inl, inr, ℕ, ◌==◌, true, false, List, [], ◌∷◌, map, pos, if◌then◌else◌, IsTrue}
 use Rattle.std.proofs.Common.{sym, ap, subst, ◌∙◌, arith}
 use Rattle.std.specs.List.{AllByRecursion}
@@ -17,18 +17,18 @@ use Rattle.hub_schema.specs.Rows.{tables_in}
 use Rattle.hub_schema.specs.Schema.{hub_schema}
 use Rattle.hub_schema.specs.State.{IsHub}
 
--- what a text is read as, and that there is no more to it
+-- what a text is read as, and that it has nothing else
 abbrev pub ReadsAs : List ℕ → Command → Type 0
 ReadsAs sql command = (command_of (understood hub_schema sql) ≡ command) × IsPlain (understood hub_schema sql)
 
 abbrev pub all_trees : List ℕ
 all_trees = 0 ∷ 1 ∷ 3 ∷ 5 ∷ 7 ∷ 10 ∷ 12 ∷ 14 ∷ 16 ∷ 18 ∷ 20 ∷ 22 ∷ []
 
--- each of these trees but one is as it was
+-- each of these trees but one is as before
 abbrev pub KeepsOthers : ℕ → List ℕ → Trees → Trees → Type 0
 KeepsOthers tree trees old new = AllByRecursion (λ t. t ≢ tree → new t ≡ old t) trees
 
--- one table becomes these rows
+-- one table gets these rows
 pub record Alters (tree : ℕ) (after : List Row) (old new : State) : Type 0 where
   pub schema : new.now.schema ≡ hub_schema
   pub sound : IsDatabase new.now
@@ -50,7 +50,7 @@ module _ (tree : ℕ) (rows : List Row) (old new : Trees) (is : new tree ≡ row
     each_tree trees others.1,
   )
 
--- all tables, with the altered one in its place
+-- all tables, with this one altered
 pub tables_are : (tree : ℕ) (rows : List Row) (old new : State) → Alters tree rows old new
     → tables_in new.now.trees ≡ tables_in (with_tree old.now.trees tree rows)
 tables_are tree rows old new it =
@@ -92,7 +92,7 @@ still_hub tree rows old new other hub it = record {
   sound = it.sound;
 }
 
--- where a statement wrote these rows
+-- if a statement wrote these rows
 pub altered : (tree : ℕ) (rows : List Row) (old new : State) → old.in_transaction ≡ true → new.now.schema ≡ hub_schema
     → IsDatabase new.now → IsShaped shape.Table rows → new.now.trees tree ≡ rows
     → KeepsOthers tree all_trees old.now.trees new.now.trees

@@ -1,4 +1,4 @@
--- Contents of pallets in SQL.
+-- Proves the SQL statements for contents of pallets.
 use Rattle.std.proofs.Common.{◌≡◌, ℕ, ℤ, ◌<◌, ◌^◌, pos, List, [], ◌∷◌, codes, refl}
 use Rattle.sqlite_value.specs.declared.value.Value.TheVariants.{Null, Int, Blob}
 use Rattle.sqlite_value.specs.Order.{Row, column}
@@ -53,7 +53,7 @@ module _ (row : ContentRow) where
   abbrev pub cells : Row
   cells = Blob row.sscc ∷ Int (pos row.place) ∷ Blob row.number ∷ Int (pos row.line) ∷ Int (pos row.quantity) ∷ []
 
-  -- its numbers are those of a u64
+  -- each number fits a u64
   abbrev pub IsLow : Type 0
   IsLow = (row.place < 2 ^ 64) × (row.line < 2 ^ 64) × (row.quantity < 2 ^ 64)
 

@@ -1,4 +1,4 @@
--- What a commit leaves once its transaction ends.
+-- Proves what a commit leaves once its transaction has ended.
 use Rattle.std.proofs.Common.{◌≡◌, ◌||◌, nat_le, inl, inr, Bool, true, false, ◌&&◌, List, [], ◌∷◌, Result, Ok, Err}
 use Rattle.std.proofs.Common.{OnOk, IfErr, IsTrue, refl, sym, ap, ◌∙◌, true≢false, arith}
 use Rattle.std.specs.List.{list_any, list_all}
@@ -37,7 +37,7 @@ use Rattle.hub_writes.specs.Faults.{ended}
 use Rattle.hub_writes.proofs.Outcomes.{no_unclean}
 use Rattle.hub_schema.proofs.Same.{same_hub}
 
--- A row with a number that SQL does not have lacks the form of its kind.
+-- A row with a number too large for SQL is not clean.
 
 none_such : {X : Type 0} (p q : X → Bool) (xs : List X) → ((x : X) → p x ≡ true → q x ≡ true → ⊥)
     → list_any p xs ≡ true → list_all q xs ≡ true → ⊥
@@ -162,7 +162,7 @@ module _ {S : Type 0} (g : Ghosts S) (old mid end : Held S) (changes : List Chan
         ))
         (survives_begin g old (state g mid) _ it.survives) last
 
-    -- the transaction ends by a commit, and both are one result
+    -- the transaction ends with a commit, and both give one result
     pub succeeded : (r : Result (Unit {0}) Error) → IsSettled → end.in_transaction ≡ false
         → (HasCleanDisk (state g end)
         → OnOk r (Shows (state g mid) (state g end) (state g mid).now (state g mid).now false))

@@ -1,4 +1,4 @@
--- What a founding leaves once its transaction ends.
+-- Proves what a founding leaves once its transaction has ended.
 use Rattle.std.proofs.Common.{◌≡◌, inl, inr, true, false, Result, Ok, Err, OnOk, IfErr, IsTrue, sym, ap, subst, ◌∙◌, true≢false}
 use Rattle.sqlite_trees.specs.Tree.{Trees}
 use Rattle.sqlite_trees.specs.declared.store.Store.{Ghosts}
@@ -18,12 +18,12 @@ use Rattle.hub_schema.specs.State.{IsHub, IsFounded, Makes, ShowsTheSame, Founds
 use Rattle.hub_writes.specs.Faults.{ended}
 use Rattle.hub_schema.proofs.Same.{same_hub}
 
--- what a statement did that succeeded
+-- what a statement that succeeded did
 pub ended_ok : {X : Type 0} (r : Result X Error) (P : Type 0) → OnOk r P → OnOk (ended r) P
 ended_ok (Ok x) P h = h
 ended_ok (Err e) P h = tt
 
--- a database that is a hub's, by its rows
+-- the database of a hub, by its rows
 is_founded : (rows : Tables) (s : State) → IsHub s → tables_in s.now.trees ≡ rows → IsFounded rows s.now.trees
 is_founded rows s hub same = record {
   tables = subst (λ (schema : Schema). IsDatabase (record { schema = schema; trees = s.now.trees })) hub.schema hub.sound;
@@ -50,7 +50,7 @@ module _ {S : Type 0} (g : Ghosts S) (old mid end out : Held S) (same : end ≡ 
         is_open = up ∙ sym before;
       }
 
-  -- what the call gives back
+  -- what the call returns
   given : (result told : Result (Unit {0}) StoreFault) → result ≡ told
       → FoundsTo asked rows (state g old) (state g end) told → FoundsTo asked rows (state g old) (state g out) result
   given result told is founds =
@@ -89,7 +89,7 @@ module _ {S : Type 0} (g : Ghosts S) (old mid end out : Held S) (same : end ≡ 
       none_done clean so up e (inl fails) = back_again (kept (early clean)) fails.3 up
       none_done clean so up e (inr late) = absurd (true≢false (sym (makes (early clean) so).mode ∙ late.1))
 
-      -- the transaction ends by a commit, and both are one result
+      -- the transaction ends with a commit, and both give one result
       pub succeeded : (r : Result (Unit {0}) Error)
           → (HasCleanDisk (state g end)
           → OnOk r (Shows (state g mid) (state g end) (state g mid).now (state g mid).now false))

@@ -1,4 +1,4 @@
--- A row that is added under a key, and stored rows under it.
+-- Compares a row that is added under a key with the stored rows.
 use Rattle.std.proofs.Common.{◌≡◌, inl, inr, ℕ, ◌<◌, ◌^◌, ◌==◌, ℤ, pos, true, false, List, [], ◌∷◌, ◌++◌, map, sym, ap}
 use Rattle.std.proofs.Common.{◌∙◌, true≢false, arith}
 use Rattle.std.specs.List.{AllByRecursion, list_any}
@@ -29,16 +29,16 @@ use Rattle.hub_schema.proofs.InKeyOrder.{listed_more, listed_any}
 natural_plain : (n : ℕ) → n < 2 ^ 64 → natural (pos n) ≡ n
 natural_plain n low = grind (arith, nat_tests, low)
 
--- a number of a u64, or one below, is shown as it is
+-- a number that fits a u64 is stored as it is
 pub number_shown : (n : ℕ) → n < 2 ^ 64 → number_in (Int (pos n)) ≡ n
 number_shown n low = natural_plain n low
 
--- whether a stored cell has the bytes
+-- whether a stored cell has these bytes
 pub bytes_equal : (v : Value) (bytes : List ℕ) → ((b : List ℕ) × (v ≡ Blob b))
     → equal Binary v (Blob bytes) ≡ bytes_eq (bytes_in v) bytes
 bytes_equal v bytes (b, is) = same_bytes v b bytes is ∙ ap (λ (w : Value). bytes_eq (bytes_in w) bytes) (sym is)
 
--- whether it has the number
+-- whether a stored cell has this number
 pub number_equal : (v : Value) (number : ℕ) → number < 2 ^ 64 → ((n : ℤ) × (v ≡ Int n))
     → equal Binary v (Int (pos number)) ≡ (number_in v == number)
 number_equal v number low (n, is) =
@@ -56,7 +56,7 @@ pub number_is : (v : Value) (number : ℕ) → number < 2 ^ 64 → ((n : ℤ) ×
     → equal Binary v (Int (pos number)) ≡ true → number_in v ≡ number
 number_is v number low is e = let same = sym (number_equal v number low is) ∙ e in grind (arith, nat_tests, same)
 
--- rows that agree in a key have each of its columns alike
+-- rows that agree in a key have equal values in each of its columns
 pub agreeing : (places : List ℕ) (r new : Row) → agree plain places r places new ≡ true
     → AllByRecursion (λ p. equal Binary (column r p) (column new p) ≡ true) places
 unfolding first_key
@@ -66,7 +66,7 @@ agreeing (p ∷ places) r new e =
     (parts.0, agreeing places r new parts.1)
 
 module _ {X : Type 0} {cmp : X → X → Ordering} (total : IsTotalOrder cmp) (f : Row → X) where
-  -- a row that comes last is put at its place
+  -- a row that comes last is inserted at its place
   pub listed_last : (rows : List Row) (new : Row)
       → in_key_order cmp (map f (rows ++ new ∷ [])) ≡ put cmp (f new) (in_key_order cmp (map f rows))
   listed_last rows new = ap (in_key_order cmp) (map-append f rows (new ∷ [])) ∙ listed_more cmp (map f rows) (f new)
@@ -86,7 +86,7 @@ module _ {X : Type 0} {cmp : X → X → Ordering} (total : IsTotalOrder cmp) (f
           none_tied rows typed.1 parts.1,
         )
 
-    -- where the rows rise with it, no stored row has its key
+    -- if the keys still rise with the row, no stored row has its key
     pub is_new : (rows : List Row) → AllByRecursion Typed rows
         → Rises cmp (put cmp row (in_key_order cmp (map f rows))) → IsNew o places new rows
     is_new rows typed rises =

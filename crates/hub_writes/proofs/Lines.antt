@@ -1,4 +1,4 @@
--- Lines of orders in SQL.
+-- Proves the SQL statements for order lines.
 use Rattle.std.proofs.Common.{◌≡◌, ℕ, ℤ, pos, ◌==◌, ◌&&◌, true, ap₂, ◌∙◌, List, [], ◌∷◌, ◌++◌, codes, refl}
 use Rattle.std.proofs.lemmas.Bool.{and_parts}
 use Rattle.sqlite_value.specs.declared.value.Value.TheVariants.{Null, Int}
@@ -71,7 +71,7 @@ abbrev tests : List Term
 tests = op2 (Compare Eq Binary) (col 1 1) (col 0 0) ∷ op2 (Compare Eq Binary) (col 1 2) (col 0 1)
     ∷ op2 (Compare Eq Binary) (col 1 3) (col 0 2) ∷ []
 
--- its number, and the columns as they become
+-- its row number, and the new values of the columns
 abbrev shows : List Term
 shows = col 1 0 ∷ col 1 0 ∷ col 1 1 ∷ col 1 2 ∷ col 1 3 ∷ col 0 3 ∷ col 0 4 ∷ col 0 5 ∷ col 0 6 ∷ col 0 7 ∷ col 0 8 ∷ []
 

@@ -1,4 +1,4 @@
--- Messages and cancellations that are remembered in SQL.
+-- Proves the SQL statement that remembers messages and cancellations.
 use Rattle.std.proofs.Common.{◌≡◌, ℕ, ℤ, ◌<◌, ◌^◌, pos, List, [], ◌∷◌, codes, refl}
 use Rattle.sqlite_value.specs.declared.value.Value.TheVariants.{Null, Int, Blob}
 use Rattle.sqlite_value.specs.Order.{Row, column}
@@ -53,7 +53,7 @@ module _ (row : RememberedRow) where
   abbrev pub cells : Row
   cells = Blob row.supplier ∷ Int (pos row.side) ∷ Blob row.control ∷ Blob row.message ∷ Blob row.content ∷ []
 
-  -- its numbers are those of a u64
+  -- its number fits a u64
   abbrev pub IsLow : Type 0
   IsLow = row.side < 2 ^ 64
 

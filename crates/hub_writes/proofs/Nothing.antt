@@ -1,4 +1,4 @@
--- A text without a statement fails only where the store fails, which undoes the transaction.
+-- Shows that a text without a statement fails only if the store fails, which undoes the transaction.
 use Rattle.std.proofs.Common.{◌≡◌, inl, inr, [], length, false, Result, Ok, Err, None, IsSome, refl, sym, ap}
 use Rattle.std.proofs.Common.{subst, true≢false, arith}
 use Rattle.sqlite_value.specs.Order.{Row}

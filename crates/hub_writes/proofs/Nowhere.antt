@@ -1,4 +1,4 @@
--- A row that is set where none stands in its place leaves the tables as they were.
+-- Shows that setting a row leaves the tables as they were if no row has its key.
 use Rattle.std.proofs.Common.{◌&&◌, ◌||◌, ◌≡◌, Bool, cond, true, false, List, [], ◌∷◌, ap, ap₂, refl}
 use Rattle.std.specs.List.{list_any}
 use Rattle.hub_tables.specs.Change.{apply_all}

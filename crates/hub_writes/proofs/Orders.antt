@@ -1,4 +1,4 @@
--- Orders in SQL.
+-- Proves the SQL statements for orders.
 use Rattle.std.proofs.Common.{ℕ, List, [], ◌∷◌, codes, refl}
 use Rattle.sqlite_value.specs.declared.value.Value.TheVariants.{Null, Int, Blob}
 use Rattle.sqlite_value.specs.Order.{Row, column}

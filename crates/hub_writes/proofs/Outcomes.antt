@@ -1,4 +1,4 @@
--- What a statement comes to.
+-- Proves what the result of a statement means.
 use Rattle.std.proofs.Common.{Bool, ◌==◌, if◌then◌else◌, ◌≡◌, ◌⊎◌, inl, inr, false, true, not, ℕ, List, [], ◌∷◌, Result, Ok}
 use Rattle.std.proofs.Common.{Err, OnOk, OnErr}
 use Rattle.std.proofs.Common.{IsTrue, refl, sym, subst, ap, ◌∙◌, true≢false}
@@ -64,7 +64,7 @@ err_ended : (A : Type 0) (r : Result ℕ Error) → OnErr r A → OnErr (ended r
 err_ended A (Ok count) h = tt
 err_ended A (Err e) h = h
 
--- a change that a hub's tables take fits to them
+-- a change that a hub's tables accept fits them
 fits_one : (change : Change) (old new : State) → IsHub old → Makes (apply_all (change ∷ [])) old new
     → Fit (change ∷ []) (tables_in old.now.trees)
 fits_one change old new hub did = (
@@ -72,7 +72,7 @@ fits_one change old new hub did = (
   subst Rising did.tables (hub_rises new did.hub),
 )
 
--- only a key that is there is `Unclean`
+-- only an existing key gives `Unclean`
 refused_so : (e : Error) → refusal_of e ≡ Unclean → e ≡ not_unique
 refused_so (SqliteFailure (code.ConstraintViolation rule.Unique)) h = refl
 refused_so e h = cc
@@ -85,7 +85,7 @@ pub no_unclean : {X : Type 0} (r : Result X Error) → ended r ≡ Err Unclean �
 no_unclean (Ok x) h = cc
 no_unclean (Err e) h = never_unclean e (let same : fault_of e ≡ Unclean = cc in same)
 
--- what `execute` says of a statement in a transaction
+-- what `execute` guarantees for a statement in a transaction
 pub record Executed {S : Type 0} (g : Ghosts S) (sql : List ℕ) (params : Row) (old new : Held S) (r : Result ℕ Error) :
     Type 0 where
   pub ended : (state g old).in_transaction ≡ false → (r ≡ Err (SqliteFailure code.TransactionState)) × (new ≡ old)
@@ -93,7 +93,7 @@ pub record Executed {S : Type 0} (g : Ghosts S) (sql : List ℕ) (params : Row) 
       → ExecutesInside 0 sql params (state g old) (state g new) r
   pub survives : Survives (state g old) (state g new) (λ _. ⊥)
 
--- where the values that it was given are these cells
+-- if the values that it was given are these cells
 pub executed : {S : Type 0} (g : Ghosts S) (sql : List ℕ) (cells values : Row) (old new : Held S) (r : Result ℕ Error)
     → ((state g old).in_transaction ≡ false → (r ≡ Err (SqliteFailure code.TransactionState)) × (new ≡ old))
     → (HasCleanDisk (state g new) → IsTrue (state g old).in_transaction
@@ -106,7 +106,7 @@ executed g sql cells values old new r ended runs survives are = record {
   survives = survives;
 }
 
--- a change that failed, where all is as it was
+-- a change that failed and left everything as it was
 pub first_failed : (change : Change) (old new : State) → old.in_transaction ≡ true → ShowsTheSame old new
     → MakesFirst (change ∷ []) old new
 first_failed change old new begun same = record {
@@ -151,7 +151,7 @@ module _ {S : Type 0} (g : Ghosts S) (sql : List ℕ) (params : Row) (old new : 
     | inr none ↦ no_result _ r _ (did.ended none).0
   ]
 
-  -- where it failed, none of the change is made
+  -- if it failed, nothing of the change is made
   stops : (change : Change) → HasCleanDisk (state g new) → IsTrue old.in_transaction
       → OnErr r (MakesFirst (change ∷ []) (state g old) (state g new) ⊎ IsUndone (state g old) (state g new))
   stops change clean begun = on_err r (λ it. elim it [
@@ -210,7 +210,7 @@ module _ {S : Type 0} (g : Ghosts S) (sql : List ℕ) (params : Row) (old new : 
       fails (Ok count) h = tt
       fails (Err e) h = inr (undone e h)
 
-  -- a DELETE, whatever rows it meets
+  -- a DELETE, whichever rows it finds
   pub delete_acts : (change : Change) → ((t : Tables) → have_places (change ∷ []) t ≡ true)
       → (IsHub (state g old) → old.in_transaction ≡ true
       → ExecutesInside 0 sql params (state g old) (state g new) r
@@ -229,7 +229,7 @@ module _ {S : Type 0} (g : Ghosts S) (sql : List ℕ) (params : Row) (old new : 
     survives = did.survives;
   })
 
-  -- an UPDATE that is to meet a row, and tells how many it met
+  -- an UPDATE that must find a row, and that returns how many it found
   module _ (change : Change) (setting : Sets change sql params) where
     makes : IsHub (state g old) → old.in_transaction ≡ true
         → ExecutesInside 0 sql params (state g old) (state g new) r
@@ -252,7 +252,7 @@ module _ {S : Type 0} (g : Ghosts S) (sql : List ℕ) (params : Row) (old new : 
     never : (A : Type 0) (count : ℕ) → r ≡ Ok count → old.in_transaction ≡ false → A
     never A count is none = absurd (let bad = sym is ∙ (did.ended none).0 in cc)
 
-    -- it met none, and the tables are as they were
+    -- it found none, and the tables are as before
     met_none : (count : ℕ) → r ≡ Ok count → (count == 0) ≡ true → HasCleanDisk (state g new)
         → MakesFirst (change ∷ []) (state g old) (state g new)
     met_none count is e clean =

@@ -1,4 +1,4 @@
--- Pallets in SQL.
+-- Proves the SQL statements for pallets.
 use Rattle.std.proofs.Common.{◌≡◌, ℕ, ℤ, pos, true, ◌∙◌, List, [], ◌∷◌, codes, refl}
 use Rattle.sqlite_value.specs.declared.value.Value.TheVariants.{Null, Int}
 use Rattle.sqlite_value.specs.declared.keys.Collation.TheVariants.{Binary}
@@ -65,7 +65,7 @@ set_pallet = codes "UPDATE pallet SET supplier = ?2, advice = ?3, received = ?4 
 abbrev tests : List Term
 tests = op2 (Compare Eq Binary) (col 1 1) (col 0 0) ∷ []
 
--- its number, and the columns as they become
+-- its row number, and the new values of the columns
 abbrev shows : List Term
 shows = col 1 0 ∷ col 1 0 ∷ col 1 1 ∷ col 0 1 ∷ col 0 2 ∷ col 0 3 ∷ []
 

@@ -1,4 +1,4 @@
--- How many rows an UPDATE by a key met, and whether a row stands under that key.
+-- Shows how many rows an UPDATE by a key found, and whether a row has that key.
 use Rattle.std.proofs.Common.{inl, inr, arith, ◌≡◌, ◌==◌, ◌||◌, ℕ, Bool, true, false, not, List, [], ◌∷◌, map, filter, length}
 use Rattle.std.proofs.Common.{if◌then◌else◌, refl, sym, ap, ◌∙◌}
 use Rattle.std.specs.List.{AllByRecursion, list_any}
@@ -32,7 +32,7 @@ module _ {X : Type 0} (cmp : X → X → Ordering) (p : X → Bool) where
         one true e later = some r (filter passes rows)
         one false e later = later
 
-    -- a row stands under the key exactly where the statement met one
+    -- a row has the key exactly if the statement found one
     pub place_met : (rows : List Row) (count : ℕ) → AllByRecursion Typed rows → count ≡ length (filter passes rows)
         → list_any p (in_key_order cmp (map read rows)) ≡ not (count == 0)
     place_met rows count typed counted =

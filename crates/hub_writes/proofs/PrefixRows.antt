@@ -1,4 +1,4 @@
--- Company prefixes in SQL.
+-- Proves the SQL statement for company prefixes.
 use Rattle.std.proofs.Common.{ℕ, List, [], ◌∷◌, codes, refl}
 use Rattle.sqlite_value.specs.declared.value.Value.TheVariants.{Null, Int, Blob}
 use Rattle.sqlite_value.specs.Order.{Row, column}

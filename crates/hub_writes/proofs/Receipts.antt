@@ -1,4 +1,4 @@
--- Receipts of articles in SQL.
+-- Proves the SQL statements for receipts of articles.
 use Rattle.std.proofs.Common.{◌≡◌, ◌<◌, ◌^◌, ℕ, ℤ, pos, Bool, true, not, filter, inl, inr, None, List, [], ◌∷◌, map}
 use Rattle.std.proofs.Common.{codes, Ok, Err, Result, OnOk, refl, sym, ap, ◌∙◌}
 use Rattle.std.specs.List.{AllByRecursion}
@@ -69,7 +69,7 @@ module _ (row : ReceiptRow) where
   abbrev pub cells : Row
   cells = Blob row.sscc ∷ Blob row.gtin ∷ Int (pos row.accepted) ∷ Int (pos row.returned) ∷ Int (pos row.destroyed) ∷ []
 
-  -- its numbers are those of a u64
+  -- each number fits a u64
   abbrev pub IsLow : Type 0
   IsLow = (row.accepted < 2 ^ 64) × (row.returned < 2 ^ 64) × (row.destroyed < 2 ^ 64)
 
@@ -102,11 +102,11 @@ module _ (row : ReceiptRow) where
 abbrev pub clear_receipts : List ℕ
 clear_receipts = codes "DELETE FROM receipt WHERE sscc = ?1"
 
--- the row is of the pallet
+-- the row belongs to the pallet
 abbrev tests : List Term
 tests = op2 (Compare Eq Binary) (col 1 1) (col 0 0) ∷ []
 
--- its number
+-- its row number
 abbrev shows : List Term
 shows = col 1 0 ∷ []
 

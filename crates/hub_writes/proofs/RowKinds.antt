@@ -1,4 +1,4 @@
--- A kind of rows: its table among those of a hub, and its list among what they say.
+-- Describes a kind of rows: its SQL table, and its list of rows.
 use Rattle.std.proofs.Common.{◌≡◌, ℕ, zero, suc, ◌==◌, false, List, [], ◌∷◌, map, slice_get, Some, sym, subst, ap, ◌∙◌}
 use Rattle.std.specs.List.{AllByRecursion}
 use Rattle.std.specs.declared.cmp.Ordering.{Ordering}
@@ -24,18 +24,18 @@ use Rattle.hub_schema.specs.Schema.{hub_schema}
 use Rattle.hub_schema.specs.State.{AreOrdered, IsHub, Makes}
 use Rattle.hub_writes.proofs.Alters.{Alters, still_hub, tables_are}
 
--- the table with its columns and keys, and no other rule
+-- the table with its columns and keys, and no other rules
 abbrev pub plain : Table → Table
 plain table = plain_table table.tree table.name table.columns table.primary table.uniques table.orders
 
--- the kinds of its columns
+-- the types of its columns
 abbrev pub kinds_of : Table → List cell.Kind
 kinds_of table = map (λ c. c.kind) table.columns
 
 pub record Kind (X : Type 0) : Type 0 where
   pub cmp : X → X → Ordering
   pub total : IsTotalOrder cmp
-  -- what a stored row says
+  -- the row that a stored row stands for
   pub read : Row → X
   pub place : ℕ
   pub table : Table
@@ -43,11 +43,11 @@ pub record Kind (X : Type 0) : Type 0 where
   pub stored : (db : Trees) → overlay db [] table.tree ≡ db table.tree
   -- it is not the table with the schema's number
   pub later : (0 == table.tree) ≡ false
-  -- what is known of each stored row
+  -- the types of the cells of each stored row
   pub typed :
       (db : Database) → db.schema ≡ hub_schema → IsDatabase db → AreOrdered db.trees
       → AllByRecursion (AreOf (kinds_of table) 0) (db.trees table.tree)
-  -- its list among all rows
+  -- its list of rows in the tables
   pub rows : Tables → List X
   pub with_rows : Tables → List X → Tables
   pub set : (t : Tables) (xs : List X) → rows (with_rows t xs) ≡ xs
@@ -57,7 +57,7 @@ pub record Kind (X : Type 0) : Type 0 where
       ≡ with_rows (tables_in db) (in_key_order cmp (map read stored))
   pub rises : (t : Tables) → Rising t → Rises cmp (rows t)
 
--- what holds of each holds of the one at a place
+-- what holds for each element holds for the one at a position
 at_place : {X : Type 0} (P : X → Type 0) (xs : List X) (place : ℕ) (x : X) → slice_get xs place ≡ Some x
     → AllByRecursion P xs → P x
 at_place P [] place x is all = absurd cc
@@ -70,7 +70,7 @@ module _ {X : Type 0} (kind : Kind X) where
   ordered trees all =
       at_place (λ table. IsShaped shape.Table (trees table.tree)) hub_schema.tables kind.place (plain kind.table) kind.found all
 
-  -- a statement that altered its table makes a change that leaves these rows
+  -- a statement that altered its table makes a change with these rows
   pub makes_rows : (change : Change) (rows : List X) (after : List Row) (old new : State) → IsHub old
       → Alters kind.table.tree after old new → in_key_order kind.cmp (map kind.read after) ≡ rows
       → apply_all (change ∷ []) (tables_in old.now.trees) ≡ kind.with_rows (tables_in old.now.trees) rows

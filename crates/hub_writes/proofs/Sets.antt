@@ -1,4 +1,4 @@
--- An UPDATE of the row under the key of another.
+-- Proves what an UPDATE of the row with a key does.
 use Rattle.std.proofs.Common.{◌≡◌, ◌==◌, ℕ, Bool, true, false, not, cond, List, [], ◌∷◌, map, drop, if◌then◌else◌, None}
 use Rattle.std.proofs.Common.{Ok, Err, Result, OnOk, refl, ap, ap₂, ◌∙◌}
 use Rattle.std.specs.List.{AllByRecursion, list_any}
@@ -25,7 +25,7 @@ use Rattle.hub_writes.proofs.Alters.{ReadsAs, altered}
 use Rattle.hub_writes.proofs.RowKinds.{Kind, kinds_of, makes_rows, ordered, plain}
 use Rattle.hub_writes.proofs.Places.{place_met}
 
--- what a statement that sets a row does, and that a row stands in its place exactly where the statement met one
+-- what a statement that sets a row does, and that a row has the key exactly if the statement found one
 pub record Sets (change : Change) (sql : List ℕ) (cells : Row) : Type 1 where
   pub makes :
       (old new : State) (r : Result ℕ Error) → IsHub old → old.in_transaction ≡ true
@@ -36,11 +36,11 @@ pub record Sets (change : Change) (sql : List ℕ) (cells : Row) : Type 1 where
       → have_places (change ∷ []) (tables_in old.now.trees) ≡ not (count == 0)
 
 module _ {X : Type 0} (kind : Kind X) (tests shows : List Term) (cells : Row) where
-  -- the row is met
+  -- the statement finds the row
   abbrev pub passes : Row → Bool
   passes = updates.passes kind.table.tree kind.stored tests shows cells
 
-  -- what comes of it
+  -- the row after the statement
   abbrev pub shown : Row → Row
   shown = updates.show kind.table.tree kind.stored tests shows cells
 

@@ -1,4 +1,4 @@
--- One change after another.
+-- Proves what one change after another does.
 use Rattle.std.proofs.Common.{◌&&◌, ◌≡◌, ◌||◌, ◌==◌, ◌^◌, nat_le, Bool, cond, ap₂, arith, inl, inr, ℕ, List, [], ◌∷◌, true}
 use Rattle.std.proofs.Common.{false, Result, Ok, Err, OnOk, IsTrue, refl, sym, ap, subst, ◌∙◌, true≢false, ◌⊎◌, ◌++◌, length}
 use Rattle.std.proofs.Common.{append_assoc, length-append}
@@ -60,7 +60,7 @@ nothing_made old new (Ok count) hub begun h =
       mode = same.mode ∙ begun;
     }
 
--- a statement that ran in a transaction met an open connection
+-- a statement that ran in a transaction found the connection open
 pub was_open : {S : Type 0} (g : Ghosts S) (sql : List ℕ) (params : _) (old new : Held S) (r : Result ℕ Error)
     → Executed g sql params old new r → HasCleanDisk (state g new)
     → OnOk (ended r) (IsTrue (state g old).is_open × IsTrue (state g old).in_transaction)
@@ -70,7 +70,7 @@ was_open g sql params old new (Ok count) did clean = elim (cases_Bool old.in_tra
   | inr none ↦ absurd (let no = (did.ended none).0 in cc)
 ]
 
--- the first statement ran, and all changes are left
+-- the first statement ran, and all changes are still to be made
 pub run_none : (all : List Change) (a b : State) → Acts [] a b (Ok tt)
     → (HasCleanDisk b → IsTrue a.is_open × IsTrue a.in_transaction) → HasRun all all a b
 run_none all a b it met = record {
@@ -100,7 +100,7 @@ run_none all a b it met = record {
 first_placed : (a b : Bool) → (a && b) ≡ true → (a && true) ≡ true
 first_placed a b h = ap (λ v. v && true) (and_parts a b h).0
 
--- where the first has its place, the later ones decide
+-- if the first change has its row, the later ones decide
 placed_later : (a b : Bool) → (a && true) ≡ true → b ≡ (a && b)
 placed_later true b h = refl
 placed_later false b h = absurd cc
@@ -180,7 +180,7 @@ other_great true b c h = refl
 other_great false true c h = refl
 other_great false false c h = absurd cc
 
--- what is under the key of an entry has its number
+-- an entry with the same key has the same number
 same_great : (row old : MailRow) → same_mail row old ≡ true → great_entry row ≡ great_entry old
 same_great row old e =
     let alike = (and_parts (same old.supplier row.supplier) (old.number == row.number) e).1 in
@@ -224,7 +224,7 @@ entry_is_great row h t =
     ap (λ b. list_any great_place t.contents || b) (any_put mail_cmp great_entry t.mail row)
     ∙ there_too (list_any great_place t.contents) (list_any great_entry t.mail) (great_entry row) h
 
--- an entry that stands in the place of one whose number is too great has such a number too
+-- an entry that replaces one whose number is too large also has such a number
 place_great : (row : MailRow) → great_entry row ≡ true → (entries : List MailRow)
     → list_any (same_mail row) entries ≡ true → list_any great_entry entries ≡ true
 place_great row great [] some = absurd cc
@@ -266,7 +266,7 @@ refused_before change s great = record {
   survives = survives_still s;
 }
 
--- a number that is too great stays so
+-- a number that is too large stays in the tables
 pub great_later : (changes : List Change) (t : Tables) → has_great t ≡ true → has_great (apply_all changes t) ≡ true
 great_later [] t h = h
 great_later (change ∷ changes) t h = great_later changes (apply change t) (great_stays change t h)
@@ -299,12 +299,12 @@ none_run all a b fault it = record {
     none_there [] failed left e = cc
     none_there (change ∷ made) failed left e = cc
 
--- of one change that failed, none came before it
+-- if there is only one change and it failed, none came before it
 alone : (change failed : Change) (made left : List Change) → (change ∷ []) ≡ made ++ failed ∷ left → made ≡ []
 alone change failed [] left e = refl
 alone change failed (first ∷ made) left e = absurd (omega (arith, ap length e, length-append made (failed ∷ left)))
 
--- a change failed, and the transaction stands
+-- a change failed, and the transaction is still open
 stopped : (all left : List Change) (change : Change) (a b c : State) → HasCleanDisk b → HasRun all (change ∷ left) a b
     → MakesFirst (change ∷ []) b c → MakesFirst all a c
 stopped all left change a b c clean so_far it = record {

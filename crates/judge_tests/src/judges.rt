@@ -26,7 +26,7 @@ const SAID: &str = "said";
 
 const OTHER_CONTENT: &str = "sand";
 
-// So many entries of a mailbox that none can follow.
+// The number of entries of a full mailbox.
 const FULL: u64 = 99_999_999_999_999;
 
 fn prefixes_of_alpha(alloc: Global) -> Result<CompanyPrefixes, Fail> {
@@ -35,7 +35,7 @@ fn prefixes_of_alpha(alloc: Global) -> Result<CompanyPrefixes, Fail> {
     Ok(prefixes.ok_or("prefixes of a supplier")?)
 }
 
-// Alpha's row of the register.
+// Makes alpha's row of the register.
 fn alpha(alloc: Global) -> Result<SupplierRow, Fail> {
     let gln = gln(ALPHA)?;
     let key = Key::parse(b"alpha-key-1").ok_or("a key")?;
@@ -43,7 +43,7 @@ fn alpha(alloc: Global) -> Result<SupplierRow, Fail> {
     Ok(SupplierRow { gln, prefixes, key })
 }
 
-// Message 7 of interchange 1001.
+// Makes message 7 of interchange 1001.
 fn delivery(alloc: Global) -> Result<IncomingMessage, Fail> {
     let moment = Moment::new(1_748_942_400).ok_or("a moment")?;
     Ok(IncomingMessage {
@@ -55,7 +55,7 @@ fn delivery(alloc: Global) -> Result<IncomingMessage, Fail> {
     })
 }
 
-// What each judge asks for: the retailer, alpha's row, and message 7 of interchange 1001 with the body of its mail.
+// What each judge needs: the retailer, alpha's row, and message 7 of interchange 1001 with the text of its mail.
 #[derive(Drop)]
 struct Setting {
     retailer: Gln,
@@ -77,7 +77,7 @@ fn usual_setting(alloc: Global) -> Result<Setting, Fail> {
     })
 }
 
-// Lines of three orders that wait.
+// Lines of three orders that wait for an answer.
 const BEFORE: Line = ("128575", 1, [48, 36, 0, 0], Answered::Waiting);
 
 const WAITING: Line = ("128576", 1, [48, 36, 0, 0], Answered::Waiting);
@@ -91,7 +91,7 @@ fn content_of(alloc: Global, remembered: Option<&str>) -> Result<Option<Items<u8
     })
 }
 
-// What is known: the orders of these lines, and what is remembered.
+// Makes what is known: the orders of these lines, and what is remembered.
 fn known(alloc: Global, lines: [Line; 3], remembered: Option<&str>) -> Result<Known, Fail> {
     Ok(Known {
         remembered: content_of(alloc, remembered)?,
@@ -108,7 +108,7 @@ fn opened(alloc: Global, text: &[u8]) -> Result<Interchange, Fail> {
     Ok(open(alloc, tokens)?)
 }
 
-// The text of an interchange of a message of these segments, UNT left out.
+// Makes the text of an interchange with a message of these segments; UNT is added.
 fn text_of(alloc: Global, segments: &str) -> Result<String, MemoryFault> {
     let count = segments.matches("'").count().saturating_add(1);
     format!(in alloc;
@@ -116,14 +116,14 @@ fn text_of(alloc: Global, segments: &str) -> Result<String, MemoryFault> {
     )
 }
 
-// The message of these segments, UNT left out.
+// Makes the message of these segments; UNT is added.
 fn message(alloc: Global, segments: &str) -> Result<RawMessage, Fail> {
     let text = text_of(alloc, segments)?;
     let mut messages = opened(alloc, text.as_bytes())?.messages.into_vec();
     Ok(messages.pop().ok_or("a message")?)
 }
 
-// Alpha's row, where it is registered.
+// Returns alpha's row, if it is registered.
 fn registered(row: &SupplierRow, is_registered: bool) -> Option<&SupplierRow> {
     if is_registered { Some(row) } else { None }
 }

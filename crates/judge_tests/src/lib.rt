@@ -1,5 +1,5 @@
-//! Tests of the public calls of the rules, the lines and the judges, in one crate, so that no crate below is proved
-//! twice.
+//! Tests the public calls of the rules, the lines and the judges. They are in one crate, so that no crate below is
+//! proved twice.
 #![tactic(auto)]
 
 #[cfg(test)]

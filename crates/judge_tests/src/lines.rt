@@ -9,7 +9,7 @@ use hub_tables::{Answered, Column, LineRow};
 use std::alloc::Global;
 use std::test::Fail;
 
-// Lines of one item: the only one of order 128575, and two of order 128576; and a line of another item there.
+// Lines of one item: the only one of order 128575, and two of order 128576; then a line of another item in that order.
 const ONLY: Line = ("128575", 1, [48, 30, 4, 2], Answered::Changed);
 
 const FIRST: Line = ("128576", 1, [48, 30, 4, 2], Answered::Changed);
@@ -18,7 +18,7 @@ const SECOND: Line = ("128576", 2, [48, 29, 4, 2], Answered::Changed);
 
 const OTHERS: Line = ("128576", 5, [48, 36, 0, 0], Answered::Waiting);
 
-// What is asked of a line: how much is ordered, open, refused, cancelled and despatched, and its answer.
+// What is tested of a line: the ordered, open, refused, cancelled and despatched quantities, and the answer.
 type State = ([u32; 5], Answered);
 
 fn state(line: &LineFacts) -> State {
@@ -33,7 +33,7 @@ fn state(line: &LineFacts) -> State {
     (quantities, row.answer.case())
 }
 
-// An order, a line's number or none, and an item.
+// An order, a line number if one is given, and an item.
 type Named = (&'static [u8; 6], Option<u32>, &'static str);
 
 fn rows_of_two_items(alloc: Global) -> Result<Items<LineRow>, Fail> {
@@ -42,7 +42,7 @@ fn rows_of_two_items(alloc: Global) -> Result<Items<LineRow>, Fail> {
     Ok(rows)
 }
 
-// Puts an order with rows that have to pass.
+// Adds an order whose rows must be accepted.
 fn put_passing(
     orders: &mut KnownOrders,
     alloc: Global,
@@ -60,7 +60,7 @@ fn put_two(orders: &mut KnownOrders, alloc: Global) -> Result<(), Fail> {
     put_passing(orders, alloc, "128575", true, of_one)
 }
 
-// Orders 128575 and 128576, and order 128574 that was looked up and is not there.
+// Makes orders 128575 and 128576, and order 128574, which was looked up and does not exist.
 fn two_orders(alloc: Global) -> Result<KnownOrders, Fail> {
     let mut orders = KnownOrders::new(alloc);
     put_two(&mut orders, alloc)?;
@@ -75,7 +75,7 @@ fn index_each(orders: &mut KnownOrders, alloc: Global) -> Result<(), Fail> {
     Ok(())
 }
 
-// The same, with an index by article or without one.
+// Makes these orders, with an index by article or without one.
 fn two_indexed(alloc: Global, is_indexed: bool) -> Result<KnownOrders, Fail> {
     let mut orders = two_orders(alloc)?;
     if is_indexed {
@@ -84,7 +84,7 @@ fn two_indexed(alloc: Global, is_indexed: bool) -> Result<KnownOrders, Fail> {
     Ok(orders)
 }
 
-// Whether this is the line of an order with a number, or no line where none is wanted.
+// Whether this is the line of an order with a number, or no line if none is wanted.
 fn is_line(line: Option<&LineFacts>, order: &[u8], want: Option<u32>) -> bool {
     match line {
         Some(line) => line.row.number.as_slice() == order && want == Some(line.row.line),
@@ -92,7 +92,7 @@ fn is_line(line: Option<&LineFacts>, order: &[u8], want: Option<u32>) -> bool {
     }
 }
 
-// Whether a line is known, and is so.
+// Whether the line is known, and in this state.
 fn is_so(line: Option<&LineFacts>, want: &State) -> bool {
     match line {
         Some(line) => state(line) == *want,

@@ -1,4 +1,4 @@
-//! Lines that are known, as the book and the judges ask for them.
+//! Makes known lines for the tests of the book and of the judges.
 
 use edi_base::{Items, MemoryFault, copied};
 use gs1_ids::{Gln, Gtin};
@@ -13,8 +13,8 @@ pub(crate) const ITEM: &str = "4000862141404";
 
 pub(crate) const OTHER_ITEM: &str = "4000862141411";
 
-/// A line: its order and number there, how much is ordered, open, refused and cancelled, and its answer. The rest is
-/// despatched.
+/// A line: its order and its number there, the ordered, open, refused and cancelled quantities, and its answer. The
+/// rest is despatched.
 pub(crate) type Line = (&'static str, u32, [u32; 4], Answered);
 
 pub(crate) fn gln(digits: &str) -> Result<Gln, Fail> {
@@ -25,7 +25,7 @@ pub(crate) fn gtin(digits: &str) -> Result<Gtin, Fail> {
     Ok(Gtin::parse(digits.as_bytes()).ok_or("a GTIN")?)
 }
 
-/// The row of alpha's line of an item.
+/// Makes the row of alpha's line of an item.
 pub(crate) fn row_of(alloc: Global, line: Line, item: &str) -> Result<LineRow, Fail> {
     let (order, number, [ordered, open_qty, refused, cancelled], answer) = line;
     let (supplier, gtin) = (gln(ALPHA)?, gtin(item)?);
@@ -49,14 +49,14 @@ fn push_rows(rows: &mut Items<LineRow>, alloc: Global, lines: &[Line]) -> Result
     Ok(())
 }
 
-/// The rows of alpha's lines of one item.
+/// Makes the rows of alpha's lines of one item.
 pub(crate) fn rows(alloc: Global, lines: &[Line]) -> Result<Items<LineRow>, Fail> {
     let mut rows = Items::new(alloc);
     push_rows(&mut rows, alloc, lines)?;
     Ok(rows)
 }
 
-/// Puts alone, so that what the contract says burdens no other goal.
+/// A function of its own, to keep the contract of the call out of other proofs.
 pub(crate) fn put(
     orders: &mut KnownOrders,
     alloc: Global,
@@ -67,7 +67,7 @@ pub(crate) fn put(
     orders.put(alloc, order.as_bytes(), is_there, rows)
 }
 
-// Puts an order that is there with all these lines, of which the rows have to pass.
+// Adds an order that exists, with all these lines, whose rows must be accepted.
 fn put_there(
     orders: &mut KnownOrders,
     alloc: Global,
@@ -88,7 +88,7 @@ fn put_each(orders: &mut KnownOrders, alloc: Global, lines: &[Line]) -> Result<(
     Ok(())
 }
 
-/// The orders of alpha's three lines of one item. With each order the others' lines are put too, as they may be.
+/// Makes the orders of alpha's three lines of one item. Each order is given the others' lines too, which is allowed.
 pub(crate) fn rising(alloc: Global, lines: [Line; 3]) -> Result<KnownOrders, Fail> {
     let mut orders = KnownOrders::new(alloc);
     put_each(&mut orders, alloc, &lines)?;

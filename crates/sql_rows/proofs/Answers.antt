@@ -1,4 +1,4 @@
--- What SELECT answers.
+-- Proves what SELECT returns.
 use Rattle.std.proofs.Common.{Vec, Result, Ok, Err, IfOk, OnOk, ◌≡◌, ℕ, ◌==◌, ◌≤◌, ◌^◌, nat_lt, ◌⊎◌, inl, inr, ℤ, pos}
 use Rattle.std.proofs.Common.{negsuc, zero, suc, ◌+◌, ◌<◌, length, get_or, Ordering, Bool, true, false, ◌&&◌}
 use Rattle.std.proofs.Common.{if◌then◌else◌, Some, List, [], ◌∷◌, ◌++◌, map, filter, bytes_eq, refl, sym, ap, ◌∙◌}
@@ -29,7 +29,7 @@ use Rattle.sqlite.proofs.StateLemmas.{survives_weaker}
 use Rattle.sqlite.specs.declared.error.Error.{Error}
 use Rattle.sqlite.proofs.Callers.{IsPlain, never_commits}
 
--- the ways to fill one slot are the rows that pass
+-- the ways to fill a single slot are the rows that pass
 pub matched : {E : Type 0} (f : Row → E) (p : Row → Bool) (rows : List Row) → flat_map
     (λ r. if p r then f r ∷ [] else []) rows ≡ map f (filter p rows)
 matched f p [] = refl
@@ -46,7 +46,7 @@ pub is_truth : (b : Bool) → is_true (from_truth (Some b)) ≡ b
 is_truth true = refl
 is_truth false = refl
 
--- a cell of bytes is those bytes
+-- a cell with bytes equals exactly those bytes
 pub same_bytes : (v : Value) (b bytes : List ℕ) → v ≡ Blob b → is_true
     (binary (Compare Eq Binary) v (Blob bytes)) ≡ bytes_eq b bytes
 unfolding binary
@@ -54,7 +54,7 @@ same_bytes v b bytes is =
     ap (λ x. is_true (binary (Compare Eq Binary) x (Blob bytes))) is ∙
     (is_truth _ ∙ (ap is_eq (value_cmp-Blob b bytes) ∙ is_eq-slice_cmp b bytes))
 
--- Numbers are shown as naturals: each below 2^64 as it is, and all others past that.
+-- Numbers are read as naturals: those from 0 to 2^64 - 1 as they are, and all others as something from 2^64 on.
 module _ (shown : ℤ → ℕ) (plain : (n : ℕ) → n < 2 ^ 64 → shown (pos n) ≡ n)
     (great : (n : ℕ) → 2 ^ 64 ≤ n → 2 ^ 64 ≤ shown (pos n)) (past : (n : ℕ) → 2 ^ 64 ≤ shown (negsuc n)) where
   differ : (a b : ℕ) → 2 ^ 64 ≤ a → b < 2 ^ 64 → false ≡ (a == b)
@@ -79,7 +79,7 @@ module _ (shown : ℤ → ℕ) (plain : (n : ℕ) → n < 2 ^ 64 → shown (pos 
   same_shown (pos n) number low = by_size n number low (sized n (nat_lt n (2 ^ 64)) refl)
   same_shown (negsuc n) number low = differ (shown (negsuc n)) number (past n) low
 
-  -- a cell of a number is that number
+  -- a cell with a number equals exactly that number
   pub same_int : (v : Value) (n : ℤ) (number : ℕ) → number < 2 ^ 64 → v ≡ Int n → is_true
       (binary (Compare Eq Binary) v (Int (pos number))) ≡ (shown n == number)
   unfolding binary
@@ -112,7 +112,7 @@ pub every_shuffled : {X : Type 0} (P : X → Type 0) (xs ys : List X) → IsPerm
     → AllByRecursion P ys
 every_shuffled P xs ys s h = recursion_from_All P ys (All-permutation P xs ys s (All-from_recursion P xs h))
 
--- what was sorted by a key that each shows is sorted by what is shown
+-- rows sorted by a key are still sorted after they are shown
 pub sorted_shown : (key : Row → Row) (cmp : Row → Row → Ordering) (os : List Output) → AllByRecursion
     (λ o. o.0 ≡ key o.1) os → IsSorted (on (λ (o : Output). o.0) cmp) os → IsSortedByKey key cmp
     (map (λ (o : Output). o.1) os)
@@ -125,7 +125,7 @@ sorted_shown key cmp os keyed sorted k d low high =
     let key_next = at_all (λ o. o.0 ≡ key o.1) os (k + 1) none refl keyed in
     rw (at_k, at_next, sym key_k, sym key_next, sorted k none low (subst (λ n. k + 1 < n) (length_map snd os) high))
 
--- a query that has no RETURNING leaves all as it was
+-- a query without RETURNING changes nothing
 pub shown_same : (sql : List ℕ) (params : Row) (old new : State) (r : Result (Vec Row Global) Error) → IsPlain
     (understood old.now.schema sql) → IfOk r (λ rows. Shown sql params old new rows.items) → OnOk r
     (IsUnchanged old new)
@@ -135,7 +135,7 @@ shown_same sql params old new (Ok rows) plain h =
     let none = (subst IsPlain h.1.is plain).0 in
     (subst (ShowsRows old new sql h.0 (timed params h.0.formats h.1.now) rows.items) none h.2).3
 
--- of a plain query no commit shows
+-- no commit is seen in a plain query
 pub shows_no_commit : (schema : Schema) (sql : List ℕ) (params : Row) (old new : State) → IsPlain
     (understood schema sql) → Survives old new (CommitsShowing sql params old) → Survives old new
     (λ _. ¬ (old.now.schema ≡ schema))

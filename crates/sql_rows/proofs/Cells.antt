@@ -1,4 +1,4 @@
--- The cells of a stored row are of the kinds of their columns.
+-- Shows that the cells of a stored row have the types of their columns.
 use Rattle.std.proofs.Common.{◌≡◌, ℕ, ◌+◌, suc, Bool, true, not, ◌&&◌, ◌||◌, List, [], ◌∷◌, map, drop, None, refl, sym}
 use Rattle.std.proofs.Common.{ap, subst, ◌∙◌, true≢false, arith}
 use Rattle.std.proofs.lemmas.Bool.{and_parts}
@@ -17,7 +17,7 @@ use Rattle.sqlite_schema.specs.Rules.{are_typed, are_present, passes, suits, is_
 use Rattle.sqlite_sql.specs.Ops.{is_null}
 use Rattle.sql_rows.specs.Cells.{IsOf, AreOf}
 
--- a column that is strict and takes no NULL
+-- a column that is strict and rejects NULL
 abbrev pub is_strict : Column → Bool
 is_strict c = c.is_strict && c.not_null
 
@@ -36,7 +36,7 @@ of_kind kind.Real v a b = tt
 of_kind kind.Text v a b = tt
 of_kind kind.Any v a b = tt
 
--- a strict column takes what is of its kind
+-- a strict column accepts only values of its type
 suited : (c : Column) (v : Value) → c.is_strict ≡ true → suits c v ≡ true → is_of c.kind v ≡ true
 suited c v strict h = rw strict at h
 

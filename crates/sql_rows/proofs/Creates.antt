@@ -1,4 +1,4 @@
--- What CREATE TABLE does.
+-- Proves what CREATE TABLE does.
 use Rattle.std.proofs.Common.{◌≡◌, ℕ, List, [], false, None, Ok, sym, ap, subst, ◌∙◌}
 use Rattle.sqlite.specs.Table.{Table}
 use Rattle.sqlite.specs.Schema.{Schema}
@@ -11,7 +11,7 @@ use Rattle.sqlite.specs.Effect.{Database}
 use Rattle.sqlite.specs.State.{State, Writes}
 use Rattle.sql_rows.proofs.Inserts.{went, same_value}
 
--- CREATE makes the table of its text
+-- CREATE TABLE makes the table of its text
 pub creates : (schema : Schema) (text : List ℕ) (table : Table) → table_defined_by text ≡ Ok table →
     (lacks_sequence (created schema table) ≡ false) → (old new : State) (count : ℕ) → old.now.schema ≡ schema
     → Writes old new None CreateTable text [] count → CreatesTable schema text old.now.trees

@@ -1,4 +1,4 @@
--- What DELETE does to the trees.
+-- Proves what DELETE does to the trees.
 use Rattle.std.proofs.Common.{◌≡◌, ◌≢◌, Bool, not, ℕ, List, [], slice_get, Some, None, Ok, ap, subst, sym, filter, ◌∙◌}
 use Rattle.std.specs.List.{AllByRecursion}
 use Rattle.sqlite_value.specs.declared.value.Value.TheVariants.{Null}
@@ -61,7 +61,7 @@ module _ (schema : Schema) (place tree : ℕ) (name : List ℕ) (columns : List 
         },
       )
 
--- Each row that passes goes.
+-- Each row that passes is deleted.
 module _ (schema : Schema) (place tree : ℕ) (name : List ℕ) (columns : List Column) (primary : List ℕ)
     (uniques : List (List ℕ)) (orders : List keys.Order)
     (found : slice_get schema.tables place ≡ Some (plain_table tree name columns primary uniques orders))
@@ -72,7 +72,7 @@ module _ (schema : Schema) (place tree : ℕ) (name : List ℕ) (columns : List 
   abbrev pub stays : Row → Bool
   stays row = not (passes tree stored tests shows values row)
 
-  -- what a DELETE by such a query leaves
+  -- what a DELETE with such a query leaves
   pub record Removes (old new : State) : Type 0 where
     pub schema_is : new.now.schema ≡ schema
     pub rows : new.now.trees tree ≡ filter stays (old.now.trees tree)

@@ -1,4 +1,4 @@
--- Why an INSERT is refused for a key that is there.
+-- Proves why an INSERT is refused because a key exists already.
 use Rattle.std.proofs.Common.{◌≡◌, refl, inl, inr, ℕ, zero, suc, length, length-append, List, [], ◌∷◌, false, Option}
 use Rattle.std.proofs.Common.{Some, None, option_map, Err, Result, ap, arith, slice_get, ◌/◌, append-nil, sym, subst}
 use Rattle.std.proofs.Common.{◌∙◌, IsTrue, ◌++◌}
@@ -42,7 +42,7 @@ use Rattle.sqlite.specs.State.{IsUnchanged, IsMisplaced, RunsCommand, ExecutesIn
 abbrev pub not_unique : Error
 not_unique = SqliteFailure (code.ConstraintViolation Unique)
 
--- it is no fault of the store
+-- it is not a fault of the store
 no_store_error : (kind : StoreError) → not_unique ≡ store_error kind → ⊥
 no_store_error cause.OutOfMemory e = cc
 no_store_error cause.Io e = cc
@@ -61,7 +61,7 @@ not_misplaced : (s : State) (c : Compiled) → IsMisplaced s c.command not_uniqu
 not_misplaced s c (inl h) = let e = h.0 in cc
 not_misplaced s c (inr h) = let e = h.0 in cc
 
--- how the command ended, where it is refused so
+-- how the command ended if it was refused for this reason
 abbrev pub Refuses : State → List ℕ → Row → Compiled → ℕ → Type 0
 Refuses old sql params c now =
     Does old.step_limit (mode_of old) (timed params c.formats now) old.now (text_of sql c) c.returning c.command
@@ -87,7 +87,7 @@ why_refused old new sql params (inl (inr (c, it, ran), later)) = elim (cases_Boo
 same_error : {A : Type 0} {s t : Option Error} → ◌≡◌ {A = Result A (Option Error)} (Err s) (Err t) → s ≡ t
 same_error e = cc
 
--- which edit is refused so
+-- the edit that is refused for this reason
 refusal_is : (r : Option Refusal) → Some not_unique ≡ option_map edit_error r → r ≡ Some (why.Violates Unique)
 refusal_is None e = cc
 refusal_is (Some (why.Violates rule)) e = cc
@@ -129,7 +129,7 @@ module _ (schema : Schema) (place tree : ℕ) (name : List ℕ) (columns : List 
   abbrev pub edit_for : List Row → Edit
   edit_for rows = edit_of db table [] Chosen 0 rows
 
-  -- the values are the source
+  -- the values are the source of the row
   sourced_is : (rows : List Row) → IsSource (record { schema = schema; trees = db }) (stamped table params)
       (Values terms width) rows → rows ≡ value_rows (params ++ []) width (length terms / width) terms
   sourced_is rows h = h.1
@@ -161,7 +161,7 @@ module _ (schema : Schema) (place tree : ℕ) (name : List ℕ) (columns : List 
   on_rows_refused (inr (w, wrote, inr (doubt, tested, inl (s, stops, is)))) = absurd (let bad = stops in cc)
   on_rows_refused (inr (w, wrote, inr (doubt, tested, inr (rows, shown, gives)))) = absurd (let bad = gives in cc)
 
-  -- the row would stand under a key that is there
+  -- the row's key would exist already
   pub does_refused : (text : List ℕ) → Does limit mode params (record { schema = schema; trees = db }) text None
       (Insert place (Values terms width)) (Err (Some not_unique))
       → ¬ Keeps Unique schema
@@ -180,7 +180,7 @@ module _ (schema : Schema) (place tree : ℕ) (name : List ℕ) (columns : List 
     (is : command_of (understood schema sql) ≡ Insert place (Values terms width))
     (plain : IsPlain (understood schema sql))
     (old new : State) (params : Row) where
-  -- an INSERT that is refused so would break a key, and the connection is open
+  -- an INSERT that is refused for this reason would break a key, and the connection is open
   pub refused : ExecutesInside 0 sql params old new (Err not_unique) → IsTrue old.is_open × (old.now.schema ≡ schema
       → ¬ Keeps Unique schema
       (with_tree old.now.trees tree

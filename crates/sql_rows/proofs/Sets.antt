@@ -1,4 +1,4 @@
--- Rows of a table that are taken out, changed and put in again. Two tables with the same rows are one.
+-- Proves what removing, changing and reinserting rows of a table does. Two tables with the same rows are equal.
 use Rattle.std.proofs.Common.{◌≡◌, inl, inr, ℤ, Bool, true, false, not, if◌then◌else◌, List, [], ◌∷◌, map, drop, filter}
 use Rattle.std.proofs.Common.{IsTrue, Ordering, Less, Equal, Greater, is_eq, refl, sym, ap, ap₂, subst, ◌∙◌, true≢false}
 use Rattle.std.specs.List.{AllByRecursion}
@@ -47,7 +47,7 @@ tied_same (r ∷ rows) a b up (inr h) (inl k) tie =
     (rw k at tie) in cc)
 tied_same (r ∷ rows) a b up (inr h) (inr k) tie = tied_same rows a b up.1 h k tie
 
--- two tables with the same rows are one
+-- two tables with the same rows are equal
 same_rows : (xs ys : List Row) → IsTable xs → IsTable ys → ((r : Row) → Has xs r → Has ys r) →
     ((r : Row) → Has ys r → Has xs r) → xs ≡ ys
 same_rows [] [] p q a b = refl
@@ -120,7 +120,7 @@ map_table f (r ∷ rows) keeps up = (
   map_table f rows keeps.1 up.1,
 )
 
--- The rows that pass are replaced, each by a row of its own rowid.
+-- The rows that pass are replaced, each by a row with its own row number.
 module _ (table : Table) (show : Row → Row) (p : Row → Bool) (rows answer : List Row) (up : IsShaped shape.Table rows)
     (same : IsPermutation (map show (filter p rows)) answer)
     (shows : (r : Row) → (rowid (show r) ≡ rowid r) × (column (drop 1 (show r)) 0 ≡ rowid r)) where
@@ -146,7 +146,7 @@ module _ (table : Table) (show : Row → Row) (p : Row → Bool) (rows answer : 
   shown_id : (r : Row) → Has rows r → Int (id_in (rowid (show r))) ≡ rowid r
   shown_id r h = ap (λ v. Int (id_in v)) (shows r).0 ∙ sym (int_is (rowid r) (int_at r h))
 
-  -- a row of the answer shows a row that passes, and each that passes is shown
+  -- each row of the answer shows a row that passes, and each row that passes is shown
   shown_from : (s : Row) → Has answer s → (r : Row) × Has rows r × (p r ≡ true) × (s ≡ show r)
   shown_from s h =
       let r = has_mapped show (filter p rows) s
@@ -223,7 +223,7 @@ module _ (table : Table) (show : Row → Row) (p : Row → Bool) (rows answer : 
         (sym (ap rowid r.2 ∙ all_has (λ q. rowid (changed q) ≡ rowid q) rows r.0 keeps r.1)) (int_at r.0 r.1)),
   )
 
--- The rows that pass are taken out, each by its rowid.
+-- The rows that pass are removed, each by its row number.
 module _ (show : Row → Row) (p : Row → Bool) (rows answer : List Row) (up : IsShaped shape.Table rows)
     (same : IsPermutation (map show (filter p rows)) answer) (shows : (r : Row) → rowid (show r) ≡ rowid r) where
   abbrev kept : List Row
@@ -232,7 +232,7 @@ module _ (show : Row → Row) (p : Row → Bool) (rows answer : List Row) (up : 
   number_of : (r : Row) → Has rows r → Int (id_in (rowid (show r))) ≡ rowid r
   number_of r h = ap (λ v. Int (id_in v)) (shows r) ∙ sym (int_is (rowid r) (all_has _ rows r up.1 h))
 
-  -- a row that passes is asked to go
+  -- the row number of a row that passes is in the answer
   goes : (x : Row) → Has rows x → p x ≡ true → Lacks (ids_of answer) x → ⊥
   goes x h hit lacks =
       let there = shuffled_has (map show (filter p rows)) answer (show x) same
@@ -241,7 +241,7 @@ module _ (show : Row → Row) (p : Row → Bool) (rows answer : List Row) (up : 
       ap (λ v. is_eq (value_cmp (rowid x) v)) (number_of x h) ∙ ap is_eq (tied_itself value_cmp_total (rowid x)) in
       true≢false (sym found ∙ lacks (id_in (rowid (show x))) (mapped_has (λ r. id_in (rowid r)) answer (show x) there))
 
-  -- one that does not is not
+  -- that of a row that fails is not
   lacks_it : (x : Row) → Has rows x → p x ≡ false → Lacks (ids_of answer) x
   lacks_it x h miss id k = false_from_ne_true _ (λ has.
       let s = has_mapped (λ row. id_in (rowid row)) answer id k in

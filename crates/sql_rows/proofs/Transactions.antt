@@ -1,4 +1,4 @@
--- What a transaction and its statements leave.
+-- Proves what a transaction and its statements leave.
 use Rattle.std.proofs.Common.{ℕ, ◌≡◌, inl, inr, IsTrue, Result, Ok, Err, OnOk, OnErr, IfErr, refl, sym, ap, ◌∙◌, arith}
 use Rattle.std.proofs.Common.{false, List}
 use Rattle.sqlite_trees.specs.Tree.{Trees}
@@ -30,7 +30,7 @@ survives_still s = record {
 pub clean_before : (a b : State) (P : _) → Survives a b P → HasCleanDisk b → HasCleanDisk a
 clean_before a b P s clean = omega (arith, s.clean)
 
--- what a transaction that ended in a failure leaves
+-- what a transaction that failed leaves
 pub undone : (old begun mid new : State) → begun.committed ≡ old.committed →
     (IsTrue begun.is_open → IsTrue old.is_open) → (IsTrue old.is_open → old.now ≡ old.committed)
     → KeepsCommit begun mid → IsRolledBack mid new → IsTrue new.is_open
@@ -47,7 +47,7 @@ pub err_on : {T E B : Type 0} {P : E → Type 0} (r : Result T E) → ((e : E) �
 err_on (Ok x) f h = tt
 err_on (Err e) f h = f e h
 
--- what a statement inside a transaction leaves of the commit
+-- a statement inside a transaction does not change what is committed
 pub kept_ran : (sql : List ℕ) (params : Row) (old new : State) (r : Result ℕ Error)
     → ExecutesInside 0 sql params old new r → KeepsCommit old new
 kept_ran sql params old new (Ok count) h = record { was_open = λ _. h.1.was_open; committed = λ _. h.1.committed_is }
@@ -58,7 +58,7 @@ kept_ran sql params old new (Err e) (inl (ran, inr back)) =
 kept_ran sql params old new (Err e) (inr (ends, is, same)) =
     record { was_open = λ _. same.0.was_open; committed = λ _. same.0.committed_is }
 
--- a crash leaves what was committed, and nothing else
+-- a crash leaves exactly what was committed
 pub lasts : (old new : State) → Shows old new old.now old.now false →
     ((db : Trees) → IsTrue new.is_open → new.may_leave db → db ≡ new.committed.trees) → (trees : Trees)
     → new.may_leave trees → trees ≡ new.now.trees

@@ -1,4 +1,4 @@
--- A row whose keys are new breaks no key.
+-- Shows that a row with new keys breaks no key.
 use Rattle.std.proofs.Common.{◌≡◌, inl, inr, ℕ, ◌==◌, ℤ, Bool, true, false, not, ◌&&◌, ◌||◌, List, [], ◌∷◌, ◌++◌, refl}
 use Rattle.std.proofs.Common.{sym, ap, ap₂, subst, cond, ◌∙◌, true≢false, arith}
 use Rattle.std.specs.List.{AllByRecursion, list_all}
@@ -58,7 +58,7 @@ module _ (o : Order) (places : List ℕ) (new : Row) where
       ∙ new_clashes n is xs fresh.1
 
 module _ (db : Trees) (tree : ℕ) (new : Row) (n : ℤ) (is : rowid new ≡ Int n) where
-  -- no row has a key of the new one, of those of the table
+  -- no row has any of the new row's keys of this table
   abbrev pub AreNew : List Row → List Index → Type 0
   AreNew rows indexes = AllByRecursion
       (λ i. (i.is_unique && (i.table == tree)) ≡ true → IsNew i.order i.columns new rows) indexes

@@ -1,4 +1,4 @@
--- What UPDATE does to the trees.
+-- Proves what UPDATE does to the trees.
 use Rattle.std.proofs.Common.{length, unwrap_or, ◌≡◌, ◌≢◌, pos, negsuc, true, false, Bool, ◌∷◌, map, filter, drop}
 use Rattle.std.proofs.Common.{if◌then◌else◌, subst₂, ℕ, List, [], slice_get, Some, None, Ok, ap, subst, sym, ◌∙◌}
 use Rattle.std.specs.List.{AllByRecursion, list_all}
@@ -74,7 +74,7 @@ module _ (schema : Schema) (place tree : ℕ) (name : List ℕ) (columns : List 
             (λ (it : Written). length it.rows) (same_value next.2),
       )
 
--- A query that shows the rows of one table that pass, each with its number first.
+-- A query that shows the rows of one table that pass, each with its row number first.
 module _ (tree : ℕ) (stored : (db : Trees) → overlay db [] tree ≡ db tree) (tests shows : List Term)
     (values : Row) where
   abbrev pub one_table : Query
@@ -113,7 +113,7 @@ module _ (tree : ℕ) (stored : (db : Trees) → overlay db [] tree ≡ db tree)
       (ap (map row) kept ∙ map_twice row (λ r. output one_table (env r)) found ∙ ap
       (λ rows. map show (filter passes rows)) (stored db)) (sym a.shown) shuffled
 
--- Each row that passes is replaced by one of its own number.
+-- Each row that passes is replaced by one with its own row number.
 module _ (schema : Schema) (place tree : ℕ) (name : List ℕ) (columns : List Column) (primary : List ℕ)
     (uniques : List (List ℕ)) (orders : List keys.Order)
     (found : slice_get schema.tables place ≡ Some (plain_table tree name columns primary uniques orders))
@@ -128,7 +128,7 @@ module _ (schema : Schema) (place tree : ℕ) (name : List ℕ) (columns : List 
   changed row = if passes tree stored tests shows values row then cast_row table
       (drop 1 (show tree stored tests shows values row)) else row
 
-  -- what an UPDATE by such a query leaves
+  -- what an UPDATE with such a query leaves
   pub record Sets (old new : State) (count : ℕ) : Type 0 where
     pub schema_is : new.now.schema ≡ schema
     pub rows : new.now.trees tree ≡ map changed (old.now.trees tree)

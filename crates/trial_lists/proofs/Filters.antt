@@ -1,4 +1,4 @@
--- Filters of filters.
+-- Provides lemmas about filters of filters.
 use Rattle.std.proofs.Common.{◌≡◌, ℕ, zero, suc, ◌+◌, ◌-◌, ◌<◌, ◌≤◌, ◌==◌, Bool, true, false, cond, ◌&&◌, ◌||◌, not, inl}
 use Rattle.std.proofs.Common.{inr, List, [], ◌∷◌, length, filter, find, map, take, drop, get_or, slice_get, Option}
 use Rattle.std.proofs.Common.{Some, None, refl, sym, ap, ap₂, ◌∙◌, arith}
@@ -41,7 +41,7 @@ any_filtered p [] = refl
 any_filtered p (x ∷ xs) = elim (p x) as (λ v. (v || list_any p xs) ≡ not (length (cond v (x ∷ filter p xs)
     (filter p xs)) == 0)) [ true ↦ positive (length (filter p xs)) | false ↦ any_filtered p xs ]
 
--- a test on what passes another
+-- a test on what passes another test
 any_within : {X : Type 0} (p q : X → Bool) (xs : List X) → list_any q (filter p xs) ≡ list_any (λ x. p x && q x) xs
 any_within p q [] = refl
 any_within p q (x ∷ xs) =
@@ -70,7 +70,7 @@ pub filter_three : {X : Type 0} (p q r : X → Bool) (xs : List X) → filter r 
     (filter p xs)
 filter_three p q r xs = ap (filter r) (filter_both p q xs) ∙ sym (filter_both q r (filter p xs))
 
--- what a supplier sees under a key, where it has the pallet of that key
+-- what a supplier sees under a key, if it has the pallet with that key
 held : {X : Type 0} (key : X → List ℕ) (supplier sscc : List ℕ) (pallets : List PalletRow) (xs : List X) →
     filter (λ x. same (key x) sscc) (filter (λ x. holds supplier pallets (key x)) xs) ≡ cond
     (holds supplier pallets sscc) (filter
@@ -116,7 +116,7 @@ pub receipts_held : (supplier sscc : List ℕ) (pallets : List PalletRow) (rows 
     (filter (λ row. same row.sscc sscc) rows) []
 receipts_held supplier sscc pallets rows = held (λ (row : ReceiptRow). row.sscc) supplier sscc pallets rows
 
--- the last of a list
+-- the last element of a list
 last_from : {X : Type 0} (x : X) (xs : List X) → last_or (Some x) xs ≡ slice_get (x ∷ xs) (length xs)
 last_from x [] = refl
 last_from x (y ∷ ys) = last_from y ys
@@ -131,14 +131,14 @@ first_is_found p [] = refl
 first_is_found p (x ∷ xs) = elim (p x) as (λ v. slice_get (cond v (x ∷ filter p xs) (filter p xs)) 0 ≡ cond v (Some x)
     (find p xs)) [ true ↦ refl | false ↦ first_is_found p xs ]
 
--- one key more
+-- one more key
 pub filter_map_step : {X Y : Type 0} (h : X → Option Y) (xs : List X) (i : ℕ) (x : X) → i < length xs
     → x ≡ get_or xs i x →
     filter_map h (drop i xs) ≡ cons_option (h x) (filter_map h (drop (i + 1) xs))
 filter_map_step h xs i x within is = ap (filter_map h) (drop_more xs i x within)
     ∙ ap (λ y. cons_option (h y) (filter_map h (drop (i + 1) xs))) (sym is)
 
--- Filters and tests, of lists and of their keys.
+-- Filters and tests of lists, and of their keys.
 
 pub filter_of_map : {X K : Type 0} (p : K → Bool) (key : X → K) (xs : List X) → filter p (map key xs) ≡ map key
     (filter (λ x. p (key x)) xs)
@@ -169,7 +169,7 @@ none_first p [] none = refl
 none_first p (x ∷ xs) none = elim (p x) as (λ v. slice_get (cond v (x ∷ filter p xs) (filter p xs)) 0 ≡ None →
     (v || list_any p xs) ≡ false) [ true ↦ λ h. cc | false ↦ λ h. none_first p xs h ] none
 
--- a test that none passes but those that pass another
+-- a test that passes only what passes another
 pub any_among : {X : Type 0} (p q : X → Bool) → ((x : X) → q x ≡ true → p x ≡ true) → (xs : List X) →
     list_any q (filter p xs) ≡ list_any q xs
 any_among p q f [] = refl
@@ -193,7 +193,7 @@ pub filter_true : {X : Type 0} (xs : List X) → filter (λ x. true) xs ≡ xs
 filter_true [] = refl
 filter_true (x ∷ xs) = ap (λ ys. x ∷ ys) (filter_true xs)
 
--- a front is no longer than was asked for
+-- a prefix has at most as many elements as were asked for
 pub take_within : {X : Type 0} (n : ℕ) (xs : List X) → length (take n xs) ≤ n
 take_within zero xs = omega arith
 take_within (suc n) [] = omega arith

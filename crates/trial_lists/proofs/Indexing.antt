@@ -1,4 +1,4 @@
--- An index follows the rows that it lists.
+-- Shows that an index follows the rows that it lists.
 use Rattle.std.proofs.Common.{◌≡◌, ℕ, suc, ◌+◌, Bool, true, false, cond, not, ◌||◌, inl, inr, List, [], ◌∷◌, filter}
 use Rattle.std.proofs.Common.{find, map, slice_get, Some, refl, sym, ap, subst, ◌∙◌, if◌then◌else◌, arith}
 use Rattle.std.specs.List.{AllByRecursion, list_any, remove, filter_map, cons_option}
@@ -18,7 +18,7 @@ use Rattle.trial_lists.proofs.Filters.{filter_of_map, any_none, none_any, any_am
 use Rattle.hub_tables.proofs.Filters.{filter_swap}
 use Rattle.hub_tables.proofs.Setting.{has, below, rises_put, all_above, after_equal, none_above}
 
--- Rows that rise.
+-- Rising rows.
 
 module _ {X : Type 0} (cmp : X → X → Ordering) where
   pub rises_in_order : (xs : List X) → Rises cmp xs → InOrder cmp xs
@@ -61,7 +61,7 @@ module _ {X : Type 0} {cmp : X → X → Ordering} (total : IsTotalOrder cmp) (r
   not_replaced (x ∷ xs) all =
       ap (λ v. cond v r x ∷ replace at r xs) (ap is_eq all.0) ∙ ap (λ ys. x ∷ ys) (not_replaced xs all.1)
 
-  -- a row that is set is taken out and put anew
+  -- replacing a row is removing it and inserting the new one
   pub replace_is_put : (xs : List X) → Rises cmp xs → has total r xs ≡ true → replace at r xs ≡ put cmp r (but xs)
   replace_is_put [] rises there = cc
   replace_is_put (x ∷ xs) rises there =
@@ -223,7 +223,7 @@ module _ {X K : Type 0} {cmp : X → X → Ordering} {kcmp : K → K → Orderin
         | false ↦ λ e. unlisted_put r index rows is rises e
       ] refl
 
-  -- A row that is set.
+  -- A row that is replaced.
 
   taken_out : (k : K) (test : X → Bool) (index : List K) (rows : List X) → Is index rows →
       AllByRecursion (λ x. is_eq (kcmp (key x) k) ≡ test x) rows →
@@ -286,7 +286,7 @@ module _ {X K : Type 0} {cmp : X → X → Ordering} {kcmp : K → K → Orderin
     set_kept = subst (Is (with_key r (but ktotal (key old) index))) anew (put_kept r (but ktotal (key old) index)
         (but total r rows) out_of_both rest_rises (none_left total r rows))
 
--- Rows that are found again by their keys.
+-- Rows that are found by their keys.
 
 module _ {X K : Type 0} {cmp : X → X → Ordering} (total : IsTotalOrder cmp) (key : X → K) (wanted : K → X → Bool)
     (exact : (x y : X) →

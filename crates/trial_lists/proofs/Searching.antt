@@ -1,4 +1,4 @@
--- The rows at a place stand together.
+-- Shows that the rows at a place come one after another.
 use Rattle.std.proofs.Common.{◌≡◌, ℕ, zero, suc, ◌+◌, ◌-◌, ◌≤◌, ◌<◌, Bool, true, false, cond, List, [], ◌∷◌, length}
 use Rattle.std.proofs.Common.{take, drop, get_or, filter, refl, sym, ap, ◌∙◌, arith}
 use Rattle.std.specs.List.{AllByRecursion, prefix_len}
@@ -14,7 +14,7 @@ use Rattle.hub_tables.proofs.Lists.{all_weaker, filter_none}
 use Rattle.trial_lists.proofs.Filters.{all_taken}
 use Rattle.trial_lists.specs.Search.{may_precede, KeepsPlaces, Parted}
 
--- a partition point is the length of what passes
+-- a partition point is the number of elements that pass
 pub from_point : {X : Type 0} (p : X → Bool) (xs : List X) (n : ℕ) → n ≤ length xs →
     IsPartitionPoint (λ x. p x ≡ true) (λ x. p x ≡ false) xs n → n ≡ prefix_len p xs
 from_point p [] n bound point = omega arith
@@ -106,7 +106,7 @@ module _ {X : Type 0} (place : X → Ordering) where
             ∙ sym (ap (λ n. take n (x ∷ xs)) (ap (λ o. cond (is_le o) (1 + within xs) 0) e))
       ] refl h.0
 
--- Fronts and rests.
+-- Prefixes and rests.
 
 pub rises_drop : {X : Type 0} (cmp : X → X → Ordering) (n : ℕ) (xs : List X) → Rises cmp xs → Rises cmp (drop n xs)
 rises_drop cmp zero xs rises = rises
@@ -118,7 +118,7 @@ rises_take cmp zero xs rises = tt
 rises_take cmp (suc n) [] rises = tt
 rises_take cmp (suc n) (x ∷ xs) rises = (all_taken (λ y. cmp x y ≡ Less) n xs rises.0, rises_take cmp n xs rises.1)
 
--- where a front ends before its end, so does the whole
+-- if what passes ends within a prefix, it ends there in the whole list too
 pub front_within : {X : Type 0} (p : X → Bool) (n : ℕ) (xs : List X) → prefix_len p (take n xs) < n →
     prefix_len p (take n xs) ≡ prefix_len p xs
 front_within p zero xs h = absurd (omega (arith, h))

@@ -24,7 +24,6 @@ use std::marker::Model;
 /// A look-up takes a binary search and a copy of its result; `lines_at` searches for each number, and `all_pallets` and
 /// `mail_after` search in an index, and then for each row of their result. A commit moves the rows and keys that come
 /// after a new one.
-/// stand behind a new one.
 #[derive(Debug, Drop)]
 pub struct VecStore {
     alloc: Global,

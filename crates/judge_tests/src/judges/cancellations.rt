@@ -2,7 +2,7 @@ use super::*;
 use hub_judges::judge_cancel;
 use hub_rules::Cancel;
 
-// A cancellation of so much of a line of an order, what is known of its supplier, and what comes of it.
+// A cancellation of a quantity of an order line, what is known of its supplier, and the verdict.
 #[derive(Drop)]
 struct CancelCase {
     name: &'static str,
@@ -14,7 +14,7 @@ struct CancelCase {
     want: &'static str,
 }
 
-// A part of what is open of line 1 of order 128576.
+// Cancels a part of what is open of line 1 of order 128576.
 const PART: CancelCase = CancelCase {
     name: "a part of what is open is cancelled",
     order: "128576",
@@ -91,13 +91,13 @@ fn cancel(alloc: Global, case: &CancelCase) -> Result<Cancel, Fail> {
     })
 }
 
-// What is known where 24 pieces of the line are open.
+// Makes what is known if 24 pieces of the line are open.
 fn known_of(alloc: Global, case: &CancelCase) -> Result<Known, Fail> {
     let line = ("128576", 1, [48, 24, 12, 0], Answered::Changed);
     known(alloc, [BEFORE, line, BEHIND], case.remembered)
 }
 
-// Judges alone, so that what the contract says burdens no other goal.
+// A function of its own, to keep the contract of the call out of other proofs.
 fn judged(
     alloc: Global,
     supplier: Option<&SupplierRow>,

@@ -2,9 +2,9 @@ use super::*;
 use edi_goods::{Despatch, Unit};
 use hub_judges::judge_despatch;
 
-// A despatch advice of some units, their lines of an order where they name none; whether the last unit is given the first one's
-// SSCC by hand, as in no advice that is read; which of the SSCC are used, and what else is known of the supplier; and what comes
-// of it.
+// A despatch advice of some units, whose lines belong to an order if they name none; whether the last unit gets the
+// SSCC of the first by hand, which no advice that was read has; which SSCCs are used; what else is known of the
+// supplier; and the verdict.
 #[derive(Drop)]
 struct DespatchCase {
     name: &'static str,
@@ -17,14 +17,14 @@ struct DespatchCase {
     want: &'static str,
 }
 
-// Alpha's unit of two lines, of 20 and of 4 pieces, or of one piece more.
+// Alpha's unit of two lines, of 20 and of 4 pieces, and one with one piece more.
 const ALL_OPEN: &str =
     "CPS+1'GIN+BJ+340123455000000012'LIN+1++4000862141404:SRV'QTY+12:20'LIN+2++4000862141404:SRV'QTY+12:4'";
 
 const ONE_MORE: &str =
     "CPS+1'GIN+BJ+340123455000000012'LIN+1++4000862141404:SRV'QTY+12:20'LIN+2++4000862141404:SRV'QTY+12:5'";
 
-// A unit like it under beta's prefix.
+// A unit like the second, under beta's prefix.
 const BETAS: &str =
     "CPS+1'GIN+BJ+387123450000000012'LIN+1++4000862141404:SRV'QTY+12:20'LIN+2++4000862141404:SRV'QTY+12:5'";
 
@@ -47,7 +47,7 @@ const THREE: &str =
     "CPS+1'GIN+BJ+340123455000000012'LIN+1++4000862141404:SRV'QTY+12:10'CPS+2'GIN+BJ+340123455000000029'\
         LIN+1++4000862141404:SRV'QTY+12:9'CPS+3'GIN+BJ+340123455000000036'LIN+1++4000862141404:SRV'QTY+12:4'";
 
-// A new advice of all that is open of order 128576.
+// A new advice for all that is open of order 128576.
 const ALL: DespatchCase = DespatchCase {
     name: "two lines take all that is open",
     order: "128576",
@@ -181,7 +181,7 @@ fn read_despatch(alloc: Global, message: &RawMessage) -> Result<Despatch, Fail> 
     Ok(Despatch::read(alloc, message)?)
 }
 
-// The units, the last of which has the first one's SSCC.
+// Gives the last of the units the SSCC of the first.
 fn with_last_as_first(units: Items<Unit>) -> Result<Items<Unit>, Fail> {
     let mut units = units.into_vec();
     let sscc = units.first().ok_or("a first unit")?.sscc;
@@ -215,7 +215,7 @@ fn used_of(alloc: Global, case: &DespatchCase) -> Result<Items<bool>, MemoryFaul
     Ok(Items::from_vec(Vec::from_slice(alloc, case.used)?))
 }
 
-// What is known: of the line 24 pieces are open.
+// Makes what is known: 24 pieces of the line are open.
 fn known_of(alloc: Global, case: &DespatchCase) -> Result<Known, Fail> {
     let line = ("128576", 1, [48, 24, 24, 0], Answered::Changed);
     let used = used_of(alloc, case)?;
@@ -225,7 +225,7 @@ fn known_of(alloc: Global, case: &DespatchCase) -> Result<Known, Fail> {
     Ok(known)
 }
 
-// Judges alone, so that what the contract says burdens no other goal.
+// A function of its own, to keep the contract of the call out of other proofs.
 fn judged(
     alloc: Global,
     setting: Setting,

@@ -2,7 +2,7 @@ use super::*;
 use edi_orders::{Order, OrderLine};
 use hub_judges::judge_order;
 
-// An order that comes, what is known of its supplier, and what comes of it.
+// An order that arrives, what is known of its supplier, and the verdict.
 #[derive(Drop)]
 struct OrderCase {
     name: &'static str,
@@ -15,7 +15,7 @@ struct OrderCase {
     want: &'static str,
 }
 
-// What is told of an order that is taken, with the number of its mailbox entry.
+// The verdict on an order that is accepted, with the number of its mailbox entry.
 macro_rules! taken {
     ($number:literal) => {
         concat!(
@@ -28,7 +28,7 @@ macro_rules! taken {
     };
 }
 
-// A new order of alpha where nothing is known.
+// A new order of alpha, when nothing is known.
 const NEW: OrderCase = OrderCase {
     name: "a new order is remembered, mailed and open",
     buyer: RETAILER,
@@ -121,7 +121,7 @@ fn lines_of_two(alloc: Global) -> Result<Items<OrderLine>, Fail> {
     Ok(lines)
 }
 
-// Order 128576 of two lines, of these parties.
+// Makes order 128576, of two lines, for these parties.
 fn order(alloc: Global, buyer: &str, supplier: &str) -> Result<Order, Fail> {
     let (buyer, supplier) = (gln(buyer)?, gln(supplier)?);
     Ok(Order {
@@ -132,7 +132,7 @@ fn order(alloc: Global, buyer: &str, supplier: &str) -> Result<Order, Fail> {
     })
 }
 
-// Judges alone, so that what the contract says burdens no other goal.
+// A function of its own, to keep the contract of the call out of other proofs.
 fn judged(
     alloc: Global,
     setting: Setting,

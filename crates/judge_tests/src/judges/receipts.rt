@@ -8,13 +8,13 @@ use gs1_ids::Sscc;
 use hub_judges::{judge_receipt, judges_are_given_what_they_ask};
 use hub_tables::{Arrival, Column, PalletRow};
 
-// A receiving advice of two units; whether the second is given the first one's SSCC by hand, as in no advice that is read; how
-// far their pallets have come, where they are there, and what else is known of the supplier; and what comes of it.
+// A receiving advice of two units; whether the second gets the SSCC of the first by hand, which no advice that was read
+// has; the states of their pallets, if they exist; what else is known of the supplier; and the verdict.
 #[derive(Drop)]
 struct ReceiptCase {
     name: &'static str,
     parties: &'static str,
-    // BGM 1225: 9 an original, 5 one that replaces.
+    // BGM 1225: 9 is an original, 5 replaces.
     function: &'static str,
     is_one_pallet: bool,
     is_registered: bool,
@@ -24,7 +24,8 @@ struct ReceiptCase {
     want: &'static str,
 }
 
-// What of two items is received on the first pallet, a line of the one between two of the other; and something on the second.
+// What is received of two items on the first pallet, with a line of one item between two of the other; and one line on
+// the second.
 const UNITS: &str =
     "CPS+1'GIN+BJ+340123455000000012'LIN+1++4000862141404:SRV'QTY+194:7'QTY+195:1'LIN+2++4000862141411:SRV'\
         QTY+194:3'LIN+3++4000862141404:SRV'QTY+194:3'QTY+196:2'CPS+2'GIN+BJ+340123455000000029'\
@@ -34,7 +35,7 @@ const THERE: Option<Arrival> = Some(Arrival::Announced);
 
 const RECEIVED: Option<Arrival> = Some(Arrival::Received);
 
-// The retailer's new advice to alpha of two pallets that are there.
+// The retailer's new advice to alpha for two pallets that exist.
 const BOTH: ReceiptCase = ReceiptCase {
     name: "an advice receives each pallet with the sums of its items",
     parties: "NAD+BY+5412345000013::9'NAD+SU+4012345500004::9'",
@@ -56,7 +57,7 @@ receipt 340123455000000029 04000862141404 0 12 0",
 
 const REPLACED: Option<Arrival> = Some(Arrival::Replaced);
 
-// The same advice in the place of those before: what was received of each pallet goes before its new sums.
+// The same advice, but replacing earlier ones: the receipts of each pallet are deleted before the new totals.
 const REPLACING: ReceiptCase = ReceiptCase {
     name: "an advice that replaces clears each pallet, received or not",
     function: "5",
@@ -225,7 +226,7 @@ fn take_last(units: &mut Vec<ReceiptUnit>) -> Result<ReceiptUnit, Fail>
     }
 }
 
-// The last two units, the second of which has the first one's SSCC.
+// Returns the last two units, with the SSCC of the first of them for both.
 fn of_one_pallet(alloc: Global, units: Items<ReceiptUnit>) -> Result<Items<ReceiptUnit>, Fail>
     requires { AllByRecursion (λ unit. RowsHold unit.lines) units }
     ensures { IfOk result (AllByRecursion (λ unit. RowsHold unit.lines)) }
@@ -262,7 +263,7 @@ fn with_units_of_one_pallet(alloc: Global, receipt: Receipt) -> Result<Receipt, 
     })
 }
 
-// The receiving advice of both units, with the function and the parties of the case.
+// Makes the receiving advice of both units, with the function and the parties of the case.
 fn receipt(alloc: Global, case: &ReceiptCase) -> Result<Receipt, Fail>
     ensures { IfOk result (λ receipt. AllByRecursion (λ unit. RowsHold unit.lines) receipt.units) }
 {
@@ -285,7 +286,7 @@ fn pallet_there(alloc: Global, sscc: &[u8], arrival: Arrival) -> Result<PalletRo
     })
 }
 
-// Alpha's pallet of this SSCC, announced by advice DA1, where it is there.
+// Makes alpha's pallet with this SSCC, announced by advice DA1, if it exists.
 fn pallet(alloc: Global, sscc: &[u8], arrival: Option<Arrival>) -> Result<Option<PalletRow>, Fail> {
     match arrival {
         Some(arrival) => Ok(Some(pallet_there(alloc, sscc, arrival)?)),
@@ -305,7 +306,7 @@ fn push_pallets(
     Ok(())
 }
 
-// The pallets of both units.
+// Makes the pallets of both units.
 fn pallets(alloc: Global, case: &ReceiptCase) -> Result<Items<Option<PalletRow>>, Fail> {
     let mut pallets = Items::new(alloc);
     let second_sscc = if case.is_one_pallet {
@@ -317,7 +318,7 @@ fn pallets(alloc: Global, case: &ReceiptCase) -> Result<Items<Option<PalletRow>>
     Ok(pallets)
 }
 
-// Judges alone, so that what the contract says burdens no other goal.
+// A function of its own, to keep the contract of the call out of other proofs.
 fn judged(
     alloc: Global,
     setting: Setting,

@@ -2,7 +2,7 @@ use super::*;
 use edi_orders::{Answer, AnswerLine, LineAnswer, Response};
 use hub_judges::judge_response;
 
-// An answer to an order where these lines are known, and what comes of it.
+// An answer to an order when these lines are known, and the verdict.
 #[derive(Drop)]
 struct ResponseCase {
     name: &'static str,
@@ -20,10 +20,11 @@ enum Said {
     Lines(&'static [SaidLine]),
 }
 
-// Line 1 where it is answered, and a second line of the same order and item.
+// Line 1 after an answer.
 const ANSWERED: Line = ("128576", 1, [48, 36, 0, 0], Answered::Accepted);
 
-// The same line where nothing is despatched, where some is refused and cancelled, and with a smaller quantity.
+// Line 1 if nothing is despatched, if some of it is refused and cancelled, and with a smaller quantity; then a second
+// line of the same order and item.
 const UNTOUCHED: Line = ("128576", 1, [48, 48, 0, 0], Answered::Waiting);
 
 const BEGUN: Line = ("128576", 1, [48, 30, 4, 2], Answered::Waiting);
@@ -32,7 +33,7 @@ const SMALLER: Line = ("128576", 1, [30, 18, 0, 0], Answered::Waiting);
 
 const SECOND: Line = ("128576", 2, [48, 36, 0, 0], Answered::Waiting);
 
-// What is told of an answer that is taken: it is remembered, and these lines of alpha's are set.
+// The verdict on an answer that is accepted: it is remembered, and these lines of alpha's are set.
 macro_rules! taken {
     ($($line:literal),*) => {
         concat!("accepted\nremember 4012345500004 Supplier 1001/7 said" $(, "\nset 4012345500004 ", $line)*)
@@ -229,7 +230,7 @@ fn response(alloc: Global, case: &ResponseCase) -> Result<Response, Fail> {
     })
 }
 
-// Judges alone, so that what the contract says burdens no other goal.
+// A function of its own, to keep the contract of the call out of other proofs.
 fn judged(
     alloc: Global,
     setting: Setting,
@@ -252,7 +253,7 @@ fn verdict(alloc: Global, case: &ResponseCase) -> Result<Verdict, Fail> {
     judged(alloc, setting, &known, &response)
 }
 
-// The table, so that its rows do not stand in the proof of the test.
+// Returns the table, to keep its rows out of the proof of the test.
 fn cases() -> &'static [ResponseCase] {
     &CASES
 }

@@ -1,4 +1,4 @@
-//! What is told of a verdict and its changes, one to a line.
+//! Writes a verdict and its changes as text, one to a line.
 
 use edi_base::Items;
 use gs1_ids::Gln;
@@ -8,12 +8,12 @@ use std::alloc::{AllocError, Global};
 use std::fmt::Write;
 use std::test::Fail;
 
-// Bytes as text. Where they are no text, what is told is nothing that is wanted.
+// Returns bytes as text. Bytes that are not text give something that no test wants.
 fn text(bytes: &Items<u8>) -> &str {
     str::from_utf8(bytes.as_slice()).unwrap_or("no text")
 }
 
-// How much of a line is ordered, open, refused and cancelled, and its answer.
+// Writes the ordered, open, refused and cancelled quantities of a line, and its answer.
 fn tell_quantities(out: &mut String, row: &LineRow) -> Result<(), AllocError> {
     let quantities = [row.ordered, row.open_qty, row.refused, row.cancelled];
     let [ordered, open, refused, cancelled] = quantities;
@@ -21,7 +21,7 @@ fn tell_quantities(out: &mut String, row: &LineRow) -> Result<(), AllocError> {
     write!(out, " {ordered} {open} {refused} {cancelled} {answer:?}")
 }
 
-// A line: its key, its item and its quantities.
+// Writes a line: its key, its item and its quantities.
 fn tell_line(out: &mut String, change: &str, row: &LineRow) -> Result<(), AllocError> {
     let (supplier, line, item) = (&row.supplier, row.line, &row.gtin);
     let number = text(&row.number);
@@ -45,7 +45,7 @@ fn tell_document_of(out: &mut String, row: &MailRow) -> Result<(), AllocError> {
     write!(out, " {kind:?} {document} {body} {taken}")
 }
 
-// A mailbox entry: whose it is, its number, moment and decimal mark, and its document.
+// Writes a mailbox entry: its supplier, its number, its moment and decimal mark, and its document.
 fn tell_mail(out: &mut String, row: &MailRow) -> Result<(), AllocError> {
     let (supplier, number) = (&row.supplier, row.number);
     let (seconds, decimal) = (row.moment.seconds(), row.decimal);
@@ -74,7 +74,7 @@ fn tell_content(out: &mut String, row: &ContentRow) -> Result<(), AllocError> {
     write!(out, "content {sscc} {place} {number} {line} {quantity}")
 }
 
-// An order or a despatch advice: its supplier and its number.
+// Writes an order or a despatch advice: its supplier and its number.
 fn tell_document(
     out: &mut String,
     change: &str,
@@ -98,7 +98,7 @@ fn tell_change(out: &mut String, change: &Change) -> Result<(), AllocError> {
         Change::AddReceipt(row) => tell_receipt(out, row),
         Change::ClearReceipts(sscc) => write!(out, "clear {sscc}"),
         Change::AddContent(row) => tell_content(out, row),
-        // No message and no cancellation sets a mail, adds a party or changes a key, so that none is wanted.
+        // No message and no cancellation sets a mail, adds a party or changes a key, so no test wants these.
         Change::SetMail(_) => out.push_str("set mail"),
         Change::AddHub(_)
         | Change::SetHub(_)
@@ -117,7 +117,7 @@ fn tell_changes(out: &mut String, changes: &[Change]) -> Result<(), AllocError> 
     Ok(())
 }
 
-// The code of a refusal; or `accepted`, and each change on a line of its own.
+// Writes the code of a refusal; or `accepted`, and each change on its own line.
 fn tell(out: &mut String, verdict: &Verdict) -> Result<(), AllocError> {
     match verdict {
         Verdict::Accept(changes) => tell_changes(out, changes.as_slice()),
@@ -125,7 +125,7 @@ fn tell(out: &mut String, verdict: &Verdict) -> Result<(), AllocError> {
     }
 }
 
-/// Whether this is told of a verdict, which is handed on as a result, so that no caller ends with it.
+/// Whether a verdict is written like this. It is passed as a result, so that the callers need no exit of their own.
 pub(super) fn is_told(
     alloc: Global,
     verdict: Result<Verdict, Fail>,

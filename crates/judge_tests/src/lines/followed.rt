@@ -1,4 +1,4 @@
-//! Orders that are kept, as the tables change.
+//! Tests orders that are kept while the tables change.
 
 use super::*;
 use crate::rising::{ALPHA, gln};
@@ -7,7 +7,7 @@ use hub_tables::{AdviceRow, Change, OrderRow};
 
 const BETA: &str = "8712345000004";
 
-// A change that orders follow: what is set of a line, of whom and of what item; and others.
+// A change that kept orders must follow: a line that is set, with its supplier and its item; or another one.
 #[derive(Drop)]
 enum Made {
     Set(&'static str, &'static str, Line),
@@ -16,7 +16,7 @@ enum Made {
     AddAdvice,
 }
 
-// Changes; and how line 2 of order 128576 is then, if it is still kept.
+// Changes, and the state of line 2 of order 128576 afterwards, if it is still kept.
 #[derive(Drop)]
 struct FollowCase {
     name: &'static str,
@@ -155,7 +155,7 @@ fn changes(alloc: Global, made: &[Made]) -> Result<Items<Change>, Fail> {
     Ok(changes)
 }
 
-// How many orders are kept of those that were.
+// Returns how many of the orders are still kept.
 fn count_kept(orders: &KnownOrders) -> usize {
     let kept = [b"128574", b"128575", b"128576"];
     kept.iter()
@@ -163,7 +163,7 @@ fn count_kept(orders: &KnownOrders) -> usize {
         .count()
 }
 
-// Whether the line is kept so and with it all orders, or nothing is.
+// Whether the line is kept in this state, together with all orders, or nothing is kept.
 fn is_kept_so(orders: &KnownOrders, want: &Option<State>) -> bool {
     let line = orders.line_numbered(b"128576", 2);
     match want {
@@ -193,7 +193,7 @@ fn orders_follow_changes(rt: HostRuntime) -> Result<(), Fail> {
     Ok(())
 }
 
-// Four lines are kept.
+// The orders that are kept have four lines.
 #[test]
 fn orders_are_forgotten_past_so_many_lines(rt: HostRuntime) -> Result<(), Fail> {
     let mut orders = two_orders(rt.alloc())?;
@@ -204,7 +204,7 @@ fn orders_are_forgotten_past_so_many_lines(rt: HostRuntime) -> Result<(), Fail> 
     Ok(())
 }
 
-// What was forgotten is not counted.
+// Forgotten lines no longer count.
 #[test]
 fn orders_are_kept_anew(rt: HostRuntime) -> Result<(), Fail> {
     let mut orders = two_orders(rt.alloc())?;

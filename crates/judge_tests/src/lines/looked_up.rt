@@ -1,4 +1,4 @@
-//! Orders that are looked up, and their lines as they are found.
+//! Tests orders that are looked up, and how their lines are found.
 
 use super::*;
 use hub_order_lines::Book;
@@ -24,7 +24,7 @@ static PLACES: [Place; 15] = [
     ((b"128574", None, ITEM), None),
 ];
 
-// Whether the orders and a book of them find the line that is named.
+// Whether the orders, and a book of them, find the line that is named.
 fn is_found(alloc: Global, orders: &KnownOrders, place: &Place) -> Result<bool, Fail> {
     let ((order, number, item), want) = place;
     let (order, item) = (order.as_slice(), gtin(item)?);
@@ -76,7 +76,7 @@ fn lines_are_found_by_number_alone(rt: HostRuntime) -> Result<(), Fail> {
     Ok(())
 }
 
-// An order, whether it was looked up and whether it is there, and how many lines it has.
+// An order, whether it was looked up, whether it exists, and how many lines it has.
 type Known = (&'static [u8; 6], bool, bool, usize);
 
 static KNOWN: [Known; 4] = [
@@ -86,7 +86,7 @@ static KNOWN: [Known; 4] = [
     (b"128577", false, false, 0),
 ];
 
-// Whether an order is known so.
+// Whether this is known of an order.
 fn is_known(alloc: Global, orders: &KnownOrders, known: &Known) -> bool {
     let (order, is_kept, is_there, count) = known;
     let order = order.as_slice();
@@ -104,7 +104,8 @@ fn orders_are_known(rt: HostRuntime) -> Result<(), Fail> {
     Ok(())
 }
 
-// Lines that do not rise by order number and line number, or of which more is open, refused and cancelled than is ordered.
+// Lines that do not rise by order number and line number, or whose open, refused and cancelled quantities exceed the
+// ordered one.
 static UNCLEAN: [(&str, &[Line]); 6] = [
     (
         "lines fall",
@@ -129,7 +130,7 @@ static UNCLEAN: [(&str, &[Line]); 6] = [
     ),
 ];
 
-// Whether rows are refused and nothing is put, where an order was not kept and where it was.
+// Whether rows are refused and nothing is added, both for an order that was not kept and for one that was.
 fn is_refused(alloc: Global, lines: &[Line]) -> Result<bool, Fail> {
     let mut none = KnownOrders::new(alloc);
     let mut two = two_orders(alloc)?;
@@ -148,7 +149,7 @@ fn unclean_rows_are_not_put(rt: HostRuntime) -> Result<(), Fail> {
     Ok(())
 }
 
-// A line of which nothing is despatched passes.
+// A line of which nothing is despatched is accepted.
 const ALL: Line = ("128575", 1, [48, 30, 4, 14], Answered::Changed);
 
 fn put_again(alloc: Global) -> Result<KnownOrders, Fail> {

@@ -1,11 +1,11 @@
-//! Lines that a message sets in its book.
+//! Tests lines that a message sets in its book.
 ghost use Rattle.std.specs.Prelude.{◌≡◌, ◌+◌, ◌≤◌, IfOk};
 ghost use Rattle.std.specs.Option.{IfSome};
 
 use super::*;
 use hub_order_lines::{Book, copied_row};
 
-// What is set of a line: how much is open, refused and cancelled, and its answer.
+// What is set of a line: the open, refused and cancelled quantities, and the answer.
 type Quantities = ([u32; 3], Answered);
 
 fn sum_of(first: u32, second: u32, third: u32) -> Option<u32>
@@ -14,7 +14,7 @@ fn sum_of(first: u32, second: u32, third: u32) -> Option<u32>
     first.checked_add(second)?.checked_add(third)
 }
 
-// The row of a line with these quantities, which have to be no more than is ordered.
+// Makes the row of a line with these quantities, which together may not exceed the ordered one.
 fn row_with(alloc: Global, line: &LineFacts, to: &Quantities) -> Result<LineRow, Fail>
     ensures { IfOk result (λ row. row.open_qty + row.refused + row.cancelled ≤ line.now.row.ordered) }
 {
@@ -48,7 +48,7 @@ fn set_line(
     Ok(())
 }
 
-// What is set, one after another; and how each line is then.
+// What is set, one after another, and the state of each line afterwards.
 #[derive(Drop)]
 struct SetCase {
     name: &'static str,
@@ -56,7 +56,7 @@ struct SetCase {
     want: [State; 4],
 }
 
-// The lines that are asked of: by number and, where it is the only one of its item, by item.
+// The lines that are tested: named by number, or by item if the order has only one line of it.
 static ASKED: [Named; 4] = [
     (b"128575", None, ITEM),
     (b"128576", Some(1), ITEM),
@@ -64,7 +64,7 @@ static ASKED: [Named; 4] = [
     (b"128576", None, OTHER_ITEM),
 ];
 
-// How they are before.
+// Their states before.
 const ONLY_BEFORE: State = ([48, 30, 4, 2, 12], Answered::Changed);
 
 const FIRST_BEFORE: State = ([48, 30, 4, 2, 12], Answered::Changed);

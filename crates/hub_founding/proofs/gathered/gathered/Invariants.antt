@@ -5,7 +5,7 @@ use Rattle.hub_founding.specs.Gathered.{gathered, all_had}
 use Rattle.hub_founding.proofs.Gathering.{and_rest}
 use Rattle.hub_founding.proofs.gathered.gathered.Given as goal
 
--- each prefix passed has a supplier and stands with it, and the others wait
+-- each prefix so far has a supplier and is in its list; the others are still to come
 abbrev pub invariant-loop-row : goal.invariant-loop-row
 invariant-loop-row l = record {
   length : length l.lists.items ≡ length l.keys;

@@ -2,7 +2,7 @@ use Rattle.std.proofs.Common.{◌≡◌, ◌++◌, map, drop}
 use Rattle.hub_founding.specs.Gathered.{rows_with, all_company_prefixes}
 use Rattle.hub_founding.proofs.register.rows_with.Given as goal
 
--- the rows made so far stand before those of the keys that are left
+-- the rows so far come before those of the keys that are left
 abbrev pub invariant-loop-place : goal.invariant-loop-place
 invariant-loop-place l = record {
   made : rows_with l.keys (map (λ list. list.items) l.lists)

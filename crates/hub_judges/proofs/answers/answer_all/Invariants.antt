@@ -5,7 +5,7 @@ use Rattle.hub_order_lines.specs.Book.{facts_of, IsCovered}
 use Rattle.hub_judges.specs.FromFacts.{after_answer, waiting}
 use Rattle.hub_judges.proofs.answers.answer_all.Given as goal
 
--- the changes so far, and those of the lines that are left
+-- the changes so far, then those of the remaining lines
 abbrev pub invariant-loop-line : goal.invariant-loop-line
 invariant-loop-line l = record {
   changes :

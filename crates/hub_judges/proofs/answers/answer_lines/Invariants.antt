@@ -3,7 +3,7 @@ use Rattle.hub_rules.specs.Judging.{joined}
 use Rattle.hub_judges.specs.FromFacts.{answers_from}
 use Rattle.hub_judges.proofs.answers.answer_lines.Given as goal
 
--- the answers that are left, on what the earlier ones left
+-- the remaining answers, on what the earlier ones left
 abbrev pub invariant-loop-answer : goal.invariant-loop-answer
 invariant-loop-answer l =
     joined l.initial.changes (answers_from l.order l.said l.initial.book)

@@ -14,13 +14,13 @@ use Rattle.hub_judges.proofs.Despatched.{unit_next, units_end}
 use Rattle.hub_judges.proofs.despatch.judge_units.Goals as goal
 use Rattle.hub_judges.proofs.despatch.judge_units.Goals.{In_ok-code, then-is_used, else-is_used}
 
--- the units that are left after this one
+-- the units after this one
 abbrev after : (c : In_ok-code) → Orders → Verdict
 after c left =
     units_from c.args.row.now c.args.despatch.now.number (λ sscc. is_among sscc c.has_come.new.seen)
     (iter_rest (zip_first c.next.new.self)) (iter_rest (zip_second c.next.new.self)) left
 
--- this one passes B11 and B12, and its lines follow
+-- this unit passes B11 and B12, then its lines follow
 passed : (c : In_ok-code)
     → joined c.args.changes (units_from c.args.row.now c.args.despatch.now.number no_sscc
     c.args.despatch.now.units c.args.used.now c.args.book)

@@ -6,7 +6,7 @@ use Rattle.hub_rules.specs.Judging.{joined}
 use Rattle.hub_judges.specs.FromFacts.{no_sscc, units_from}
 use Rattle.hub_judges.proofs.despatch.judge_units.Given as goal
 
--- the units that are left, on what the earlier ones left
+-- the remaining units, on what the earlier ones left
 abbrev pub invariant-loop-unit : goal.invariant-loop-unit
 invariant-loop-unit l =
     joined l.initial.changes (units_from l.row l.despatch.number no_sscc l.despatch.units l.used l.initial.book)

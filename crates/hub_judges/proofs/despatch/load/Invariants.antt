@@ -5,7 +5,7 @@ use Rattle.hub_rules.specs.declared.verdict.Verdict.{Verdict}
 use Rattle.hub_judges.specs.FromFacts.{lines_from}
 use Rattle.hub_judges.proofs.despatch.load.Given as goal
 
--- the lines that are left, on what the earlier ones left
+-- the remaining lines, on what the earlier ones left
 abbrev pub invariant-loop-index : goal.invariant-loop-index
 invariant-loop-index l =
     (next : Orders → Verdict) →

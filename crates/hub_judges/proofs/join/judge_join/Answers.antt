@@ -7,7 +7,7 @@ use Rattle.hub_rules.specs.declared.verdict.Verdict.TheVariants.{Accept, Refuse}
 use Rattle.hub_tables.specs.Register.{row_changes}
 use Rattle.hub_judges.proofs.join.judge_join.Goals as goal
 
--- the checks, one under another
+-- the checks in their order
 abbrev checks : Bool → Bool → Bool → Verdict → Verdict
 checks known overlaps full rest = refuse_if known GlnKnown (refuse_if overlaps PrefixOverlaps (refuse_if full RegisterFull rest))
 

@@ -8,7 +8,7 @@ use Rattle.hub_judges.specs.declared.totals.Total.{Total}
 use Rattle.hub_judges.proofs.Once.{left}
 use Rattle.hub_judges.proofs.receipt.add_receipts.Given as goal
 
--- the receipts are those so far and those of the articles that are left in the rest, each with its total
+-- the receipts so far, then those of the articles that still occur in the rest, each with its total
 abbrev pub invariant-loop-line : goal.invariant-loop-line
 invariant-loop-line l = record {
   receipts : l.initial.changes ++ map (new_receipt l.unit.sscc l.unit.lines) (gtins l.unit.lines)

@@ -8,7 +8,7 @@ use Rattle.hub_judges.specs.FromFacts.{no_sscc, receipts_from}
 use Rattle.hub_judges.specs.Totals.{RowsHold}
 use Rattle.hub_judges.proofs.receipt.judge_units.Given as goal
 
--- the changes are those so far and those of the units that are left, whose rows hold
+-- the changes so far, then those of the remaining units, whose totals fit a row
 abbrev pub invariant-loop-unit : goal.invariant-loop-unit
 invariant-loop-unit l = record {
   changes : joined l.initial.changes (receipts_from l.replaces no_sscc l.units l.pallets)

@@ -5,7 +5,7 @@ use Rattle.std.specs.Ordering.{nat_cmp}
 use Rattle.hub_judges.specs.Totals.{total_from}
 use Rattle.hub_judges.proofs.totals.totals_of.Given as goal
 
--- the total of an article is that of the rest after the one so far
+-- the total of an article is that of the remaining lines, added to the one so far
 abbrev pub invariant-loop-line : goal.invariant-loop-line
 invariant-loop-line l =
     (article : List ℕ)

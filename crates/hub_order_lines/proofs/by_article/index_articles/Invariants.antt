@@ -4,7 +4,7 @@ use Rattle.hub_order_lines.specs.ArticleIndex.{OrderArticle, article_cmp, has_ar
 use Rattle.hub_order_lines.specs.Key.{keys_of}
 use Rattle.hub_order_lines.proofs.by_article.index_articles.Given as goal
 
--- the lines of each article are those so far and those of the rest
+-- the lines of each article are those so far and those still to come
 abbrev pub invariant-loop-place : goal.invariant-loop-place
 invariant-loop-place l =
     (article : OrderArticle)

@@ -3,7 +3,7 @@ use Rattle.hub_order_lines.proofs.ByArticle.{known, known_is, within, only_is, o
 use Rattle.hub_order_lines.proofs.by_article.place_by_article.Goals as goal
 use Rattle.hub_order_lines.proofs.by_article.place_by_article.Goals.{After-article_lines}
 
--- what the index knows
+-- what the index says
 known_here : (c : After-article_lines) → known c.args.lines.now c.args.order.now c.args.gtin.now c.requires.rise ≡ c.article_lines.result
 known_here c =
     known_is c.args.lines.now c.args.order.now c.args.gtin.now c.requires.rise c.args.articles.now c.place_from-first.result

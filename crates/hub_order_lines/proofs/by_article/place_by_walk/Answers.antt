@@ -4,7 +4,6 @@ use Rattle.hub_order_lines.proofs.Walked.{Walked, passed, taken_first, only_one}
 use Rattle.hub_order_lines.proofs.by_article.place_by_walk.Goals as goal
 use Rattle.hub_order_lines.proofs.by_article.place_by_walk.Goals.{then-is_of_article+else-is_some, else-is_of_article}
 
--- src/by_article.rt:113:5
 pub loop-place-preserved : goal.loop-place-preserved
 loop-place-preserved c =
     let lines = c.args.lines.now in
@@ -21,7 +20,6 @@ loop-place-preserved c =
           (sym c.is_of_article.ensures ∙ w.if-is_of_article.false) c.loop-place.invariant)
     ]
 
--- src/by_article.rt:104:1
 pub returns-clause-some : goal.returns-clause-some
 returns-clause-some c =
     only_one c.args.order.now c.args.gtin.now c.args.lines.now c.loop-place.place c.loop-place.found

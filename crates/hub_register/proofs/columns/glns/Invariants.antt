@@ -5,7 +5,7 @@ use Rattle.hub_parties.specs.Rows.{glns}
 use Rattle.hub_register.specs.Entries.{row_in, rows_from}
 use Rattle.hub_register.proofs.columns.glns.Given as goal
 
--- all GLNs are those read so far, which are valid, and those of the rest
+-- all GLNs are those read so far, which are valid, and those still to come
 abbrev pub invariant-loop-entry : goal.invariant-loop-entry
 invariant-loop-entry l = record {
   read : glns (rows_from l.document) ≡ l.glns.items ++ map (λ row. row.gln) (map row_in (drop l.entry-index l.document.suppliers.items));

@@ -4,7 +4,7 @@ use Rattle.hub_parties.specs.Prefixes.{are_company_prefixes, by_bytes}
 use Rattle.hub_register.specs.Entries.{row_in}
 use Rattle.hub_register.proofs.columns.prefixes.Given as goal
 
--- the prefixes of all rows are those read so far, which are valid, and those of the rest
+-- the prefixes of all rows are those read so far, which are valid, and those still to come
 abbrev pub invariant-loop-entry : goal.invariant-loop-entry
 invariant-loop-entry l = record {
   read : map (λ row. by_bytes row.prefixes) (map row_in l.entries)

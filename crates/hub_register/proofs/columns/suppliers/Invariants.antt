@@ -6,7 +6,7 @@ use Rattle.hub_register.specs.Entries.{row_in}
 use Rattle.hub_register.specs.InOrder.{put_all, with_sorted_prefixes}
 use Rattle.hub_register.proofs.columns.suppliers.Given as goal
 
--- the rows put so far, each at its GLN and with a valid key, wait for those of the rest
+-- the rows so far, each under its GLN and with a valid key; the others are still to be inserted
 abbrev pub invariant-loop-place : goal.invariant-loop-place
 invariant-loop-place l = record {
   rows : put_all (map with_sorted_prefixes (map row_in l.entries)) []

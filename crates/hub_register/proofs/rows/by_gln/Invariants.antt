@@ -6,7 +6,7 @@ use Rattle.hub_register.specs.InOrder.{put_all}
 use Rattle.hub_register.specs.Kept.{is_valid}
 use Rattle.hub_register.proofs.rows.by_gln.Given as goal
 
--- the rows put so far, each valid and at its GLN, wait for those that are left
+-- the rows so far, each valid and under its GLN; the others are still to be inserted
 abbrev pub invariant-loop-row : goal.invariant-loop-row
 invariant-loop-row l = record {
   rows : put_all l.fn.rows.items [] ≡ put_all (into_iter_items l.row-iterator) (values l.suppliers);

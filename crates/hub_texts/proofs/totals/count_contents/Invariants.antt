@@ -2,7 +2,7 @@ use Rattle.std.proofs.Common.{◌≡◌, ◌≤◌, length, drop}
 use Rattle.hub_texts.specs.Totals.{table_of}
 use Rattle.hub_texts.proofs.totals.count_contents.Given as goal
 
--- those from the place on are counted
+-- the contents from this position on are counted
 abbrev pub invariant-loop-left : goal.invariant-loop-left
 invariant-loop-left l = record {
   within : l.left ≤ length l.contents;

@@ -3,7 +3,7 @@ use Rattle.hub_tables.specs.declared.rows.LineRow.{LineRow}
 use Rattle.hub_texts.specs.Totals.{table_of}
 use Rattle.hub_texts.proofs.totals.count_receipts.Given as goal
 
--- those from the place on are counted
+-- the receipts from this position on are counted
 abbrev pub invariant-loop-left : goal.invariant-loop-left
 invariant-loop-left l = record {
   within : l.left ≤ length l.receipts;

@@ -5,7 +5,7 @@ use Rattle.hub_tables.specs.Sets.{Fit}
 use Rattle.trial_lists.specs.Lists.{tables_in, AreInOrder, Room}
 use Rattle.trial_lists.proofs.lists.apply_each.Given as goal
 
--- where all changes fit, those that are left lead to the same tables
+-- if all changes fit, the remaining ones lead to the same tables
 abbrev pub invariant-loop-change : goal.invariant-loop-change
 invariant-loop-change l = record {
   kept : AreInOrder l.lists;

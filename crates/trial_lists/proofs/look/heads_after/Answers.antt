@@ -55,7 +55,7 @@ returns-clause-heads c =
     (ap (map head_of) (ap (filter_map (λ (key : EntryKey). find (wanted key) mail)) asked ∙ again)
     ∙ sym (take_of_map head_of limit rows)) c.heads_at.ensures
 
--- a front is no longer than was asked for
+-- at most as many are found as were asked for
 within : {E : Type 0} (r : Result (List MailHead) E) (limit : ℕ) (heads : List MailHead) → IfOk r (λ found. found ≡ take limit heads)
     → IfOk r (λ found. length found ≤ limit)
 within (Ok found) limit heads is = subst (λ rows. length rows ≤ limit) (sym is) (take_within limit heads)

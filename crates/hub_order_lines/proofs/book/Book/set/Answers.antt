@@ -23,7 +23,7 @@ pub invariant_of-self : goal.invariant_of-self
 invariant_of-self c =
     keeps_same c.self.inside.changed c.insert.new.self c.in_err-insert.ensures.err c.self.inside.orders.now c.self.invariant
 
--- the line that is set, and what it is set to
+-- the line to be set is found in the orders
 base_found : (c : goal.Joined-branch-3)
     → facts_among (lines_in c.self.inside.orders.now c.args.order.now) c.args.number c.args.gtin.now ≡ Some c.in-Some.line.now
 base_found c = sym c.line.ensures.line ∙ ap (λ o. option_map (λ line. line.now) o) c.in-Some.is

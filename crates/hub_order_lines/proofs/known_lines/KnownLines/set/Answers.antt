@@ -7,7 +7,7 @@ use Rattle.hub_order_lines.specs.declared.facts.LineFacts.{LineFacts}
 use Rattle.hub_order_lines.proofs.SetLine.{rows_set, keys_stay, known_still}
 use Rattle.hub_order_lines.proofs.known_lines.KnownLines.set.Goals as goal
 
--- what was searched for is at the place
+-- the line that was searched for is at this position
 found : (c : goal.After-self-2-1) → (c.in-Some.place < length c.self.inside.lines.items)
     × (find (λ (line : LineFacts). line.row.line == c.args.row.now.line) (facts_of c.self.inside.lines.items c.args.row.now.number)
     ≡ slice_get c.self.inside.lines.items c.in-Some.place)

@@ -5,7 +5,6 @@ use Rattle.hub_order_lines.proofs.Entries.{shown}
 use Rattle.hub_order_lines.proofs.Follow.{taken_out}
 use Rattle.hub_order_lines.proofs.known_orders.KnownOrders.forget_order.Goals as goal
 
--- src/known_orders.rt:151:5
 pub returns : goal.returns
 returns c =
     subst (λ (orders : Orders). ForgetsOrder c.args.order.now orders (map shown c.remove-known.new.self.entries)) c.self.view_is

@@ -5,7 +5,6 @@ use Rattle.hub_order_lines.proofs.Entries.{shown, at, set_itself}
 use Rattle.hub_order_lines.proofs.known_orders.KnownOrders.index.Goals as goal
 use Rattle.hub_order_lines.proofs.known_orders.KnownOrders.index.Goals.{in-Some, in-None}
 
--- src/known_orders.rt:96:5
 pub returns : goal.returns
 returns c =
     let es = c.self.inside.orders.entries in

@@ -8,7 +8,6 @@ use Rattle.hub_order_lines.proofs.Entries.{shown}
 use Rattle.hub_order_lines.proofs.Follow.{put_ok}
 use Rattle.hub_order_lines.proofs.known_orders.KnownOrders.put.Goals as goal
 
--- src/known_orders.rt:108:5
 pub returns-clause-put : goal.returns-clause-put
 returns-clause-put c is_true =
     subst (λ (orders : Orders). AddsOrder c.args.order.now c.args.is_there c.args.given orders (map shown c.insert.new.self.entries))

@@ -10,7 +10,6 @@ use Rattle.hub_order_lines.proofs.Follow.{not_kept, kept_set}
 use Rattle.hub_order_lines.proofs.known_orders.KnownOrders.set.Goals as goal
 use Rattle.hub_order_lines.proofs.known_orders.KnownOrders.set.Goals.{in-Some, in-None}
 
--- src/known_orders.rt:150:5
 pub returns : goal.returns
 returns c is_true =
     let es = c.self.inside.orders.entries in

@@ -2,6 +2,6 @@ use Rattle.std.proofs.Common.{◌≡◌, drop}
 use Rattle.hub_parties.specs.Prefixes.{by_bytes, put_all}
 use Rattle.hub_parties.proofs.prefixes.CompanyPrefixes.of.Given as goal
 
--- those put so far wait for the rest
+-- the prefixes so far are sorted; the others are still to be inserted
 abbrev pub invariant-loop-prefix : goal.invariant-loop-prefix
 invariant-loop-prefix l = by_bytes l.prefixes ≡ put_all (drop l.prefix-index l.prefixes) l.sorted.items

@@ -5,7 +5,7 @@ use Rattle.hub_register.specs.Joined.{joined_by}
 use Rattle.hub_register.proofs.Inserted.{AtGln, put-insert, at-insert}
 use Rattle.hub_register.proofs.register.Register.join.Goals as goal
 
--- the rows that are held then are those before, with the new one at its place
+-- the stored rows are then those from before, with the new one at its place
 joined : (c : goal.Joined-branch-2)
     → rows_by c.self.inside.hub c.self.inside.retailer c.self.inside.retailer_key (values c.insert.new.self)
     ≡ joined_by c.args.row c.args.self.now

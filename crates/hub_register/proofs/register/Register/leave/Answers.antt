@@ -6,7 +6,7 @@ use Rattle.hub_register.proofs.Inserted.{AtGln}
 use Rattle.hub_register.proofs.Leaving.{without-remove, at-remove}
 use Rattle.hub_register.proofs.register.Register.leave.Goals as goal
 
--- the rows that are held then are those before, without that of the GLN
+-- the stored rows are then those from before, without that of the GLN
 left : (c : goal.Joined-remove)
     → rows_by c.self.inside.hub c.self.inside.retailer c.self.inside.retailer_key (values c.remove.new.self)
     ≡ left_by c.args.gln.now c.args.self.now

@@ -6,7 +6,7 @@ use Rattle.hub_parties.specs.Key.{is_party_key}
 use Rattle.hub_parties.specs.Prefixes.{are_company_prefixes, by_bytes, company_prefixes_of}
 use Rattle.hub_rules.proofs.join.Join.new.Goals as goal
 
--- what company prefixes are made of
+-- the company prefixes made from texts are valid
 made_right : (texts made : List (List ℕ)) → company_prefixes_of texts ≡ Some made → are_company_prefixes made ≡ true
 made_right texts made h =
     elim (are_company_prefixes (by_bytes texts)) as (λ v. are_company_prefixes (by_bytes texts) ≡ v

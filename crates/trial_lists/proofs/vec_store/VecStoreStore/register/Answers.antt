@@ -12,7 +12,7 @@ use Rattle.hub_tables.specs.declared.rows.PrefixRow.{PrefixRow}
 use Rattle.trial_lists.specs.Lists.{tables_in}
 use Rattle.trial_lists.proofs.vec_store.VecStoreStore.register.Goals as goal
 
--- what is found of rising tables
+-- what is found in rising tables
 module _ (t : Tables) (rising : Rising t) (found : Option RegisterRows) (hubs : List HubRow) (keys : List KeyRow)
     (prefixes : List PrefixRow) (of : (u : Tables) → u.hubs ≡ hubs → u.keys ≡ keys → u.prefixes ≡ prefixes
     → Rises key_cmp u.keys → Rises prefix_cmp u.prefixes → IsHeldBy u found)
@@ -20,7 +20,7 @@ module _ (t : Tables) (rising : Rising t) (found : Option RegisterRows) (hubs : 
   held : IsHeldBy t found
   held = of t (sym same_hubs) (sym same_keys) (sym same_prefixes) rising.keys rising.prefixes
 
-  -- where they hold a register it is found
+  -- if they hold a register, it is found
   not_none : (u : Tables) → t ≡ u → HoldsRegister u → found ≡ None → ⊥
   not_none u same holds none = subst (IsHeldBy t) none held (subst HoldsRegister (sym same) holds)
 

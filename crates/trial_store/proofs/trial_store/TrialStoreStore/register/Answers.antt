@@ -6,7 +6,7 @@ use Rattle.hub_store.specs.declared.fault.LastingFault.{LastingFault}
 use Rattle.hub_store.specs.declared.fault.StoreFault.{StoreFault}
 use Rattle.trial_store.proofs.trial_store.TrialStoreStore.register.Goals as goal
 
--- a fault that comes where there was none is kept
+-- a fault that occurs when there was none before is kept
 noted : {plain : _} (result : Result RegisterRows StoreFault) (before after old new : Option LastingFault)
     → before ≡ None
     → after ≡ broken_after before result
