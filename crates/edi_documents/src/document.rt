@@ -20,7 +20,7 @@ pub enum DocumentType {
 }
 
 impl DocumentType {
-    /// Returns the type that UNH names, or `None` if the hub reads no messages of it.
+    /// Returns the type that UNH names, or `None` if the hub does not read messages of this type.
     pub fn of(kind: &[u8]) -> Option<DocumentType>
         ensures { result ≡ spec.type_of kind.now }
     {
@@ -41,7 +41,7 @@ impl DocumentType {
 /// A message that was read.
 #[derive(Debug, Drop)]
 pub enum Document {
-    /// ORDERS: what the retailer orders of a supplier.
+    /// ORDERS: what the retailer orders from a supplier.
     Order(Order),
     /// ORDRSP: a supplier's answer to an order.
     Response(Response),
@@ -52,7 +52,7 @@ pub enum Document {
 }
 
 impl Document {
-    /// Reads a message as one of a type. The error is the lowest fault of the message (M01 to M12), or `Memory`.
+    /// Reads a message as this type. The error is the lowest fault of the message (M01 to M12), or `Memory`.
     pub fn read_as(
         alloc: Global,
         kind: DocumentType,
@@ -70,8 +70,8 @@ impl Document {
         }
     }
 
-    /// Reads a message by the type that its UNH names. The error is `MessageType` (M01) if the hub reads no messages of
-    /// this type, else the lowest fault of the message, or `Memory`.
+    /// Reads a message by the type that its UNH names. The error is `MessageType` (M01) if the hub does not read
+    /// messages of this type, otherwise the lowest fault of the message, or `Memory`.
     pub fn read(alloc: Global, message: &RawMessage) -> Result<Document, MessageFault>
         ensures ok { IfOk result (λ document. spec.document_of message.now ≡ Ok document) }
         ensures err { IfErr result (λ fault.

@@ -8,7 +8,7 @@ use Rattle.edi_law.specs.Parts.{HasNone, OfHeader, OfOnly, OneOrNone}
 use Rattle.edi_law.specs.Segments.{says}
 use Rattle.edi_law.specs.Values.{IsDocumentNumber, IsDate}
 
--- the message is of a type of the directory D.01B of UN
+-- the message is of this type, in the UN directory D.01B
 pub record IsOfType (type : List ℕ) (message : RawMessage) : Type 0 where
   pub type_is : message.kind ≡ type
   pub version_is : message.version ≡ codes "D"

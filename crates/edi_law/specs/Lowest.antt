@@ -8,6 +8,6 @@ pub record IsLowest (IsRight : MessageFault → Type 0) (fault : MessageFault) :
   pub here : IsRight fault → ⊥
   pub lower : (other : MessageFault) → number other < number fault → IsRight other
 
--- all is valid
+-- everything is valid
 abbrev pub IsFaultless : (MessageFault → Type 0) → Type 0
 IsFaultless IsRight = (fault : MessageFault) → IsRight fault

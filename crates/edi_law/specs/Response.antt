@@ -19,7 +19,7 @@ use Rattle.edi_law.specs.References.{is_rff_on, NamesOrder, NamesLineOrNone, Hea
 use Rattle.edi_law.specs.Segments.{says}
 use Rattle.edi_law.specs.Summary.{IsClosed, IsControlled, HasLine}
 
--- what a response answers: lines one by one, or all of them
+-- whether a response answers each line, or accepts or refuses all of them
 pub data Extent : Type 0 where
   EachLine : Extent
   NoneOfAll : Extent

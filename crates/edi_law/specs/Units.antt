@@ -24,7 +24,7 @@ pub record OfUnits (Are : List (List Segment) → Type 0) (message : List Segmen
 abbrev pub OfUnitLines : (List (List Segment) → Type 0) → List Segment → Type 0
 OfUnitLines Are message = OfUnits (AllByRecursion (OfLines Are)) message
 
--- each LIN of the units that are read is a line
+-- each LIN of the units that are read is a valid line
 abbrev pub AreLines : List Segment → Type 0
 AreLines message =
     OfUnitLines (AllByRecursion (λ group. (number : ℕ) × (gtin : List ℕ) × IsLine group number gtin)) message

@@ -35,7 +35,7 @@ pub struct Journaled<L, M, J> {
     moment: Option<Moment>,
 }
 
-// How a connection ended.
+// Returns how a connection ended.
 fn outcome_of(ending: Ending, timed_out: bool) -> Outcome
     ensures { result ≡ spec.outcome_of ending timed_out }
 {

@@ -12,7 +12,7 @@ use gs1_ids::Gln;
 use hub_parties::SupplierRow;
 use hub_rules::Code;
 
-/// Returns the supplier if it is registered and the message names it; otherwise B02.
+/// Returns the supplier if it is registered and is the one named; otherwise B02.
 pub(crate) fn registered_supplier<'a>(
     supplier: Option<&'a SupplierRow>,
     named: &Gln,

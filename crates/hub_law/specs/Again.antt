@@ -17,7 +17,7 @@ use Rattle.hub_law.specs.Told.{Told, Accepted}
 use Rattle.hub_requests.specs.declared.request.Input.{Input}
 use Rattle.hub_requests.specs.declared.request.Request.TheVariants as requests
 
--- the input is an accepted upload for these tables, and this is its message at a place counted from 0
+-- the input is an upload whose messages are handled, and this is its message at a place counted from 0
 pub record MessageAt (t : Tables) (input : Input) (place : ℕ) (message : RawMessage) : Type 0 where
   pub upload : Upload
   pub looked_at : upload_of (register_of t) input ≡ Some upload

@@ -197,8 +197,8 @@ impl KnownOrders {
         }
     }
 
-    /// Repeats changes that were made in the tables, so that what is kept is what a look-up would return now. Orders
-    /// for which that is not possible are forgotten.
+    /// Applies changes that were made in the tables, so that what is kept is what a look-up would return now. If that
+    /// is not possible, all orders are forgotten.
     pub fn follow(&mut self, changes: &[Change])
         ensures { Follows changes.now self.old self.new }
     {

@@ -20,7 +20,7 @@ pub enum RegisterFault {
     /// Two suppliers overlap: a prefix of one begins a prefix of the other. The positions of both in the list, counted
     /// from 1.
     Overlap(usize, usize),
-    /// Out of memory.
+    /// Memory ran out.
     Memory,
 }
 

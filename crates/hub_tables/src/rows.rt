@@ -45,7 +45,7 @@ pub struct OrderRow {
     pub number: Items<u8>,
 }
 
-/// A line of an order, in pieces. Key: supplier, number and line.
+/// An order line, with quantities in pieces. Key: supplier, number and line.
 #[derive(Debug, Drop)]
 pub struct LineRow {
     /// The supplier.

@@ -8,7 +8,7 @@ use std::alloc::AllocFailed;
 /// Why the text of a pallet cannot be written.
 #[derive(Clone, Copy, Debug, PartialEq, Eq)]
 pub enum TextFault {
-    /// Out of memory.
+    /// Memory ran out.
     Memory,
     /// A content names no line, or a sum of quantities does not fit 64 bits.
     Unclean,

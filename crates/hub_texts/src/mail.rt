@@ -75,8 +75,8 @@ fn last_word(heads: &[MailHead]) -> &'static str
     }
 }
 
-/// Returns the list of a mailbox's entries that are not taken. `heads` gives what the list shows of the first of them,
-/// and of one more than the list's limit if there are that many.
+/// Returns the list of a mailbox's entries that are not taken. `heads` is what a list shows of the first of them: up to
+/// one more than the list's limit.
 pub fn list_text(alloc: Global, heads: &[MailHead]) -> Result<Items<u8>, MemoryFault>
     ensures { IfOk result (λ text. (all : List MailRow) →
         take (spec.list_limit + 1) (map head_of all) ≡ heads.now → text ≡ spec.list_text all) }

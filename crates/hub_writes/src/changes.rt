@@ -18,7 +18,7 @@ use hub_store::StoreFault;
 use hub_tables::Change;
 use sqlite::{Alter, Transaction};
 
-/// Runs a statement that does nothing, which fails if the connection is not open.
+/// Runs a statement that does nothing, which succeeds only if the connection is open and in a transaction.
 fn touch<S: Alter>(tx: &mut Transaction<'_, S>) -> Result<(), StoreFault>
     ensures same_reference { tx.new.conn.ghost_name ≡ tx.old.conn.ghost_name }
     ensures acts { Acts [] (state S.Store tx.old.conn.now) (state S.Store tx.new.conn.now) result }

@@ -10,42 +10,42 @@ use hub_parties::Key;
 use hub_tables::{Answered, Arrival, Column, MailKind, Side};
 use sqlite_value::value::ValueRef;
 
-/// The digits of a GLN.
+/// Returns the digits of a GLN.
 pub(crate) fn gln_value(gln: &Gln) -> ValueRef<'_>
     ensures { owned result ≡ Blob gln.now }
 {
     ValueRef::Blob(gln.digits().as_slice())
 }
 
-/// The digits of a GTIN.
+/// Returns the digits of a GTIN.
 pub(crate) fn gtin_value(gtin: &Gtin) -> ValueRef<'_>
     ensures { owned result ≡ Blob gtin.now }
 {
     ValueRef::Blob(gtin.digits().as_slice())
 }
 
-/// The digits of an SSCC.
+/// Returns the digits of an SSCC.
 pub(crate) fn sscc_value(sscc: &Sscc) -> ValueRef<'_>
     ensures { owned result ≡ Blob sscc.now }
 {
     ValueRef::Blob(sscc.digits().as_slice())
 }
 
-/// The digits of a company prefix.
+/// Returns the digits of a company prefix.
 pub(crate) fn prefix_value(prefix: &Prefix) -> ValueRef<'_>
     ensures { owned result ≡ Blob prefix.now }
 {
     ValueRef::Blob(prefix.digits())
 }
 
-/// The bytes of a key.
+/// Returns the bytes of a key.
 pub(crate) fn key_value(key: &Key) -> ValueRef<'_>
     ensures { owned result ≡ Blob key.now }
 {
     ValueRef::Blob(key.bytes())
 }
 
-/// A text.
+/// Returns the bytes of a text.
 pub(crate) fn text_value(text: &Items<u8>) -> ValueRef<'_>
     ensures { owned result ≡ Blob text.now }
 {
@@ -59,7 +59,7 @@ pub(crate) fn is_great(number: u64) -> bool
     number >= 0x8000_0000_0000_0000
 }
 
-/// A number below 2^63, the limit of SQL.
+/// Returns a number below 2^63, the limit of SQL.
 pub(crate) fn number_value<'a>(number: u64) -> ValueRef<'a>
     requires { number < 2 ^ 63 }
     ensures { owned result ≡ Int (pos number) }
@@ -67,21 +67,21 @@ pub(crate) fn number_value<'a>(number: u64) -> ValueRef<'a>
     ValueRef::Int(number as i64)
 }
 
-/// A line number or a quantity.
+/// Returns a line number or a quantity.
 pub(crate) fn count_value<'a>(count: u32) -> ValueRef<'a>
     ensures { owned result ≡ Int (pos count) }
 {
     number_value(u64::from(count))
 }
 
-/// A byte, as a number.
+/// Returns a byte as a number.
 pub(crate) fn byte_value<'a>(byte: u8) -> ValueRef<'a>
     ensures { owned result ≡ Int (pos byte) }
 {
     number_value(u64::from(byte))
 }
 
-/// The seconds of a moment.
+/// Returns the seconds of a moment.
 pub(crate) fn moment_value<'a>(moment: Moment) -> ValueRef<'a>
     ensures value { owned result ≡ Int (pos moment) }
     ensures low { moment < 2 ^ 63 }
@@ -89,7 +89,7 @@ pub(crate) fn moment_value<'a>(moment: Moment) -> ValueRef<'a>
     number_value(moment.seconds())
 }
 
-/// The letter of an answer.
+/// Returns the letter of an answer.
 pub(crate) fn answer_value<'a>(answer: &Column<Answered>) -> ValueRef<'a>
     ensures value { owned result ≡ Int (pos answer.now) }
     ensures low { answer.now < 256 }
@@ -97,7 +97,7 @@ pub(crate) fn answer_value<'a>(answer: &Column<Answered>) -> ValueRef<'a>
     byte_value(answer.code())
 }
 
-/// The letter of a side.
+/// Returns the letter of a side.
 pub(crate) fn side_value<'a>(side: &Column<Side>) -> ValueRef<'a>
     ensures value { owned result ≡ Int (pos side.now) }
     ensures low { side.now < 256 }
@@ -105,7 +105,7 @@ pub(crate) fn side_value<'a>(side: &Column<Side>) -> ValueRef<'a>
     byte_value(side.code())
 }
 
-/// The letter of a mailbox entry's type.
+/// Returns the letter of a mailbox entry's type.
 pub(crate) fn kind_value<'a>(kind: &Column<MailKind>) -> ValueRef<'a>
     ensures value { owned result ≡ Int (pos kind.now) }
     ensures low { kind.now < 256 }
@@ -113,7 +113,7 @@ pub(crate) fn kind_value<'a>(kind: &Column<MailKind>) -> ValueRef<'a>
     byte_value(kind.code())
 }
 
-/// The number of a pallet's state.
+/// Returns the number of a pallet's state.
 pub(crate) fn arrival_value<'a>(arrival: &Column<Arrival>) -> ValueRef<'a>
     ensures value { owned result ≡ Int (pos arrival.now) }
     ensures low { arrival.now < 256 }
@@ -121,7 +121,7 @@ pub(crate) fn arrival_value<'a>(arrival: &Column<Arrival>) -> ValueRef<'a>
     byte_value(arrival.code())
 }
 
-/// Yes or no.
+/// Returns 1 for yes and 0 for no.
 pub(crate) fn truth_value<'a>(truth: &Column<bool>) -> ValueRef<'a>
     ensures value { owned result ≡ Int (pos truth.now) }
     ensures low { truth.now < 256 }

@@ -7,7 +7,7 @@ ghost use Rattle.hub_parties.specs.KeyOrder.{Rises};
 use crate::key::Key;
 use trial_rows::Row;
 
-// The number of rows that are searched before all others.
+// The number of rows at the start that are searched first.
 const NEAR: usize = 16;
 
 // Whether a row is below a key.

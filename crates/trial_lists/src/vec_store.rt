@@ -98,7 +98,7 @@ impl Store for VecStore {
         let keys = self.lists.keys.as_slice();
         let prefixes = self.lists.prefixes.as_slice();
         let Some(register) = register_of(self.alloc, hubs, keys, prefixes)? else {
-            // The store stays whole: later calls answer from the rows as they are.
+            // The store is not broken by this: later calls still read the rows as they are.
             return Err(StoreFault::Unclean);
         };
         Ok(register)

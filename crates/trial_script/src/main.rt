@@ -11,10 +11,10 @@
 //! The lines:
 //!
 //! - `hub N`, `hub N memory C` and `hub N disk C` make a hub with the register in the text of N bytes and no other
-//!   rows. A file that already has tables, or that kept something when it stopped during opening, gives its own rows
-//!   and register instead. A file of schema 1 keeps its rows, and the register of the text is founded beside them. The
-//!   hub's store fails with the named fault after C calls; the call that returns its register does not count. If the
-//!   store cannot be opened, prints `store` and the fault.
+//!   rows. If the file already has a hub's tables, or kept them when it stopped during opening, it gives its own rows
+//!   and register instead. A file of schema 1 keeps its rows and gets the register of the text. The hub's store fails
+//!   with the named fault after C calls; the call that returns its register does not count. If the store cannot be
+//!   opened, prints `store` and the fault.
 //! - `as MOMENT GLN KEY` sets the caller of the requests that follow, and their moment in seconds.
 //! - `upload N`, `after N`, `item N`, `taken N`, `status`, `status-of GLN` and `cancel N` make a request; the bytes of
 //!   `upload` and `cancel` follow.

@@ -16,7 +16,7 @@ struct ResponseCase {
 enum Said {
     AllAccepted,
     AllRefused,
-    // Line numbers or none, items and answers.
+    // For each line its number, if given, its item and its answer.
     Lines(&'static [SaidLine]),
 }
 
