@@ -89,10 +89,10 @@ pub fn each_line_balances()
         Sound suppliers t → AllByRecursion (λ line. Balanced (view line.supplier t) line) t.lines }
 {}
 
-/// What a GLN sees, and the replies that it gets, do not depend on whether another supplier joins. A join is not an
-/// item of any other GLN; a join that is refused or stopped is not an item of anyone. So a join that another caller
-/// asks for can be left out of a run: a GLN that has its row by then, or that no one registers later, sees the same in
-/// the end and gets the same replies.
+/// What a GLN sees, and the replies that it gets, do not depend on whether another supplier joins. A join is an item
+/// only of its caller and of the supplier that joins, and of that supplier only if it is neither refused nor stopped.
+/// So a join that another caller asks for can be left out of a run: a GLN that has its row by then, or that no one
+/// registers later, sees the same in the end and gets the same replies.
 pub fn joins_are_apart()
     ensures others { (gln : List ℕ) (t : Tables) (input : Input) (mark : Mark) (row : SupplierRow) →
         input.request ≡ Join row → input.caller ≢ gln → row.gln ≢ gln → items_of_input gln t input mark ≡ [] }

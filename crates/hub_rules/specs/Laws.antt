@@ -50,7 +50,7 @@ pub record PartiesStay (t after : Tables) : Type 0 where
   pub keys : after.keys ≡ t.keys
   pub prefixes : after.prefixes ≡ t.prefixes
 
--- Afterwards the supplier sees its own rows, no one else sees any change, the register is the same, and the tables are
+-- Afterwards the supplier sees exactly `own`, no one else sees any change, the register is the same, and the tables are
 -- sound.
 pub record Apart (suppliers : List SupplierRow) (s : SupplierRow) (t after own : Tables) : Type 0 where
   pub seen : view s.gln after ≡ own
@@ -58,9 +58,9 @@ pub record Apart (suppliers : List SupplierRow) (s : SupplierRow) (t after own :
   pub parties : PartiesStay t after
   pub sound : Sound suppliers after
 
--- The supplier has joined tables that hold a register: it is one more supplier, it sees its own rows with its key and
--- its prefixes, no one else sees any change, each supplier that was found by its GLN still is, and the tables are
--- sound.
+-- The supplier has joined tables that hold a register: it is one more supplier, it sees what it saw before with its key
+-- and its prefixes added, no one else sees any change, each supplier that was found by its GLN still is, and the tables
+-- are sound.
 pub record JoinedBy (row : SupplierRow) (t after : Tables) : Type 0 where
   pub seen : view row.gln after ≡ apply_all (row_changes row) (view row.gln t)
   pub unseen : (other : List ℕ) → other ≢ row.gln → view other after ≡ view other t

@@ -1,4 +1,4 @@
--- Shows that no key of a table occurs twice, so the rows that its rows stand for have rising keys.
+-- Shows that no key of an SQL table occurs twice, so the rows of the hub's tables have rising keys.
 use Rattle.std.proofs.Common.{◌≡◌, ℕ, ◌+◌, ◌*◌, ◌^◌, nat_lt, ℤ, pos, negsuc, Bool, true, false, not, ◌&&◌}
 use Rattle.std.proofs.Common.{inl, inr, List, [], ◌∷◌, map, refl, sym, ap, ap₂, subst, ◌∙◌, arith, IsTrue}
 use Rattle.std.proofs.Common.{true≢false}

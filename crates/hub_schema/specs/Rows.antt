@@ -1,5 +1,5 @@
--- Defines the row of the hub that a stored row stands for. Columns are counted from 1, because the row number comes
--- first.
+-- Defines what each stored SQL row means as a row of the hub's tables. Columns are counted from 1, because the row
+-- number comes first.
 use Rattle.std.specs.Prelude.{List, map, fold, []}
 use Rattle.std.specs.declared.cmp.Ordering.{Ordering}
 use Rattle.sqlite_value.specs.Order.{Row, column}
@@ -106,7 +106,7 @@ mail_in row = record {
 abbrev pub in_key_order : {X : Type 0} → (X → X → Ordering) → List X → List X
 in_key_order cmp = fold (λ sorted row. put cmp row sorted) []
 
--- the hub's tables that the stored rows of all SQL tables stand for
+-- the hub's tables, as read from the stored rows of all SQL tables
 abbrev pub tables_in : Trees → Tables
 tables_in trees = record {
   hubs = in_key_order hub_cmp (map hub_row_in (trees hub_table.tree));

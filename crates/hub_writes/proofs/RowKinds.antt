@@ -35,7 +35,7 @@ kinds_of table = map (λ c. c.kind) table.columns
 pub record Kind (X : Type 0) : Type 0 where
   pub cmp : X → X → Ordering
   pub total : IsTotalOrder cmp
-  -- the row that a stored row stands for
+  -- reads a stored row as a row of this kind
   pub read : Row → X
   pub place : ℕ
   pub table : Table
