@@ -6,9 +6,9 @@ use hub_tables::Change;
 /// The verdict on a message, a cancellation or a join.
 #[derive(Debug, Drop)]
 pub enum Verdict {
-    /// It is accepted with these changes, in this order. Without changes it repeats one that is already remembered; a
-    /// join always has some.
+    /// Accepted, with these changes in this order. Without changes it repeats one that is already remembered; a join
+    /// always has some.
     Accept(Items<Change>),
-    /// It is refused and changes nothing.
+    /// Refused; nothing changes.
     Refuse(Code),
 }

@@ -9,13 +9,13 @@ use hub_law::Code;
 /// The decision on a message or a cancellation.
 #[derive(Clone, Copy, Debug, PartialEq, Eq)]
 pub enum Decision {
-    /// It is accepted.
+    /// Accepted.
     Accepted,
-    /// It repeats one that was accepted.
+    /// A repetition of one that was accepted.
     Repeated,
-    /// It breaks a rule.
+    /// Refused, because it breaks a rule.
     Refused(Code),
-    /// The message has a fault.
+    /// Refused, because the message has a fault.
     Unread(MessageFault),
 }
 

@@ -57,7 +57,7 @@ receipt 340123455000000029 04000862141404 0 12 0",
 
 const REPLACED: Option<Arrival> = Some(Arrival::Replaced);
 
-// The same advice, but replacing earlier ones: the receipts of each pallet are deleted before the new totals.
+// That advice, but replacing earlier ones: the receipts of each pallet are deleted before the new totals.
 const REPLACING: ReceiptCase = ReceiptCase {
     name: "an advice that replaces clears each pallet, received or not",
     function: "5",
