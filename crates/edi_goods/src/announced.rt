@@ -129,9 +129,9 @@ impl<'a, 'b> Model for ReferredUnit<'a, 'b> {
     ghost invariant = { λ lined. lined.items.items ≡ line_groups lined.unit.now };
 }
 
-// What the one reference of a group names; the fault `Reference` where it is not valid, there are several, or there is
-// none and none is inherited.
-fn group_reference(
+/// Returns what the one reference of a group names, or `None` if it has none and inherits one. It is the fault `Reference` if the
+/// reference is not valid, there are several, or there is none and none is inherited.
+pub fn group_reference(
     inherited: bool,
     group: &[Segment],
 ) -> Result<Option<NamedOrder<'_>>, MessageFault>

@@ -1,12 +1,12 @@
 //! Goods on their way: the records of DESADV and RECADV messages (EANCOM 2002 over UN/EDIFACT D.01B).
 #![tactic(auto)]
 
-mod announced;
+pub mod announced;
 mod despatch;
 mod kind;
 mod parties;
 mod receipt;
-mod received;
+pub mod received;
 mod sums;
 pub mod units;
 

@@ -42,8 +42,8 @@ impl<'a, 'b> ReceivedUnit<'a, 'b> {
     }
 }
 
-// Returns the quantity of a kind, if there is one. It is the fault `Quantity` if it comes twice or is not valid.
-fn received(kind: &[u8], group: &[Segment]) -> Result<Option<u32>, MessageFault>
+/// Returns the quantity of a kind, if there is one. It is the fault `Quantity` if it comes twice or is not valid.
+pub fn received(kind: &[u8], group: &[Segment]) -> Result<Option<u32>, MessageFault>
     ensures ok { IfOk result (λ quantity. (quantity ≡ quantity_of kind.now 0 group.now)
         × (spec.is_once_or_none kind.now group.now ≡ true)) }
     ensures err { IfErr result (λ fault.

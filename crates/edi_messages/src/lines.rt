@@ -70,7 +70,7 @@ fn gtin_of(lin: &Segment) -> Option<Gtin>
 }
 
 /// The line item of a line group, where its LIN has a line number and an article and is no sub-line.
-pub(crate) fn line_item(group: &[Segment]) -> Option<LineItem<'_>>
+pub fn line_item(group: &[Segment]) -> Option<LineItem<'_>>
     ensures some { IfSome result (λ item. (item ≡ group.now) × (spec.is_line group.now ≡ true)) }
     ensures none { IfNone result (spec.is_line group.now ≡ false) }
 {

@@ -4,7 +4,7 @@ ghost use Rattle.edi_orders.specs.Response as spec;
 
 /// What becomes of a line (LIN 1229).
 #[derive(Clone, Copy, Debug, PartialEq, Eq)]
-pub(crate) enum Action {
+pub enum Action {
     /// 5: accepted without amendment.
     Accept,
     /// 7: not accepted.

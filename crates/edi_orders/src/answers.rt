@@ -52,8 +52,8 @@ impl<'a, 'b> Model for AnsweredItem<'a, 'b> {
     ghost invariant = { λ line. said.line_answer line.item.now ≡ Some line.answer };
 }
 
-// The action of a line group.
-fn action(group: &[Segment]) -> Option<Action>
+/// Returns the action of a line group.
+pub fn action(group: &[Segment]) -> Option<Action>
     ensures { result ≡ spec.action group.now }
 {
     match group.first() {
@@ -91,8 +91,8 @@ fn changed(group: &[Segment]) -> Option<u32>
     }
 }
 
-// The answer to a line by its action.
-fn answer_by(action: Action, group: &[Segment]) -> Option<LineAnswer>
+/// Returns the answer to a line by its action; `None` if it is a change without a quantity.
+pub fn answer_by(action: Action, group: &[Segment]) -> Option<LineAnswer>
     ensures { result ≡ spec.answer_by (Some action) group.now }
 {
     match action {
@@ -124,9 +124,10 @@ pub(crate) fn answered_items<'a, 'b>(
     Ok(answered)
 }
 
-// The order line that a group names, where the group has no reference or one to this order.
+/// Returns the order line that a group names, if it names one. It is the fault `Reference` if the group has a reference that is not
+/// one to this order.
 #[tactic(auto, using(edi_messages::proofs::Found::no_only))]
-fn order_line(order: &[u8], group: &[Segment]) -> Result<Option<u32>, MessageFault>
+pub fn order_line(order: &[u8], group: &[Segment]) -> Result<Option<u32>, MessageFault>
     ensures ok { IfOk result (λ line.
         (line ≡ group_line group.now) × (spec.has_no_reference_or_one_to (Some order.now) group.now ≡ true)) }
     ensures err { IfErr result (λ fault.

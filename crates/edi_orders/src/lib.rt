@@ -2,11 +2,12 @@
 #![tactic(auto)]
 
 mod action;
-mod answers;
+pub mod answers;
 mod extent;
 mod order;
 mod response;
 
+pub use action::Action;
 pub use edi_messages::{MessageFault, RawMessage, supplier_of};
 pub use order::{Order, OrderLine};
 pub use response::{Answer, AnswerLine, LineAnswer, Response};

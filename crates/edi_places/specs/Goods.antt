@@ -1,76 +1,33 @@
 -- The segment that shows a fault of a despatch advice or of a receiving advice, by its number: UNH is counted as 1.
-use Rattle.std.specs.Prelude.{ℕ, ◌+◌, Bool, false, not, ◌&&◌, ◌||◌, if◌then◌else◌, List, [], ◌∷◌, drop, is_some, codes}
+use Rattle.std.specs.Prelude.{ℕ, ◌+◌, Bool, true, false, not, ◌&&◌, if◌then◌else◌, List, [], ◌∷◌, is_some, codes}
 use Rattle.std.specs.List.{list_any, prefix_len}
+use Rattle.std.specs.Option.{unwrap_or}
 use Rattle.edi_base.specs.Seen.{is_among}
 use Rattle.edi_segments.specs.declared.segment.Segment.{Segment}
 use Rattle.edi_envelope.specs.Segments.{first_segment}
-use Rattle.edi_messages.specs.Parts.{is_lin, is_cps, group_of, is_qualified}
-use Rattle.edi_messages.specs.Lines.{is_line}
+use Rattle.edi_messages.specs.Parts.{is_lin, is_cps, is_qualified}
 use Rattle.edi_messages.specs.declared.fault.MessageFault.{MessageFault}
 use Rattle.edi_messages.specs.declared.fault.MessageFault.TheVariants as fault
 use Rattle.edi_goods.specs.Units.{unit_of, head, has_identifier, sscc, sscc_or_none, has_line_outside}
-use Rattle.edi_goods.specs.Despatch.{despatched, inherits, has_header_reference_or_none, has_reference_or_inherits}
-use Rattle.edi_goods.specs.Receipt.{is_once_or_none, is_received}
-use Rattle.edi_places.specs.Counting.{first_place, once_place, place_from}
+use Rattle.edi_goods.specs.Despatch.{inherits, has_header_reference_or_none}
+use Rattle.edi_places.specs.Counting.{first_place, once_place}
+use Rattle.edi_places.specs.Groups.{group_place, group_place_or_last}
+use Rattle.edi_places.specs.declared.groups.Condition.{Condition}
+use Rattle.edi_places.specs.declared.groups.Condition.TheVariants as condition
 use Rattle.edi_places.specs.Header.{beginning_place, date_place, goods_parties_place, reference_place, control_place}
-use Rattle.edi_places.specs.Orders.{quantity_place, group_reference_place}
 
 -- how many segments stand before the first CPS
 abbrev pub outside : List Segment → ℕ
 outside message = prefix_len (λ segment. not (is_cps segment)) message
 
--- the conditions of a line group of a despatch advice, whose header has a reference or none
-abbrev pub despatch_shows : MessageFault → Bool → List Segment → Bool
-despatch_shows fault.Line inherited group = not (is_line group)
-despatch_shows fault.Quantity inherited group = not (is_some (despatched group))
-despatch_shows fault.Reference inherited group = not (has_reference_or_inherits inherited group)
-despatch_shows _ inherited group = false
+-- the segment that shows that a condition does not hold of a line group of a unit
+abbrev pub unit_group_place : Condition → List Segment → ℕ
+unit_group_place condition message = group_place_or_last condition [] (outside message) message
 
--- the segment of such a line group that shows it
-abbrev pub place_in_despatch_group : MessageFault → List Segment → ℕ
-place_in_despatch_group fault.Quantity group = quantity_place (codes "12") group
-place_in_despatch_group fault.Reference group = group_reference_place group
-place_in_despatch_group _ group = 1
-
-abbrev pub begins_wrong_despatch : MessageFault → Bool → List Segment → Bool
-begins_wrong_despatch fault inherited segments =
-    is_lin (first_segment segments) && despatch_shows fault inherited (group_of segments)
-
-abbrev pub first_despatch_place : MessageFault → Bool → List Segment → ℕ
-first_despatch_place fault inherited segments =
-    place_from (begins_wrong_despatch fault inherited) (λ rest. place_in_despatch_group fault (group_of rest)) segments
-
--- of the first such line group of a unit
-abbrev pub despatch_group_place : MessageFault → Bool → List Segment → ℕ
-despatch_group_place fault inherited message =
-    outside message + first_despatch_place fault inherited (drop (outside message) message)
-
--- the conditions of a line group of a receiving advice
-abbrev pub receipt_shows : MessageFault → List Segment → Bool
-receipt_shows fault.Line group = not (is_line group)
-receipt_shows fault.Quantity group = not (is_received group)
-receipt_shows _ group = false
-
--- the quantity of the first kind that is wrong, in the order of the kinds; LIN where there is none of them
-abbrev pub received_place : List Segment → ℕ
-received_place group =
-    if not (is_once_or_none (codes "194") group) then quantity_place (codes "194") group
-    else if not (is_once_or_none (codes "195") group) then quantity_place (codes "195") group
-    else quantity_place (codes "196") group
-
-abbrev pub place_in_receipt_group : MessageFault → List Segment → ℕ
-place_in_receipt_group fault.Quantity group = received_place group
-place_in_receipt_group _ group = 1
-
-abbrev pub begins_wrong_receipt : MessageFault → List Segment → Bool
-begins_wrong_receipt fault segments = is_lin (first_segment segments) && receipt_shows fault (group_of segments)
-
-abbrev pub first_receipt_place : MessageFault → List Segment → ℕ
-first_receipt_place fault segments =
-    place_from (begins_wrong_receipt fault) (λ rest. place_in_receipt_group fault (group_of rest)) segments
-
-abbrev pub receipt_group_place : MessageFault → List Segment → ℕ
-receipt_group_place fault message = outside message + first_receipt_place fault (drop (outside message) message)
+-- what is asked of the references of line groups, by whether the header has one that they inherit
+abbrev pub reference_condition : Bool → Condition
+reference_condition true = condition.ReferenceOrNone
+reference_condition false = condition.Reference
 
 -- the GIN with 7405 BJ of a unit: the second in its head, else the one that there is, else CPS
 abbrev pub sscc_place : List Segment → ℕ
@@ -113,24 +70,18 @@ despatch_place fault.Beginning message = beginning_place message
 despatch_place fault.Function message = 2
 despatch_place fault.Date message = date_place message
 despatch_place fault.Parties message = goods_parties_place message
-despatch_place fault.Line message = despatch_group_place fault.Line (inherits message) message
-despatch_place fault.Quantity message = despatch_group_place fault.Quantity (inherits message) message
+despatch_place fault.Line message = unit_group_place condition.Line message
+despatch_place fault.Quantity message = unit_group_place condition.Despatched message
 despatch_place fault.Reference message =
-    if has_header_reference_or_none message then despatch_group_place fault.Reference (inherits message) message
+    if has_header_reference_or_none message then unit_group_place (reference_condition (inherits message)) message
     else reference_place message
 despatch_place fault.Unit message = unit_place message
 despatch_place fault.Control message = control_place message
 despatch_place _ message = 1
 
--- there is such a line group
-abbrev pub has_wrong_receipt : MessageFault → List Segment → Bool
-has_wrong_receipt fault [] = false
-has_wrong_receipt fault (segment ∷ rest) = begins_wrong_receipt fault (segment ∷ rest) || has_wrong_receipt fault rest
-
--- the same of a quantity; UNH where each line group is valid, since no one segment shows a sum that is too great
+-- a line group whose quantities are wrong; UNH if each is valid, since no one segment shows a sum that is too great
 abbrev pub receipt_quantity_place : List Segment → ℕ
-receipt_quantity_place message =
-    if has_wrong_receipt fault.Quantity (drop (outside message) message) then receipt_group_place fault.Quantity message else 1
+receipt_quantity_place message = unwrap_or (group_place condition.Received [] (outside message) message) 1
 
 -- the segment that shows each fault of a receiving advice
 abbrev pub receipt_place : MessageFault → List Segment → ℕ
@@ -138,7 +89,7 @@ receipt_place fault.Beginning message = beginning_place message
 receipt_place fault.Function message = 2
 receipt_place fault.Date message = date_place message
 receipt_place fault.Parties message = goods_parties_place message
-receipt_place fault.Line message = receipt_group_place fault.Line message
+receipt_place fault.Line message = unit_group_place condition.Line message
 receipt_place fault.Quantity message = receipt_quantity_place message
 receipt_place fault.Unit message = unit_place message
 receipt_place fault.Control message = control_place message

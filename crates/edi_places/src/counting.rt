@@ -1,20 +1,12 @@
 //! The number of a segment in a list, the first counted as 1.
-ghost use Rattle.std.specs.Prelude.{◌≡◌, ◌≤◌, ◌+◌, IfOk, length};
+ghost use Rattle.std.specs.Prelude.{◌≡◌, ◌≤◌, ◌+◌, length};
 ghost use Rattle.std.specs.List.{list_any};
 ghost use Rattle.edi_envelope.specs.Segments.{has_tag};
 ghost use Rattle.edi_messages.specs.Parts.{is_qualified};
 ghost use Rattle.edi_places.specs.Counting as spec;
 
 use edi_messages::parts::has_qualified;
-use edi_tokens::{MemoryFault, Segment};
-use std::alloc::AllocError;
-
-/// The sum of two numbers of segments. No memory has as many as would be too many to count.
-pub(crate) fn sum(one: usize, other: usize) -> Result<usize, MemoryFault>
-    ensures { IfOk result (λ sum. sum ≡ one + other) }
-{
-    one.checked_add(other).ok_or(AllocError)
-}
+use edi_tokens::Segment;
 
 /// Whether one of the segments has a tag.
 pub(crate) fn has_tag(tag: &[u8; 3], segments: &[Segment]) -> bool
