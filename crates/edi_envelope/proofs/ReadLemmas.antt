@@ -8,7 +8,7 @@ use Rattle.edi_segments.specs.declared.fault.TokenFault.{TokenFault}
 use Rattle.edi_segments.specs.declared.fault.TokenFault.TheVariants as token
 use Rattle.edi_segments.specs.Reading.{tokens_of}
 use Rattle.edi_segments.specs.Machine.{tokens_at}
-use Rattle.edi_tokens.specs.Lender.{AtEnd, Came, Fed, TellsSome, Told, Feeds, Flags, TakesOf, answered, lent_by, room_of, stopped}
+use Rattle.edi_tokens.specs.Lender.{AtEnd, Came, Fed, HasCause, TellsSome, Told, Feeds, Flags, TakesOf, answered, lent_by, room_of, stopped}
 use Rattle.edi_tokens.proofs.Lending.{takes_none, takes_then}
 use Rattle.edi_envelope.specs.declared.opening.Opening.{Opening}
 use Rattle.edi_segments.specs.declared.fault.TokenFault.TheVariants.{TooLong, ServiceString, Byte, Cut, Tag, LongSegment, Read, Memory}
@@ -53,6 +53,18 @@ module _ (before : Option (List ℕ)) (was : Bool) (old : Lender) where
 
     pub ends_then : AtEnd before old → AtEnd after new
     ends_then end = feeds.ends (read.ends end)
+
+    flags_as : (given : Result Bool TokenFault) → result ≡ given → stopped old ≡ None → Flags (answered given new) flag failed
+    flags_as given is begun =
+        subst (λ (r : Result Bool TokenFault). Flags (answered r new) flag failed) is (feeds.flag (read.going begun))
+
+    pub still_flagged : (more : Bool) → result ≡ Ok more → stopped old ≡ None → failed ≡ was
+    still_flagged true is begun = flags_as (Ok true) is begun ∙ read.flag begun
+    still_flagged false is begun = flags_as (Ok false) is begun ∙ read.flag begun
+
+    pub fault_flagged : (fault : TokenFault) → result ≡ Err fault → stopped old ≡ None → HasCause fault was failed
+    fault_flagged fault is begun =
+        subst (λ (flag : Bool). HasCause fault flag failed) (read.flag begun) (flags_as (Err fault) is begun)
 
     pub fault_told : (fault : TokenFault) → result ≡ Err fault
         → (all : List ℕ) → Fed before all [] old → fault ≢ token.Read → tokens_of all ≡ Err fault

@@ -12,6 +12,7 @@ pub mod Lending
 pub mod Settled
 pub mod Segments
 pub mod Spelled
+pub mod Appended
 pub mod Canonical
 pub mod Kept
 pub mod Stopping

@@ -1,7 +1,7 @@
-use Rattle.std.proofs.Common.{Bool, Result, Ok, refl, ap, ◌∙◌}
+use Rattle.std.proofs.Common.{Bool, true, false, Result, Ok, refl, ap, ◌∙◌}
 use Rattle.std.proofs.lemmas.Result.{err_from_is_err_and}
 use Rattle.edi_segments.specs.declared.fault.TokenFault.{TokenFault}
-use Rattle.edi_envelope.proofs.ReadLemmas.{nothing_read, bound_then, fault_told, fault_of_some, end_told, end_of_some, more_read}
+use Rattle.edi_envelope.proofs.ReadLemmas.{nothing_read, bound_then, ends_then, fault_flagged, fault_told, fault_of_some, end_told, end_of_some, more_read, still_flagged}
 use Rattle.edi_tokens.proofs.Stopping.{stays_still, stays_then, stops_by_fault, stops_not}
 use Rattle.edi_envelope.proofs.opening.read.Goals as goal
 
@@ -93,3 +93,39 @@ loop-opening-init g c = record {
   origin = refl;
   stays = stays_still c.args.reader.now c.args.lender.now;
 }
+
+pub returns-in_err-advance-clause-ends : goal.returns-in_err-advance-clause-ends
+returns-in_err-advance-clause-ends g c =
+    ends_then (g.R.Source.remaining c.args.reader.now) (g.R.Source.failed c.args.reader.now) c.args.lender.now _ _ _ _
+    c.loop-opening.lender _ c.loop-opening.opening c.advance.result c.loop-opening.invariant.read c.advance.ensures.feeds
+
+pub returns-in_err-copy-clause-ends : goal.returns-in_err-copy-clause-ends
+returns-in_err-copy-clause-ends g c =
+    ends_then (g.R.Source.remaining c.args.reader.now) (g.R.Source.failed c.args.reader.now) c.args.lender.now _ _ _ _
+    c.loop-opening.lender _ c.loop-opening.opening c.advance.result c.loop-opening.invariant.read c.advance.ensures.feeds
+
+pub returns-clause-ends : goal.returns-clause-ends
+returns-clause-ends g c =
+    ends_then (g.R.Source.remaining c.args.reader.now) (g.R.Source.failed c.args.reader.now) c.args.lender.now _ _ _ _
+    c.loop-opening.lender _ c.loop-opening.opening c.advance.result c.loop-opening.invariant.read c.advance.ensures.feeds
+
+pub returns-in_err-advance-clause-flag : goal.returns-in_err-advance-clause-flag
+returns-in_err-advance-clause-flag g c = λ begun.
+    let p = err_from_is_err_and c.from_residual.result c.from_residual.ensures.1 in
+    rw (p.1, p.2)
+    (fault_flagged (g.R.Source.remaining c.args.reader.now) (g.R.Source.failed c.args.reader.now) c.args.lender.now _ _ _ _
+    c.loop-opening.lender _ c.loop-opening.opening c.advance.result c.loop-opening.invariant.read c.advance.ensures.feeds _ c.in_err-advance.was begun)
+
+pub returns-in_err-copy-clause-flag : goal.returns-in_err-copy-clause-flag
+returns-in_err-copy-clause-flag g c = λ begun.
+    let p = err_from_is_err_and c.from_residual-in_err-copy.result c.from_residual-in_err-copy.ensures.1 in
+    rw (p.1, p.2)
+    (still_flagged (g.R.Source.remaining c.args.reader.now) (g.R.Source.failed c.args.reader.now) c.args.lender.now _ _ _ _
+    c.loop-opening.lender _ c.loop-opening.opening c.advance.result c.loop-opening.invariant.read c.advance.ensures.feeds true
+    (c.in_ok-advance.was ∙ ap said c.if-branch.true) begun)
+
+pub returns-clause-flag : goal.returns-clause-flag
+returns-clause-flag g c = λ begun.
+    still_flagged (g.R.Source.remaining c.args.reader.now) (g.R.Source.failed c.args.reader.now) c.args.lender.now _ _ _ _
+    c.loop-opening.lender _ c.loop-opening.opening c.advance.result c.loop-opening.invariant.read c.advance.ensures.feeds false
+    (c.in_ok-advance.was ∙ ap said c.if-branch.false) begun
