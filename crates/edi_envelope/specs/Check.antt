@@ -29,7 +29,7 @@ use Rattle.edi_envelope.specs.Message.{is_frame, is_counted, is_closed, referenc
 use Rattle.edi_envelope.specs.Reference.{kept}
 use Rattle.edi_envelope.specs.Interchange.{is_framed, is_outside_set, has_high_data, fault_of}
 
--- a segment that stands at an end of the interchange alone
+-- a segment that is allowed only at an end of the interchange
 abbrev pub is_outer : Segment → Bool
 is_outer segment = is_unb segment || is_unz segment
 
@@ -47,7 +47,7 @@ has_identity unh =
 abbrev pub has_count : List Segment → Bool
 has_count block = is_count (component (last_segment block) 0 0)
 
--- whether messages and nothing else follow, where one is begun or none is
+-- whether messages and nothing else follow, by whether one has begun
 abbrev pub follows : Bool → List Segment → Bool
 follows false [] = true
 follows false (segment ∷ rest) = is_unh segment && follows true rest
@@ -79,7 +79,7 @@ pub record Trails (messages : List (List Segment)) (trailers : Trailers) : Type 
   pub closed : list_all (λ message. has_identity (first_segment message)) messages ≡ true
       → trailers.closed ≡ list_all is_closed messages
 
--- after UNB, with neither UNB nor UNZ behind it
+-- after UNB, with neither another UNB nor UNZ so far
 pub record Fronted (lent : List Segment) (header : HeaderMarks) : Type 0 where
   pub begins : is_unb (first_segment lent) ≡ true
   pub alone : list_any is_outer (drop 1 lent) ≡ false
@@ -109,7 +109,7 @@ pub record IsInMessage (lent : List Segment) (check : EnvelopeCheck) (begun : Be
   pub count : begun.count ≡ length (unh ∷ body)
   pub reference : begun.reference ≡ kept (component unh 0 0)
 
--- between UNB and UNZ stands something else than messages
+-- something other than messages comes between UNB and UNZ
 pub record IsLost (lent : List Segment) (check : EnvelopeCheck) : Type 0 where
   pub fronted : Fronted lent check.header
   pub row : (more : List Segment) → follows false (drop 1 lent ++ more) ≡ false
@@ -142,7 +142,7 @@ StandsAt Broken lent check = IsBroken lent
 abbrev pub Checked : List Segment → EnvelopeCheck → Type 0
 Checked lent check = StandsAt check.stage lent check
 
--- no fault is sure of the UNH, of the UNT, and of both with UNB and the bytes so far
+-- no fault of the UNH, of the UNT, and of both with UNB and the bytes so far is certain
 abbrev pub are_heads_sound : Headers → Bool
 are_heads_sound headers = headers.identified && not headers.twice && nat_le headers.messages 999
 
@@ -163,7 +163,7 @@ is_fine_at (Ended None) check = true
 is_fine_at (Ended (Some fault)) check = false
 is_fine_at Broken check = false
 
--- no fault is sure
+-- no fault is certain
 abbrev pub is_fine : EnvelopeCheck → Bool
 is_fine check = is_fine_at check.stage check
 
@@ -175,7 +175,7 @@ IsGoingOn lent = (0 < length lent) × (is_unz (last_segment lent) ≡ false)
 abbrev pub IsBegun : List Segment → Type 0
 IsBegun lent = (list_any is_unh (drop 1 lent) ≡ true) × (is_unt (last_segment lent) ≡ false)
 
--- where a segment stands after those that have come, of which none is UNZ
+-- the position of a segment after those that have come, of which none is UNZ
 abbrev pub Placed : Place → List Segment → Segment → Type 0
 Placed place.Refused lent segment = Unit {0}
 Placed place.Header lent segment = (lent ≡ []) × (is_unb segment ≡ true) × (is_valid_header segment ≡ true)
@@ -207,7 +207,7 @@ marks_at check unz = record {
   character_set = check.outside || (check.header.seven_bit && has_high_data unz);
 }
 
--- the fault of what is no row of messages
+-- the fault of what is not a row of messages
 abbrev pub lost_fault : HeaderMarks → EnvelopeFault
 lost_fault header = if header.taken then MessageFrame else InterchangeHeader
 

@@ -8,7 +8,7 @@ use Rattle.edi_envelope.specs.declared.fault.EnvelopeFault.TheVariants.{ControlR
 use Rattle.edi_envelope.specs.declared.fault.EnvelopeFault.TheVariants.{TestIndicator, TooManyMessages, CharacterSet}
 use Rattle.edi_envelope.specs.declared.fault.EnvelopeFault.TheVariants.{Memory}
 
--- the number of a condition; out of memory is no condition
+-- the number of a condition; out of memory is not a condition
 abbrev pub number : EnvelopeFault → ℕ
 number InterchangeFrame = 6
 number InterchangeHeader = 7

@@ -23,12 +23,12 @@ use Rattle.edi_envelope.specs.Header.{head_of}
 use Rattle.edi_envelope.specs.Blocks.{blocks}
 use Rattle.edi_envelope.specs.Message.{message_of}
 
--- what the first of them says, where there is one
+-- what the first of them says, if there is one
 abbrev pub head_in : List Segment → Option Head
 head_in [] = None
 head_in (unb ∷ rest) = Some (head_of unb)
 
--- UNH and what stands behind it; nothing, where no UNH has come
+-- UNH and what follows it; nothing if no UNH has come
 abbrev pub IsLast : List Segment → List Segment → Type 0
 IsLast before [] = before ≡ []
 IsLast before (unh ∷ rest) = (is_unh unh ≡ true) × (list_any is_unh rest ≡ false)
@@ -47,7 +47,7 @@ pub record Whole (lent : List Segment) (gathered : Gathered) : Type 0 where
   pub last : gathered.last.items ≡ []
   pub messages : gathered.messages.items ≡ map message_of (blocks (drop 1 lent))
 
--- the same, where UNZ is the last segment
+-- the messages before UNZ, which is the last segment
 pub record Ends (lent : List Segment) (gathered : Gathered) : Type 0 where
   pub head : gathered.head ≡ head_in lent
   pub messages : gathered.messages.items ≡ map message_of (messages_in lent)
@@ -63,7 +63,7 @@ pub record IsOf (gathered : Gathered) (decimal : ℕ) (interchange : Interchange
   pub head : gathered.head ≡ Some interchange.head
   pub messages : interchange.messages ≡ gathered.messages.items
 
--- the check of segments, and what is kept of them as long as no fault is sure
+-- the check of segments, and what is kept of them as long as no fault is certain
 pub record Stands (lent : List Segment) (opening : Opening) : Type 0 where
   pub checked : Checked lent opening.check
   pub kept : is_fine opening.check ≡ true → Gathers lent opening.gathered
@@ -73,21 +73,21 @@ abbrev pub IsChecked : Result Interchange EnvelopeFault → Result Interchange E
 IsChecked (Ok interchange) given = given ≡ Ok interchange
 IsChecked (Err fault) given = given ≡ Err fault
 
--- of a text all segments are opened, or its token fault is told, or a read failed, or memory ran out
+-- all segments of a text are opened, or its token fault is reported, or a read failed, or memory ran out
 abbrev pub Reads : Option (List ℕ) → Lender → Result Opening OpenFault → Lender → Type 0
 Reads known old (Ok opening) new =
     (lent : List Segment) × Stands lent opening × ((all : List ℕ) → Fed known all [] old → tokens_of all ≡ Ok (tokens_at lent new.machine))
 Reads known old (Err (Token fault)) new = (all : List ℕ) → Fed known all [] old → fault ≢ token.Read → tokens_of all ≡ Err fault
 Reads known old (Err (Envelope fault)) new = fault ≡ envelope.Memory
 
--- the same of some text, where no bytes of the reader are known
+-- for some text, if no bytes of the reader are known
 abbrev pub ReadsSome : Lender → Result Opening OpenFault → Lender → Type 0
 ReadsSome old (Ok opening) new =
     Came [] old → (lent : List Segment) × Stands lent opening × ((all : List ℕ) × (tokens_of all ≡ Ok (tokens_at lent new.machine)))
 ReadsSome old (Err (Token fault)) new = Came [] old → fault ≢ token.Read → (all : List ℕ) × (tokens_of all ≡ Err fault)
 ReadsSome old (Err (Envelope fault)) new = fault ≡ envelope.Memory
 
--- a failed read is told where the reader's flag is up, and else the flag stays; no token fault is out of memory
+-- a failed read is reported if the reader's flag is up, and otherwise the flag stays; no token fault is out of memory
 abbrev pub Flagged : {X : Type 0} → Result X OpenFault → Bool → Bool → Type 0
 Flagged (Ok x) old new = new ≡ old
 Flagged (Err (Token fault)) old new = HasCause fault old new

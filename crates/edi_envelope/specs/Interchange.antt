@@ -26,11 +26,11 @@ is_framed segments =
     is_unb (first_segment segments) && is_unz (last_segment segments)
     && not (list_any (λ segment. is_unb segment || is_unz segment) (between segments))
 
--- the segments of each message: what stands between UNB and UNZ, cut before each UNH
+-- the segments of each message: what comes between UNB and UNZ, cut before each UNH
 abbrev pub messages_in : List Segment → List (List Segment)
 messages_in segments = blocks (between segments)
 
--- between UNB and UNZ stand messages and nothing else
+-- messages and nothing else come between UNB and UNZ
 unfoldable pub is_row_of_messages : List Segment → Bool
 is_row_of_messages segments =
     (length (before_message (between segments)) == 0) && list_all is_block (messages_in segments)
@@ -46,7 +46,7 @@ has_high_data segment = list_any (list_any has_high) segment.elements
 unfoldable pub is_outside_set : List Segment → Bool
 is_outside_set segments = is_seven_bit_set (first_segment segments) && list_any has_high_data segments
 
--- Each condition, of all segments of the interchange. Each is defined also where another one holds.
+-- Each condition, of all segments of the interchange. Each is defined even if another one holds.
 abbrev pub holds : EnvelopeFault → List Segment → Bool
 holds InterchangeFrame segments = not (is_framed segments)
 holds InterchangeHeader segments = not (is_valid_header (first_segment segments))

@@ -11,6 +11,6 @@ is_seven_bit b = nat_le b 126
 abbrev pub is_reference : List ℕ → Bool
 is_reference bytes = has_length 1 14 bytes && list_all is_printable bytes
 
--- a part of the message identifier: so many bytes, none past 0x7E
+-- a part of the message identifier: as many bytes as are allowed, none past 0x7E
 abbrev pub is_identifier : ℕ → ℕ → List ℕ → Bool
 is_identifier low high bytes = has_length low high bytes && list_all is_seven_bit bytes

@@ -12,7 +12,7 @@ use Rattle.edi_moment.specs.Moment.{date_text, time_text}
 abbrev pub last_number : ℕ
 last_number = 99_999_999_999_999
 
--- the elements, where the first component of one is `1`; where there is none, they stay
+-- the elements with `1` as the first component of one; if there is no such component, they stay
 abbrev pub with_one : List (List (List ℕ)) → ℕ → List (List (List ℕ))
 with_one elements place = slice_set elements place (slice_set (element_at elements place) 0 (codes "1"))
 

@@ -8,7 +8,7 @@ use Rattle.edi_envelope.specs.Segments.{is_unh, is_unt, is_ung, is_une, componen
 use Rattle.edi_base.specs.Limits.{is_count, is_count_of}
 use Rattle.edi_envelope.specs.Limits.{is_reference, is_identifier}
 
--- a segment that may not stand between UNH and UNT
+-- a segment that is not allowed between UNH and UNT
 abbrev pub is_frame : Segment → Bool
 is_frame segment = is_unh segment || is_unt segment || is_ung segment || is_une segment
 

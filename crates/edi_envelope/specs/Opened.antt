@@ -21,7 +21,7 @@ abbrev pub read_as : Result Tokens TokenFault → Result Interchange OpenFault
 read_as (Ok tokens) = checked_as (interchange_of tokens)
 read_as (Err fault) = Err (Token fault)
 
--- the interchange of a text, or its fault; a token fault goes before an envelope fault
+-- the interchange of a text, or its fault; a token fault is reported rather than an envelope fault
 abbrev pub opened : List ℕ → Result Interchange OpenFault
 opened bytes = read_as (tokens_of bytes)
 

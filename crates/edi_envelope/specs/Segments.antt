@@ -28,11 +28,11 @@ is_ung = has_tag (codes "UNG")
 abbrev pub is_une : Segment → Bool
 is_une = has_tag (codes "UNE")
 
--- a component of a segment, element and place counted from 0: empty where it is absent
+-- a component of a segment, element and place counted from 0: empty if it is absent
 abbrev pub component : Segment → ℕ → ℕ → List ℕ
 component segment element place = component_at segment.elements element place
 
--- what stands where no segment does
+-- what is found at a place without a segment
 abbrev pub no_segment : Segment
 no_segment = record { tag = []; elements = [] }
 
@@ -42,6 +42,6 @@ first_segment segments = slice_index_or segments 0 no_segment
 abbrev pub last_segment : List Segment → Segment
 last_segment segments = slice_index_or segments (length segments - 1) no_segment
 
--- what stands between the first and the last
+-- what comes between the first and the last
 abbrev pub between : List Segment → List Segment
 between segments = drop 1 (take (length segments - 1) segments)

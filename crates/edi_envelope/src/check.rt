@@ -1,4 +1,5 @@
-//! The check of an interchange's envelope: it takes the segments one after another, and knows at the end which fault they have.
+//! Checks the envelope of an interchange: it takes the segments one after another, and knows at the end which fault
+//! they have.
 
 ghost use Rattle.std.specs.Prelude.{◌≡◌, ◌↔◌, ◌∷◌, ◌++◌, ◌&&◌, ◌||◌, true, false, List, [], None, IsTrue, IfOk, OnOk, OnErr};
 ghost use Rattle.std.specs.List.{list_any};
@@ -19,10 +20,10 @@ use edi_base::is_count_of;
 use edi_tokens::{MemoryFault, SegmentRef};
 use std::alloc::Global;
 
-/// The messages of an interchange are at most so many.
+/// The most messages of an interchange.
 const MOST_MESSAGES: usize = 999;
 
-/// Where a segment stands in an interchange.
+/// The position of a segment in an interchange.
 #[derive(Clone, Copy, Debug, PartialEq, Eq)]
 pub enum Place {
     /// The interchange header UNB.
@@ -35,7 +36,7 @@ pub enum Place {
     MessageTrailer,
     /// The interchange trailer UNZ.
     Trailer,
-    /// A fault is sure: there is no interchange, whatever follows.
+    /// A fault is certain: there is no interchange, whatever follows.
     Refused,
 }
 
@@ -48,7 +49,7 @@ pub(crate) enum Stage {
     Between,
     /// More of a message.
     Message(Begun),
-    /// UNZ at some time; what stands before it is no row of messages.
+    /// A UNZ comes at some time, but what comes before it is not a row of messages.
     Lost,
     /// Nothing; the interchange has this fault.
     Ended(Option<EnvelopeFault>),
@@ -56,7 +57,7 @@ pub(crate) enum Stage {
     Broken,
 }
 
-/// Which conditions hold where UNB, messages and UNZ stand in their order: E07 and E11 to E19.
+/// Which conditions hold if UNB, messages and UNZ come in their order: E07 and E11 to E19.
 #[derive(Clone, Copy)]
 pub(crate) struct Marks {
     interchange_header: bool,
@@ -76,7 +77,7 @@ pub(crate) struct Marks {
 pub struct EnvelopeCheck {
     stage: Stage,
     header: HeaderMarks,
-    /// A byte from 0xA0 on stands in data under UNOA or UNOB.
+    /// Data under UNOA or UNOB has a byte of 0xA0 or above.
     outside: bool,
     headers: Headers,
     trailers: Trailers,
@@ -120,7 +121,7 @@ fn has_tag(segment: &SegmentRef<'_>, tag: &[u8; 3]) -> bool
     segment.tag() == *tag
 }
 
-// The fault with the lowest number, of those that are marked.
+// Returns the fault with the lowest number, of those that are marked.
 fn lowest(marks: Marks) -> Option<EnvelopeFault>
     ensures { result ≡ lowest_of marks }
 {
@@ -171,7 +172,7 @@ impl EnvelopeCheck {
         self.outside || (self.header.seven_bit && has_high_data(segment))
     }
 
-    // The first segment.
+    // Takes the first segment.
     fn at_start(&mut self, segment: &SegmentRef<'_>) -> Place
         requires { self.old.stage ≡ Stage.Start }
         ensures { Steps self.old result (segment_in segment.now) self.new }
@@ -187,7 +188,7 @@ impl EnvelopeCheck {
         Place::Header
     }
 
-    // Which conditions hold where UNZ comes between messages.
+    // Returns which conditions hold once UNZ comes after a message.
     fn marks(&self, unz: &SegmentRef<'_>) -> Marks
         ensures { result ≡ marks_at self.now (segment_in unz.now) }
     {
@@ -205,7 +206,7 @@ impl EnvelopeCheck {
         }
     }
 
-    // A segment where a message or UNZ may stand.
+    // Takes a segment at which a message or UNZ may begin.
     fn between(&mut self, segment: &SegmentRef<'_>) -> Result<Place, MemoryFault>
         requires { self.old.stage ≡ Stage.Between }
         ensures { IfOk result (λ place. Steps self.old place (segment_in segment.now) self.new) }
@@ -234,7 +235,7 @@ impl EnvelopeCheck {
         Ok(Place::MessageHeader)
     }
 
-    // The fault of an interchange that is no row of messages.
+    // Returns the fault of an interchange that is not a row of messages.
     fn lost_fault(&self) -> EnvelopeFault
         ensures { result ≡ lost_fault self.now.header }
     {
@@ -245,7 +246,7 @@ impl EnvelopeCheck {
         }
     }
 
-    // A segment where a message is begun.
+    // Takes a segment of a message that has begun.
     fn in_message(&mut self, begun: Begun, segment: &SegmentRef<'_>) -> Result<Place, MemoryFault>
         requires { self.old.stage ≡ Stage.Message begun }
         ensures { IfOk result (λ place. Steps self.old place (segment_in segment.now) self.new) }
@@ -278,7 +279,7 @@ impl EnvelopeCheck {
         Ok(Place::Inside)
     }
 
-    // A segment after what is no row of messages.
+    // Takes a segment after what is not a row of messages.
     fn when_lost(&mut self, segment: &SegmentRef<'_>)
         requires { self.old.stage ≡ Stage.Lost }
         ensures { Steps self.old Place.Refused (segment_in segment.now) self.new }
@@ -294,7 +295,7 @@ impl EnvelopeCheck {
         }
     }
 
-    // The next segment, and where it stands as far as no fault is sure.
+    // Takes the next segment. Returns its position, as long as no fault is certain.
     fn step(&mut self, segment: &SegmentRef<'_>) -> Result<Place, MemoryFault>
         ensures { IfOk result (λ place. Steps self.old place (segment_in segment.now) self.new) }
     {
@@ -313,7 +314,7 @@ impl EnvelopeCheck {
         }
     }
 
-    // Whether no fault is sure of the headers, the trailers and the bytes so far.
+    // Whether no fault of the headers, the trailers and the bytes so far is certain.
     fn is_sound(&self) -> bool
         ensures { result ≡ is_sound self.now }
     {
@@ -328,7 +329,7 @@ impl EnvelopeCheck {
             && self.trailers.closed
     }
 
-    // Whether no fault is sure.
+    // Whether no fault is certain.
     fn is_fine(&self) -> bool
         ensures { result ≡ is_fine self.now }
     {
@@ -340,8 +341,8 @@ impl EnvelopeCheck {
         }
     }
 
-    /// Takes the next segment, and says where it stands. Once a fault is sure, each segment is refused, and only `fault`
-    /// says at the end which one it is. Where memory ran out, each segment is refused from then on.
+    /// Takes the next segment, and returns its position. Once a fault is certain, each segment is refused, and only
+    /// `fault` says at the end which one it is. If memory runs out, each segment is refused from then on.
     pub fn next(&mut self, segment: &SegmentRef<'_>) -> Result<Place, MemoryFault>
         ensures checked { (lent : List Segment) → Checked lent self.old →
             OnOk result (Checked (lent ++ segment_in segment.now ∷ []) self.new) }
@@ -366,7 +367,7 @@ impl EnvelopeCheck {
         Ok(place)
     }
 
-    /// The fault of the segments that have come, where no more follow.
+    /// Returns the fault of the segments that have come, if no more follow.
     pub fn fault(&self) -> Option<EnvelopeFault>
         ensures fault { (lent : List Segment) → Checked lent self.now → fault_of lent ≡ result }
         ensures fine { result ≡ None → is_fine self.now ≡ true }

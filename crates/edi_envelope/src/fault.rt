@@ -8,11 +8,11 @@ use std::fmt;
 /// Why an interchange is refused. Each variant but the last is one condition, with the code that is printed for it.
 #[derive(Clone, Copy, Debug, PartialEq, Eq)]
 pub enum EnvelopeFault {
-    /// E06: the first segment is not UNB, the last is not UNZ, or one of them stands elsewhere.
+    /// E06: the first segment is not UNB, the last is not UNZ, or one of them comes anywhere else.
     InterchangeFrame,
     /// E07: UNB's syntax, partners, date, time, control reference or test indicator.
     InterchangeHeader,
-    /// E10: between UNB and UNZ stands something else than messages, UNH to UNT.
+    /// E10: something other than messages, UNH to UNT, comes between UNB and UNZ.
     MessageFrame,
     /// E11: UNH's reference or message identifier, or UNT's count, is outside its limits.
     MessageHeader,
@@ -39,7 +39,7 @@ pub enum EnvelopeFault {
 impl EnvelopeFault {
     ghost use Rattle.edi_envelope.specs.Fault.{code_text};
 
-    /// The code that is printed, as `E12`; `memory` for out of memory.
+    /// Returns the code that is printed, as `E12`; `memory` for out of memory.
     pub fn code(self) -> &'static str
         ensures { result.now ≡ code_text self }
     {
@@ -96,7 +96,7 @@ impl<T: Drop> From<AllocFailed<T>> for EnvelopeFault {
     }
 }
 
-/// Why a text is no interchange.
+/// Why a text is not an interchange.
 #[derive(Clone, Copy, Debug, PartialEq, Eq)]
 pub enum OpenFault {
     /// The text spells no segments, or the reader failed.
@@ -108,7 +108,7 @@ pub enum OpenFault {
 impl OpenFault {
     ghost use Rattle.edi_envelope.specs.Opened.{code_text};
 
-    /// The code that is printed, as `E12`; `read` for a reader that failed and `memory` for out of memory.
+    /// Returns the code that is printed, as `E12`; `read` for a reader that failed and `memory` for out of memory.
     pub fn code(self) -> &'static str
         ensures { result.now ≡ code_text self }
     {

@@ -1,4 +1,4 @@
-//! What is kept of an interchange while its segments come.
+//! Keeps the messages of an interchange while its segments come.
 
 ghost use Rattle.std.specs.Prelude.{◌≡◌, ◌≢◌, ◌∷◌, ◌++◌, List, [], None, IsTrue, OnOk, MatchOption};
 ghost use Rattle.edi_segments.specs.declared.segment.Segment.{Segment};
@@ -49,7 +49,7 @@ impl Gathered {
         Ok(())
     }
 
-    /// Ends the last message, where UNZ has come.
+    /// Ends the last message, once UNZ has come.
     pub(crate) fn end(&mut self, alloc: Global) -> Result<(), MemoryFault>
         ensures { (lent : List Segment) (unz : Segment) → Gathers lent self.old →
             Placed Place.Trailer lent unz →
@@ -58,7 +58,7 @@ impl Gathered {
         self.close(alloc)
     }
 
-    /// Takes one more segment, which stands at this place. Where it is refused, all is dropped.
+    /// Takes one more segment, which has this position. If it is refused, all is dropped.
     pub(crate) fn keep(
         &mut self,
         alloc: Global,
@@ -83,7 +83,7 @@ impl Gathered {
         Ok(())
     }
 
-    /// The interchange, where UNB has come.
+    /// Returns the interchange, if UNB has come.
     pub(crate) fn interchange(self, decimal: u8) -> Option<Interchange>
         ensures { MatchOption result (self.head ≡ None) (IsOf self decimal) }
     {

@@ -62,7 +62,7 @@ fn is_valid_header(unb: &SegmentRef<'_>) -> bool
 /// What UNB says of the interchange's fault.
 #[derive(Clone, Copy)]
 pub(crate) struct HeaderMarks {
-    /// It is as it is taken.
+    /// The value as it is.
     pub taken: bool,
     /// The test indicator is `1`.
     pub test: bool,
@@ -96,7 +96,7 @@ impl HeaderMarks {
     }
 }
 
-// The bytes as an array.
+// Returns the bytes as an array.
 fn array_of<const N: usize>(bytes: &[u8]) -> [u8; N]
     requires { length bytes.now ≡ N }
     ensures { result ≡ bytes.now }
@@ -116,7 +116,7 @@ fn take_first(elements: &mut Vec<Items<Items<u8>>>, place: usize) -> Items<u8>
     components.remove(0)
 }
 
-/// What UNB says. Partners and control reference are moved out of it.
+/// Returns what UNB says. Partners and control reference are moved out of it.
 pub(crate) fn head_of(unb: Segment) -> Head
     requires { IsTrue (spec.is_valid_header unb) }
     ensures { result ≡ spec.head_of unb }

@@ -43,6 +43,6 @@ pub struct Interchange {
     pub decimal: u8,
     /// What UNB says.
     pub head: Head,
-    /// The messages, none where UNZ follows UNB.
+    /// The messages, none if UNZ follows UNB.
     pub messages: Items<RawMessage>,
 }

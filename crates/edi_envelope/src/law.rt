@@ -5,9 +5,9 @@ ghost use Rattle.edi_envelope.specs.declared.interchange.Interchange.{Interchang
 ghost use Rattle.edi_envelope.specs.Interchange.{interchange_of};
 ghost use Rattle.edi_envelope.specs.Law.{IsLowest, IsFaultless, IsInterchange};
 
-/// A law of the definition that `open` answers: segments have a fault exactly where its condition holds and none with
-/// a lower number does. They are an interchange exactly where no condition holds and they are UNB, its messages joined
-/// in their order, and UNZ.
+/// A law of the definition that `open` answers: segments have a fault exactly if its condition holds and none with a
+/// lower number does. They are an interchange exactly if no condition holds and they are UNB, its messages joined in
+/// their order, and UNZ.
 pub fn lowest_condition()
     ensures fault { (tokens : Tokens) (fault : EnvelopeFault) →
         (interchange_of tokens ≡ Err fault) ↔ IsLowest fault tokens.segments }

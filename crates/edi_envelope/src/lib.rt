@@ -1,4 +1,5 @@
-//! The envelope of an interchange, UNB to UNZ, and of each message in it, UNH to UNT (ISO 9735, syntax version 3).
+//! Reads and checks the envelope of an interchange, UNB to UNZ, and of each message in it, UNH to UNT (ISO 9735, syntax
+//! version 3).
 #![tactic(auto)]
 
 mod check;

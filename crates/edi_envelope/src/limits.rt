@@ -18,7 +18,7 @@ pub(crate) fn is_reference(bytes: &[u8]) -> bool
     has_length(1, 14, bytes) && all_printable(bytes)
 }
 
-/// Whether these are so many bytes, none past 0x7E.
+/// Whether the number of bytes is within these limits, and none is past 0x7E.
 pub(crate) fn is_identifier(low: usize, high: usize, bytes: &[u8]) -> bool
     ensures { result ≡ spec.is_identifier low high bytes.now }
 {

@@ -14,7 +14,7 @@ use std::array;
 /// The greatest number of a mail text: 14 digits, as many as a control reference has.
 pub const LAST_MAIL_NUMBER: u64 = 99_999_999_999_999;
 
-// A copy of an element.
+// Returns a copy of an element.
 fn copied_element(alloc: Global, components: &[Items<u8>]) -> Result<Items<Items<u8>>, MemoryFault>
     ensures { IfOk result (λ copy. copy ≡ components.now) }
 {
@@ -25,7 +25,7 @@ fn copied_element(alloc: Global, components: &[Items<u8>]) -> Result<Items<Items
     Ok(copy)
 }
 
-// A copy of elements.
+// Returns a copy of elements.
 fn copied_elements(alloc: Global, elements: &[Items<Items<u8>>]) -> Result<Elements, MemoryFault>
     ensures { IfOk result (λ copy. copy ≡ elements.now) }
 {
@@ -36,7 +36,7 @@ fn copied_elements(alloc: Global, elements: &[Items<Items<u8>>]) -> Result<Eleme
     Ok(copy)
 }
 
-// An element of two components.
+// Returns an element of two components.
 fn pair(alloc: Global, first: &[u8], second: &[u8]) -> Result<Items<Items<u8>>, MemoryFault>
     ensures { IfOk result (λ element. element ≡ first.now ∷ second.now ∷ []) }
 {
@@ -46,7 +46,7 @@ fn pair(alloc: Global, first: &[u8], second: &[u8]) -> Result<Items<Items<u8>>, 
     Ok(element)
 }
 
-// An element of one component.
+// Returns an element of one component.
 fn single(alloc: Global, only: &[u8]) -> Result<Items<Items<u8>>, MemoryFault>
     ensures { IfOk result (λ element. element ≡ only.now ∷ []) }
 {
@@ -91,7 +91,7 @@ fn trailer(alloc: Global, reference: &[u8]) -> Result<Segment, MemoryFault>
     })
 }
 
-// The elements, with `1` as the first component of the element at a place.
+// Returns the elements, with `1` as the first component of the element at a place.
 fn numbered_elements(
     alloc: Global,
     elements: Elements,
@@ -110,7 +110,7 @@ fn numbered_elements(
     Ok(Items::from_vec(elements))
 }
 
-// A copy of a segment, with `1` as the message reference number of UNH and UNT.
+// Returns a copy of a segment, with `1` as the message reference number of UNH and UNT.
 fn numbered_segment(alloc: Global, segment: &Segment) -> Result<Segment, MemoryFault>
     ensures { IfOk result (λ numbered. numbered ≡ renumbered segment.now) }
 {
@@ -126,9 +126,9 @@ fn numbered_segment(alloc: Global, segment: &Segment) -> Result<Segment, MemoryF
     })
 }
 
-/// The segments of the hub's interchange to a supplier that carries one message: UNB from `hub` to `owner` (GLNs of
-/// 13 digits) with date and time of `moment` at UTC and `number` as control reference, the message with the message
-/// reference number `1`, and UNZ. Written after a service string they are the mail text. Fails only for memory.
+/// Returns the segments of the hub's interchange to a supplier that carries one message: UNB from `hub` to `owner`
+/// (GLNs of 13 digits) with date and time of `moment` at UTC and `number` as control reference, the message with the
+/// message reference number `1`, and UNZ. Written after a service string they are the mail text. Fails only for memory.
 pub fn wrap(
     alloc: Global,
     hub: &[u8; 13],
@@ -168,8 +168,8 @@ fn put_numbered(alloc: Global, out: &mut Vec<u8>, segment: &Segment) -> Result<(
     Ok(())
 }
 
-/// The canonical text of a message from UNH to UNT, with the message reference number `1` in both, as it stands in a
-/// mailbox. Fails only for memory.
+/// Returns the canonical text of a message from UNH to UNT, with the message reference number `1` in both, as a mailbox
+/// has it. Fails only for memory.
 pub fn mail_message_text(alloc: Global, message: &RawMessage) -> Result<Items<u8>, MemoryFault>
     ensures { IfOk result (λ body. body ≡ text (map renumbered message.now.segments)) }
 {

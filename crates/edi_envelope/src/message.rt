@@ -10,7 +10,7 @@ use edi_base::copied;
 use edi_tokens::{Items, MemoryFault, Segment, SegmentRef};
 use std::alloc::Global;
 
-// A component of the first segment, element and place counted from 0.
+// Returns a component of the first segment, element and place counted from 0.
 fn first_component(segments: &[Segment], element: usize, place: usize) -> &[u8]
     ensures { result.now ≡ component (first_segment segments.now) element place }
 {
@@ -20,7 +20,7 @@ fn first_component(segments: &[Segment], element: usize, place: usize) -> &[u8]
     }
 }
 
-/// Whether a segment may not stand between UNH and UNT.
+/// Whether a segment is not allowed between UNH and UNT.
 pub(crate) fn is_frame(segment: &SegmentRef<'_>) -> bool
     ensures { result ≡ spec.is_frame (segment_in segment.now) }
 {
@@ -28,7 +28,7 @@ pub(crate) fn is_frame(segment: &SegmentRef<'_>) -> bool
     tag == *b"UNH" || tag == *b"UNT" || tag == *b"UNG" || tag == *b"UNE"
 }
 
-// The message reference number in UNH.
+// Returns the message reference number in UNH.
 fn reference_of(block: &[Segment]) -> &[u8]
     ensures { result.now ≡ spec.reference_of block.now }
 {
@@ -47,7 +47,7 @@ pub(crate) fn has_identity(unh: &SegmentRef<'_>) -> bool
         && limits::is_identifier(0, 6, unh.component(1, 4))
 }
 
-/// The message of a block, whose segments it takes.
+/// Returns the message of a block, whose segments it takes.
 pub(crate) fn message_of(alloc: Global, block: Items<Segment>) -> Result<RawMessage, MemoryFault>
     ensures { IfOk result (λ message. message ≡ spec.message_of block) }
 {

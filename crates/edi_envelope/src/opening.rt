@@ -1,4 +1,4 @@
-//! Opening an interchange: its segments are checked as they come, and kept as long as no fault is sure.
+//! Opens an interchange: checks its segments as they come, and keeps them as long as no fault is certain.
 
 ghost use Rattle.std.specs.Prelude.{◌≡◌, ◌≢◌, ◌≤◌, ◌∷◌, ◌++◌, ℕ, List, [], length, None, Ok, Err, IfOk, IfErr, OnOk};
 ghost use Rattle.edi_segments.specs.declared.segment.Segment.{Segment};
@@ -43,7 +43,7 @@ impl Opening {
         self.gathered.keep(alloc, place, segment)
     }
 
-    // Takes the next segment, which is copied where it is kept.
+    // Takes the next segment, which is copied if it is kept.
     fn copy(&mut self, alloc: Global, segment: &SegmentRef<'_>) -> Result<(), MemoryFault>
         ensures { (lent : List Segment) → Stands lent self.old →
             OnOk result (Stands (lent ++ segment_in segment.now ∷ []) self.new) }
@@ -59,7 +59,7 @@ impl Opening {
         }
     }
 
-    // The interchange, or its fault.
+    // Returns the interchange, or its fault.
     fn finish(self, decimal: u8) -> Result<Interchange, EnvelopeFault>
         ensures { (tokens : Tokens) → Stands tokens.segments self → tokens.service.decimal ≡ decimal →
             IsChecked result (spec.interchange_of tokens) }
@@ -74,8 +74,8 @@ impl Opening {
     }
 }
 
-/// The interchange of the segments of a text, which are moved into it (ISO 9735, structures), or the fault with the
-/// lowest number that they have anywhere. After a refusal they are gone.
+/// Returns the interchange of the segments of a text, which are moved into it (ISO 9735, structures), or the fault with
+/// the lowest number that they have anywhere. After a refusal they are gone.
 pub fn open(alloc: Global, tokens: Tokens) -> Result<Interchange, EnvelopeFault>
     ensures interchange { IfOk result (λ interchange. spec.interchange_of tokens ≡ Ok interchange) }
     ensures few { IfOk result (λ interchange. length interchange.messages ≤ 999) }
@@ -108,25 +108,26 @@ fn read<R: Source>(alloc: Global, lender: &mut Lender, reader: &mut R) -> Result
     Ok(opening)
 }
 
-/// The interchange of a text whose segments are lent one after another as a reader is read (ISO 9735, structures), or its
-/// fault. It reads to the end, so that a token fault goes before an envelope fault. Once a fault is sure nothing is kept.
+/// Returns the interchange of a text whose segments are lent one after another as a reader is read (ISO 9735,
+/// structures), or its fault. It reads to the end, so that a token fault is reported rather than an envelope fault.
+/// Once a fault is certain, nothing is kept.
 pub fn open_lent<R: Source>(
     alloc: Global,
     lender: &mut Lender,
     reader: &mut R,
 ) -> Result<Interchange, OpenFault>
-    // Of a text of which nothing was lent.
+    // The lender must not have lent anything yet.
     ensures interchange { (all : List ℕ) → Fed (R.remaining reader.old) all [] lender.old →
         Opens result (opened all) }
-    // Whatever is known of the reader, of some text.
+    // If nothing is known about the reader: holds for some text.
     ensures some { Came [] lender.old → (all : List ℕ) × Opens result (opened all) }
     ensures few { IfOk result (λ interchange. length interchange.messages ≤ 999) }
-    // A failed read is told where the reader answered an error, and else its flag stays.
+    // A failed read is reported only if the reader failed. Otherwise its flag stays.
     ensures flag { stopped lender.old ≡ None → Flagged result (R.failed reader.old) (R.failed reader.new) }
     ensures bound { TakesOf (R.remaining reader.old) (R.remaining reader.new)
         (room_of lender.old) (room_of lender.new) }
     ensures ends { AtEnd (R.remaining reader.old) lender.old → AtEnd (R.remaining reader.new) lender.new }
-    // The lender stops with the fault that it told, and after any other answer goes on.
+    // The lender stops with the fault that it reports, and continues after any other answer.
     ensures stops { Stops R.remaining (token_told result) reader.old lender.old reader.new lender.new }
     ensures origin { R.origin reader.new ≡ R.origin reader.old }
 {
@@ -135,7 +136,7 @@ pub fn open_lent<R: Source>(
     Ok(interchange)
 }
 
-/// The same of a feeder's text.
+/// Like `open_lent`, for a `Feeder`.
 pub fn open_feed<R: Source>(alloc: Global, feeder: &mut Feeder<R>) -> Result<Interchange, OpenFault>
     ensures interchange { (all : List ℕ) →
         Fed (R.remaining feeder.old.reader) all [] feeder.old.lender → Opens result (opened all) }

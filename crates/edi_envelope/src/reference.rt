@@ -1,4 +1,4 @@
-//! References as they are kept and compared: all of one length.
+//! Keeps references in a form of one length, to compare them.
 
 ghost use Rattle.std.specs.Prelude.{◌≡◌, ◌||◌, ℕ, List, [], not, IfOk, OnOk};
 ghost use Rattle.std.specs.Str.{bytes_eq};
@@ -10,7 +10,7 @@ use std::alloc::{AllocError, Global};
 use std::collections::BTreeSet;
 use std::marker::Model;
 
-/// A reference filled up with zeros, which no reference has; zeros for what is no reference.
+/// Returns a reference filled up with zero bytes, which no reference has; zero bytes alone for anything else.
 pub(crate) fn kept(text: &[u8]) -> [u8; 14]
     ensures { result ≡ spec.kept text.now }
 {

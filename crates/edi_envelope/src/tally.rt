@@ -1,4 +1,4 @@
-//! What the headers and the trailers of messages say, as far as they have come.
+//! Counts what the headers and the trailers of messages say, as they come.
 
 ghost use Rattle.std.specs.Prelude.{◌≡◌, ◌∷◌, ◌++◌, ◌+◌, true, length, List, [], IfOk, OnOk};
 ghost use Rattle.edi_segments.specs.declared.segment.Segment.{Segment};

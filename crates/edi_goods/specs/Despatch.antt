@@ -36,7 +36,7 @@ inherits message = has_reference (header message)
 abbrev pub has_header_reference_or_none : List Segment → Bool
 has_header_reference_or_none message = none_or_one_reference (is_read order_named) (header message)
 
--- The one reference of a group is valid. Where there is not just one, the group has none at all, and the header has
+-- The one reference of a group is valid. If there is not exactly one, the group has none at all, and the header has
 -- one.
 abbrev pub is_reference_or_inherits : Bool → Bool → Option Segment → Bool
 is_reference_or_inherits there inherited (Some rff) = is_order_reference rff
@@ -52,11 +52,11 @@ has_references inherited unit = list_all (has_reference_or_inherits inherited) (
 abbrev pub order_of_line : List ℕ → List Segment → List ℕ
 order_of_line header_order group = unwrap_or (group_order group) header_order
 
--- the order of the header, and nothing where it has none
+-- the order of the header, or nothing if it has none
 abbrev pub header_order : List Segment → List ℕ
 header_order message = unwrap_or (order message) []
 
--- Each condition, of the whole message. Each is defined also where another one holds.
+-- Each condition, of the whole message. Each is defined even if another one holds.
 abbrev pub holds : MessageFault → RawMessage → Bool
 holds fault.MessageType m = not (is_type (codes "DESADV") m)
 holds fault.Beginning m = not (begins_as (codes "351") m.segments)
@@ -100,6 +100,6 @@ contents_of message = record {
   units = map (unit_from (header_order message)) (read_units message);
 }
 
--- the despatch advice of a message where no condition holds, else the lowest fault
+-- the despatch advice of a message if no condition holds, or else the lowest fault
 unfoldable pub despatch_of : RawMessage → Result Despatch MessageFault
 despatch_of m = unless_any (λ fault. holds fault m) (contents_of m.segments)

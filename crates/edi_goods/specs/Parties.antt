@@ -11,6 +11,6 @@ has_buyer_or_none message = none_or_one (is_read named_by) (codes "NAD") (codes 
 abbrev pub has_parties : List Segment → Bool
 has_parties message = has_buyer_or_none message && is_some (party (codes "SU") message)
 
--- the buyer, where there is one
+-- the buyer, if there is one
 abbrev pub buyer : List Segment → Option (List ℕ)
 buyer message = party (codes "BY") message

@@ -32,7 +32,7 @@ returned group = quantity_of (codes "195") 0 group
 abbrev pub destroyed : List Segment → Option ℕ
 destroyed group = quantity_of (codes "196") 0 group
 
--- a kind stands nowhere in a group, or once and valid
+-- a group has no quantity of a kind, or one that is valid
 abbrev pub is_once_or_none : List ℕ → List Segment → Bool
 is_once_or_none kind group = none_or_one (is_read (amount 0)) (codes "QTY") kind group
 
@@ -78,7 +78,7 @@ replaces message = bytes_eq (function message) (codes "5")
 abbrev pub has_function : List Segment → Bool
 has_function message = bytes_eq (function message) (codes "9") || replaces message
 
--- Each condition, of the whole message. Each is defined also where another one holds.
+-- Each condition, of the whole message. Each is defined even if another one holds.
 abbrev pub holds : MessageFault → RawMessage → Bool
 holds fault.MessageType m = not (is_type (codes "RECADV") m)
 holds fault.Beginning m = not (begins_as (codes "632") m.segments)
@@ -109,6 +109,6 @@ contents_of message = record {
   units = map unit_from (read_units message);
 }
 
--- the receiving advice of a message where no condition holds, else the lowest fault
+-- the receiving advice of a message if no condition holds, or else the lowest fault
 unfoldable pub receipt_of : RawMessage → Result Receipt MessageFault
 receipt_of m = unless_any (λ fault. holds fault m) (contents_of m.segments)

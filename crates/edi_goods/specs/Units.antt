@@ -28,7 +28,7 @@ units segments = parts_of is_cps ends_unit segments
 abbrev pub read_units : List Segment → List (List Segment)
 read_units message = filter (list_any is_lin) (units message)
 
--- what stands before the first LIN of a unit
+-- what comes before the first LIN of a unit
 abbrev pub head : List Segment → List Segment
 head unit = before_first is_lin unit
 
@@ -36,7 +36,7 @@ head unit = before_first is_lin unit
 abbrev pub has_identifier : List Segment → Bool
 has_identifier unit = not (length (component (first_segment unit) 0 0) == 0)
 
--- the one SSCC of a GIN (7402), which stands alone after the qualifier
+-- the one SSCC of a GIN (7402), the only component after the qualifier
 abbrev pub sscc_in : Segment → Option (List ℕ)
 sscc_in gin = if length gin.elements == 2 && length (element_at gin.elements 1) == 1 then sscc_of (component gin 1 0)
     else None
@@ -45,7 +45,7 @@ sscc_in gin = if length gin.elements == 2 && length (element_at gin.elements 1) 
 abbrev pub sscc : List Segment → Option (List ℕ)
 sscc unit = option_and_then sscc_in (only_qualified (codes "GIN") (codes "BJ") (head unit))
 
--- the same, and no digits where there is none
+-- the SSCC of a unit, or no digits if it has none
 abbrev pub sscc_or_none : List Segment → List ℕ
 sscc_or_none unit = unwrap_or (sscc unit) []
 
@@ -57,7 +57,7 @@ has_line_outside message = list_any is_lin (before_first is_cps message)
 abbrev pub is_unit : List Segment → Bool
 is_unit unit = has_identifier unit && is_some (sscc unit)
 
--- no LIN stands before the first CPS, and each unit that is read has an identifier and an SSCC of its own
+-- no LIN comes before the first CPS, and each unit that is read has an identifier and an SSCC of its own
 abbrev pub has_units : List Segment → Bool
 has_units message = not (has_line_outside message) && list_all is_unit (read_units message)
     && not (has_twice (map sscc_or_none (read_units message)))

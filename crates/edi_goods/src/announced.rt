@@ -1,4 +1,4 @@
-//! The units and lines of a despatch advice, read one condition after another.
+//! Reads the units and lines of a despatch advice, one condition after another.
 ghost use Rattle.std.specs.Prelude.{◌≡◌, ◌≢◌, IfOk, IfErr, true, false, is_some, option_map, option_and_then};
 ghost use Rattle.std.specs.List.{list_all};
 ghost use Rattle.edi_messages.specs.References.{group_order, group_line};
@@ -51,7 +51,7 @@ impl<'a, 'b> Model for DespatchUnit<'a, 'b> {
     ghost invariant = { λ lined. lined.items.items ≡ line_groups lined.unit.now };
 }
 
-// The lines, each with its quantity; the fault `Quantity` where one has none.
+// Returns the lines, each with its quantity. It is the fault `Quantity` if one has none.
 fn despatch_items<'a, 'b>(
     alloc: Global,
     items: &'b [LineItem<'a>],
@@ -70,7 +70,7 @@ fn despatch_items<'a, 'b>(
     Ok(lines)
 }
 
-/// The units, each with the quantities of its lines; the fault `Quantity` where a line has none.
+/// Returns the units, each with the quantities of its lines. It is the fault `Quantity` if a line has none.
 pub(crate) fn despatch_units<'a, 'b>(
     alloc: Global,
     units: &'b [ItemUnit<'a>],
@@ -156,7 +156,7 @@ pub fn group_reference(
     }
 }
 
-// A line with what it names.
+// Returns a line with what it names.
 fn referred_item<'a, 'b>(
     inherited: bool,
     line: &DespatchItem<'a, 'b>,
@@ -178,7 +178,7 @@ fn referred_item<'a, 'b>(
     })
 }
 
-// The lines, each with what it names; the fault `Reference` where one of them has no valid reference and
+// Returns the lines, each with what it names. It is the fault `Reference` if one of them has no valid reference and
 // inherits none.
 fn referred_items<'a, 'b>(
     alloc: Global,
@@ -198,8 +198,8 @@ fn referred_items<'a, 'b>(
     Ok(lines)
 }
 
-/// The units, each with the references of its lines; the fault `Reference` where a line has no valid reference
-/// and inherits none.
+/// Returns the units, each with the references of its lines. It is the fault `Reference` if a line has no valid
+/// reference and inherits none.
 pub(crate) fn referred_units<'a, 'b>(
     alloc: Global,
     inherited: bool,
@@ -221,7 +221,7 @@ pub(crate) fn referred_units<'a, 'b>(
     Ok(referred)
 }
 
-// A line of the record; what names no order is of the header's.
+// Returns a line of the record. A line that names no order belongs to that of the header.
 fn line_of(
     alloc: Global,
     header_order: &[u8],
@@ -242,7 +242,7 @@ fn line_of(
     })
 }
 
-/// The lines of a unit of the record.
+/// Returns the lines of a unit of the record.
 pub(crate) fn lines_in_unit(
     alloc: Global,
     header_order: &[u8],

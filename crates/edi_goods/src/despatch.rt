@@ -1,4 +1,4 @@
-//! Despatch advices (DESADV).
+//! Reads despatch advices (DESADV).
 ghost use Rattle.std.specs.Prelude.{◌≡◌, ◌≢◌, IfOk, IfErr, Ok, Err, Some, None, true, false, map, codes};
 ghost use Rattle.edi_base.specs.Seen.{has_twice};
 ghost use Rattle.edi_messages.specs.Fault.{faults, faults_from};
@@ -24,7 +24,7 @@ use std::alloc::Global;
 pub struct Despatch {
     /// The advice number (BGM 1004), 1 to 35 bytes.
     pub number: Items<u8>,
-    /// The buyer (NAD BY), where it is named.
+    /// The buyer (NAD BY), if it is named.
     pub buyer: Option<Gln>,
     /// The supplier (NAD SU).
     pub supplier: Gln,
@@ -44,9 +44,9 @@ pub struct Unit {
 /// A line of a unit.
 #[derive(Debug, Drop)]
 pub struct DespatchLine {
-    /// The order (RFF ON 1154), the line's own or else the header's, 1 to 35 bytes.
+    /// The order (RFF ON 1154) that the line names, or else the header, 1 to 35 bytes.
     pub order: Items<u8>,
-    /// The line of the order (RFF ON 1156), where the line names one.
+    /// The line of the order (RFF ON 1156), if the line names one.
     pub order_line: Option<u32>,
     /// The article.
     pub gtin: Gtin,
@@ -54,7 +54,8 @@ pub struct DespatchLine {
     pub quantity: u32,
 }
 
-// The order that the header names, or nothing; the fault `Reference` where it names several or none that is valid.
+// Returns the order that the header names, or nothing. It is the fault `Reference` if it names several, or one that is
+// not valid.
 fn header_order(message: &[Segment]) -> Result<&[u8], MessageFault>
     ensures ok { IfOk result (λ order. (order.now ≡ spec.header_order message.now)
         × (spec.has_header_reference_or_none message.now ≡ true)) }
@@ -73,7 +74,7 @@ fn header_order(message: &[Segment]) -> Result<&[u8], MessageFault>
     }
 }
 
-// The units of the record, each with its SSCC.
+// Returns the units of the record, each with its SSCC.
 fn units_of(
     alloc: Global,
     header_order: &[u8],
@@ -117,7 +118,7 @@ fn read_heading(message: &RawMessage) -> Result<Parties, MessageFault>
     read_parties(segments)
 }
 
-// The units of the record, or the lowest fault of the references and of what is checked behind them.
+// Returns the units of the record, or the lowest fault of the references and of what is checked after them.
 fn read_referred(
     alloc: Global,
     message: &RawMessage,
@@ -149,7 +150,7 @@ fn read_referred(
     Ok(units)
 }
 
-// The units of the record, or the lowest fault of them and of what is checked behind them.
+// Returns the units of the record, or the lowest fault of them and of what is checked after them.
 fn read_announced(alloc: Global, message: &RawMessage) -> Result<Items<Unit>, MessageFault>
     ensures said { IfOk result
         (λ units. units ≡ map (spec.unit_from (spec.header_order message.now.segments))
@@ -165,10 +166,10 @@ fn read_announced(alloc: Global, message: &RawMessage) -> Result<Items<Unit>, Me
 }
 
 impl Despatch {
-    /// The despatch advice that a message is: DESADV of the directory D.01B with BGM 1001 351 and 1225 9, one document
-    /// date, one supplier and at most one buyer, and units with lines, each unit with an identifier and an SSCC of its own,
-    /// each line with an article, a quantity despatched and an order. Else the lowest fault of the message, wherever in it
-    /// that stands.
+    /// Reads the despatch advice that a message is: DESADV of the directory D.01B with BGM 1001 351 and 1225 9, one
+    /// document date, one supplier and at most one buyer, and units with lines, each unit with an identifier and an
+    /// SSCC of its own, each line with an article, a quantity despatched and an order. Otherwise it returns the lowest
+    /// fault of the message, wherever that is in it.
     #[tactic(auto, unfolding(crate::specs::Despatch::despatch_of))]
     pub fn read(alloc: Global, message: &RawMessage) -> Result<Despatch, MessageFault>
         ensures ok { IfOk result (λ despatch. spec.despatch_of message.now ≡ Ok despatch) }

@@ -1,4 +1,5 @@
-//! Goods on their way: the records of DESADV and RECADV messages (EANCOM 2002 over UN/EDIFACT D.01B).
+//! Reads the messages about goods on their way: the records of DESADV and RECADV messages (EANCOM 2002 over UN/EDIFACT
+//! D.01B).
 #![tactic(auto)]
 
 pub mod announced;

@@ -1,4 +1,4 @@
-//! The parties of a message that may leave out the buyer.
+//! Reads the parties of a message that may leave out the buyer.
 ghost use Rattle.std.specs.Prelude.{◌≡◌, true, false, Some, IfOk, IfErr, codes};
 ghost use Rattle.edi_messages.specs.Header.{party};
 ghost use Rattle.edi_goods.specs.Parties as spec;
@@ -11,12 +11,12 @@ use gs1_ids::Gln;
 /// The buyer (NAD BY) and the supplier (NAD SU) that the header names.
 #[derive(Drop)]
 pub(crate) struct Parties {
-    /// The buyer, where there is one.
+    /// The buyer, if there is one.
     pub(crate) buyer: Option<Gln>,
     pub(crate) supplier: Gln,
 }
 
-// The buyer, where there is one; the fault `Parties` where there are several or it is not valid.
+// Returns the buyer, if there is one. It is the fault `Parties` if there are several or it is not valid.
 fn buyer(message: &[Segment]) -> Result<Option<Gln>, MessageFault>
     ensures ok { IfOk result (λ buyer.
         (buyer ≡ spec.buyer message.now) × (spec.has_buyer_or_none message.now ≡ true)) }
@@ -35,7 +35,7 @@ fn buyer(message: &[Segment]) -> Result<Option<Gln>, MessageFault>
     }
 }
 
-/// The parties of a message; the fault `Parties` where one of them is not valid.
+/// Returns the parties of a message. It is the fault `Parties` if one of them is not valid.
 pub(crate) fn read_parties(message: &[Segment]) -> Result<Parties, MessageFault>
     ensures ok { IfOk result (λ parties. (parties.buyer ≡ spec.buyer message.now)
         × (party (codes "SU") message.now ≡ Some parties.supplier) × (spec.has_parties message.now ≡ true)) }

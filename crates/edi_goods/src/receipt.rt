@@ -1,4 +1,4 @@
-//! Receiving advices (RECADV).
+//! Reads receiving advices (RECADV).
 ghost use Rattle.std.specs.Prelude.{◌≡◌, ◌≢◌, IfOk, IfErr, Ok, Err, Some, None, true, false, codes, map};
 ghost use Rattle.std.specs.List.{list_all};
 ghost use Rattle.edi_base.specs.Seen.{has_twice};
@@ -23,11 +23,11 @@ use std::alloc::Global;
 pub struct Receipt {
     /// The advice number (BGM 1004), 1 to 35 bytes.
     pub number: Items<u8>,
-    /// The buyer (NAD BY), where it is named.
+    /// The buyer (NAD BY), if it is named.
     pub buyer: Option<Gln>,
     /// The supplier (NAD SU).
     pub supplier: Gln,
-    /// Whether it takes the place of what was received of its units (BGM 1225 5), or is an original (9).
+    /// Whether it replaces what was received of its units (BGM 1225 5), or is an original (9).
     pub replaces: bool,
     /// The units that have lines, in their order.
     pub units: Items<ReceiptUnit>,
@@ -42,8 +42,8 @@ pub struct ReceiptUnit {
     pub lines: Items<ReceiptLine>,
 }
 
-/// What a line says of an article, in pieces, each 0 to 999,999,999; a kind that is not named is 0. In one unit no article's sum of
-/// a kind is above 999,999,999.
+/// What a line says about an article, in pieces, each 0 to 999,999,999; a kind that is not named is 0. In one unit no
+/// article's sum of a kind is above 999,999,999.
 #[derive(Clone, Copy, Debug, PartialEq, Eq)]
 pub struct ReceiptLine {
     /// The article.
@@ -56,7 +56,7 @@ pub struct ReceiptLine {
     pub destroyed: u32,
 }
 
-// The units of the record, each with its SSCC.
+// Returns the units of the record, each with its SSCC.
 fn units_of(
     alloc: Global,
     units: &[ReceivedUnit<'_, '_>],
@@ -78,14 +78,13 @@ fn units_of(
     Ok(read)
 }
 
-// Whether the advice takes the place of what was received.
+// Whether the advice replaces what was received.
 fn replaces(message: &[Segment]) -> bool
     ensures { result ≡ spec.replaces message.now }
 {
     function(message) == b"5".as_slice()
 }
 
-// Whether its function is one that a receiving advice has.
 fn has_function(message: &[Segment]) -> bool
     ensures { result ≡ spec.has_function message.now }
 {
@@ -116,7 +115,7 @@ fn read_heading(message: &RawMessage) -> Result<Parties, MessageFault>
     read_parties(segments)
 }
 
-// The units of the record, or the lowest fault of them and of what is checked behind them.
+// Returns the units of the record, or the lowest fault of them and of what is checked after them.
 fn read_identified(
     alloc: Global,
     message: &RawMessage,
@@ -143,7 +142,7 @@ fn read_identified(
     Ok(units)
 }
 
-// The units of the record, or the lowest fault of their lines and of what is checked behind these.
+// Returns the units of the record, or the lowest fault of their lines and of what is checked after these.
 fn read_received(alloc: Global, message: &RawMessage) -> Result<Items<ReceiptUnit>, MessageFault>
     ensures said { IfOk result (λ units. units ≡ map spec.unit_from (read_units message.now.segments)) }
     ensures units { IfOk result (λ _. has_units message.now.segments ≡ true) }
@@ -159,10 +158,10 @@ fn read_received(alloc: Global, message: &RawMessage) -> Result<Items<ReceiptUni
 }
 
 impl Receipt {
-    /// The receiving advice that a message is: RECADV of the directory D.01B with BGM 1001 632 and 1225 9 or 5, one document
-    /// date, one supplier and at most one buyer, and units with lines, each unit with an identifier and an SSCC of its own,
-    /// each line with an article and at least one of the quantities 194, 195 and 196, none twice. Else the lowest fault of the
-    /// message, wherever in it that stands.
+    /// Reads the receiving advice that a message is: RECADV of the directory D.01B with BGM 1001 632 and 1225 9 or 5,
+    /// one document date, one supplier and at most one buyer, and units with lines, each unit with an identifier and an
+    /// SSCC of its own, each line with an article and at least one of the quantities 194, 195 and 196, none twice.
+    /// Otherwise it returns the lowest fault of the message, wherever that is in it.
     #[tactic(auto, unfolding(crate::specs::Receipt::receipt_of))]
     pub fn read(alloc: Global, message: &RawMessage) -> Result<Receipt, MessageFault>
         ensures ok { IfOk result (λ receipt. spec.receipt_of message.now ≡ Ok receipt) }

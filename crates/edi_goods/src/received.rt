@@ -1,4 +1,4 @@
-//! The units and lines of a receiving advice, read one condition after another.
+//! Reads the units and lines of a receiving advice, one condition after another.
 ghost use Rattle.std.specs.Prelude.{◌≡◌, ◌≢◌, ◌||◌, IfOk, IfErr, true, false, map, is_some};
 ghost use Rattle.std.specs.List.{list_all};
 ghost use Rattle.edi_messages.specs.Lines.{quantity_of};
@@ -34,7 +34,7 @@ impl<'a, 'b> Model for ReceivedUnit<'a, 'b> {
 }
 
 impl<'a, 'b> ReceivedUnit<'a, 'b> {
-    /// What was received in it.
+    /// Returns what was received in it.
     pub(crate) fn lines(&self) -> &[ReceiptLine]
         ensures { result.now ≡ spec.lines_in_unit self.now }
     {
@@ -61,14 +61,13 @@ pub fn received(kind: &[u8], group: &[Segment]) -> Result<Option<u32>, MessageFa
     }
 }
 
-// Whether one of the quantities is there.
 fn is_any(accepted: Option<u32>, returned: Option<u32>, destroyed: Option<u32>) -> bool
     ensures { result ≡ (is_some accepted || is_some returned || is_some destroyed) }
 {
     accepted.is_some() || returned.is_some() || destroyed.is_some()
 }
 
-// A line of the record.
+// Returns a line of the record.
 fn receipt_line(item: &LineItem<'_>) -> Result<ReceiptLine, MessageFault>
     ensures ok { IfOk result (λ line. (line ≡ spec.line_of item.now) × (spec.is_received item.now ≡ true)) }
     ensures err { IfErr result (λ fault.
@@ -88,7 +87,7 @@ fn receipt_line(item: &LineItem<'_>) -> Result<ReceiptLine, MessageFault>
     })
 }
 
-// The lines of a unit; the fault `Quantity` where one has no quantities.
+// Returns the lines of a unit. It is the fault `Quantity` if one has no quantities.
 fn receipt_lines(alloc: Global, items: &[LineItem<'_>]) -> Result<Vec<ReceiptLine>, MessageFault>
     ensures ok { IfOk result (λ lines.
         (lines.items ≡ map spec.line_of items.now) × (list_all spec.is_received items.now ≡ true)) }
@@ -102,7 +101,7 @@ fn receipt_lines(alloc: Global, items: &[LineItem<'_>]) -> Result<Vec<ReceiptLin
     Ok(lines)
 }
 
-// What a line says of one kind.
+// Returns what a line says about one kind.
 fn of_kind(kind: Kind, line: &ReceiptLine) -> u32
     ensures { result ≡ spec.of_kind kind line.now }
 {
@@ -113,7 +112,7 @@ fn of_kind(kind: Kind, line: &ReceiptLine) -> u32
     }
 }
 
-// What was received on each line, of one kind.
+// Returns what was received on each line, of one kind.
 fn amounts(alloc: Global, kind: Kind, lines: &[ReceiptLine]) -> Result<Vec<Amount>, MessageFault>
     ensures ok { IfOk result (λ amounts. amounts.items ≡ spec.amounts kind lines.now) }
     ensures err { IfErr result (λ fault. fault ≡ MessageFault.Memory) }
@@ -128,7 +127,7 @@ fn amounts(alloc: Global, kind: Kind, lines: &[ReceiptLine]) -> Result<Vec<Amoun
     Ok(amounts)
 }
 
-// Whether no kind's sum over the lines of one article is too great.
+// Whether the sum of no kind over the lines of one article is too great.
 fn has_sums(alloc: Global, lines: &[ReceiptLine]) -> Result<bool, MessageFault>
     ensures ok { IfOk result (λ within. within ≡ spec.has_sums lines.now) }
     ensures err { IfErr result (λ fault. fault ≡ MessageFault.Memory) }
@@ -143,7 +142,7 @@ fn has_sums(alloc: Global, lines: &[ReceiptLine]) -> Result<bool, MessageFault>
     )
 }
 
-// A unit with what was received in it.
+// Returns a unit with what was received in it.
 fn received_unit<'a, 'b>(
     alloc: Global,
     unit: &'b ItemUnit<'a>,
@@ -160,7 +159,8 @@ fn received_unit<'a, 'b>(
     }
 }
 
-/// The units, each with what was received in it; the fault `Quantity` where a line has no quantities, or a sum is too great.
+/// Returns the units, each with what was received in it. It is the fault `Quantity` if a line has no quantities, or a
+/// sum is too great.
 pub(crate) fn received_units<'a, 'b>(
     alloc: Global,
     units: &'b [ItemUnit<'a>],

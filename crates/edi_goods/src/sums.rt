@@ -1,4 +1,4 @@
-//! Sums of amounts by article.
+//! Adds up amounts by article.
 ghost use Rattle.std.specs.Prelude.{◌≡◌, ◌+◌, ◌≤◌, IfOk, IfErr};
 ghost use Rattle.std.specs.BTreeMap.{get};
 ghost use Rattle.std.specs.Cmp.Lexicographic.{slice_cmp};
@@ -13,14 +13,14 @@ use gs1_ids::Gtin;
 use std::alloc::Global;
 use std::collections::BTreeMap;
 
-/// So many pieces of an article.
+/// A number of pieces of an article.
 #[derive(Clone, Copy)]
 pub(crate) struct Amount {
     pub(crate) gtin: Gtin,
     pub(crate) quantity: u32,
 }
 
-// The sum of an article so far.
+// Returns the sum of an article so far.
 fn sum_so_far(sums: &BTreeMap<Gtin, u64>, gtin: &Gtin) -> u64
     ensures { result ≡ unwrap_or (get (slice_cmp nat_cmp) sums.now gtin.now) 0 }
 {
@@ -30,7 +30,7 @@ fn sum_so_far(sums: &BTreeMap<Gtin, u64>, gtin: &Gtin) -> u64
     }
 }
 
-// A sum with one more amount.
+// Adds one more amount to a sum.
 fn with_more(sum: u64, quantity: u32) -> u64
     requires { sum ≤ greatest }
     ensures { result ≡ sum + quantity }

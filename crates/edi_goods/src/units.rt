@@ -1,4 +1,4 @@
-//! The units of a message: CPS and what follows it.
+//! Splits a message into its units: CPS and what follows it.
 ghost use Rattle.std.specs.Prelude.{◌≡◌, ◌≢◌, ◌≤◌, true, false, not, length, map, IfOk, IfErr};
 ghost use Rattle.std.specs.List.{list_all, prefix_len};
 ghost use Rattle.edi_base.specs.Seen as twice;
@@ -33,7 +33,7 @@ impl<'a> Model for ItemUnit<'a> {
 }
 
 impl<'a> ItemUnit<'a> {
-    /// Its line items.
+    /// Returns its line items.
     pub(crate) fn items(&self) -> &[LineItem<'a>]
         ensures { result.now ≡ line_groups self.now }
     {
@@ -54,7 +54,7 @@ fn rest_len(segments: &[Segment]) -> usize
     segments.len()
 }
 
-/// The first segment, with what follows it up to the next that ends a unit.
+/// Returns the first segment with what follows it, up to the next that ends a unit.
 pub fn unit_of(segments: &[Segment]) -> &[Segment]
     ensures { result.now ≡ spec.unit_of segments.now }
 {
@@ -67,8 +67,8 @@ pub fn unit_of(segments: &[Segment]) -> &[Segment]
     }
 }
 
-/// The units of a message that have lines, in their order, each with its line items; the fault `Line` where one of its LIN has
-/// none.
+/// Returns the units of a message that have lines, in their order, each with its line items. It is the fault `Line` if
+/// one of its LIN is not valid.
 pub(crate) fn item_units(
     alloc: Global,
     message: &[Segment],
@@ -112,7 +112,7 @@ pub fn head(unit: &[Segment]) -> &[Segment]
     head
 }
 
-// The one SSCC of a GIN, which stands alone after the qualifier.
+// Returns the one SSCC of a GIN, the only component after the qualifier.
 fn sscc_in(gin: &Segment) -> Option<Sscc>
     ensures { result ≡ spec.sscc_in gin.now }
 {
@@ -123,7 +123,7 @@ fn sscc_in(gin: &Segment) -> Option<Sscc>
     }
 }
 
-// The SSCC of the one GIN with 7405 BJ in the head of a unit.
+// Returns the SSCC of the one GIN with 7405 BJ in the head of a unit.
 fn sscc(unit: &[Segment]) -> Option<Sscc>
     ensures { result ≡ spec.sscc unit.now }
 {
@@ -140,7 +140,7 @@ pub fn has_identifier(unit: &[Segment]) -> bool
     }
 }
 
-// The SSCC of a unit with an identifier.
+// Returns the SSCC of a unit with an identifier.
 fn unit_sscc(unit: &[Segment]) -> Result<Sscc, MessageFault>
     ensures ok { IfOk result (λ sscc. (sscc ≡ spec.sscc_or_none unit.now) × (spec.is_unit unit.now ≡ true)) }
     ensures err { IfErr result (λ fault. (fault ≡ MessageFault.Unit) × (spec.is_unit unit.now ≡ false)) }
@@ -172,7 +172,7 @@ fn has_line_outside(message: &[Segment]) -> bool
     has_lin(outside)
 }
 
-// The SSCC of each unit.
+// Returns the SSCC of each unit.
 fn unit_ssccs(alloc: Global, units: &[ItemUnit<'_>]) -> Result<Vec<Sscc>, MessageFault>
     ensures ok { IfOk result (λ ssccs.
         (ssccs.items ≡ map spec.sscc_or_none units.now) × (list_all spec.is_unit units.now ≡ true)) }
@@ -186,7 +186,7 @@ fn unit_ssccs(alloc: Global, units: &[ItemUnit<'_>]) -> Result<Vec<Sscc>, Messag
     Ok(ssccs)
 }
 
-// Whether one SSCC stands twice.
+// Whether two of the SSCC are the same.
 fn has_twice(alloc: Global, ssccs: &[Sscc]) -> Result<bool, MessageFault>
     ensures ok { IfOk result (λ found. found ≡ twice.has_twice ssccs.now) }
     ensures err { IfErr result (λ fault. fault ≡ MessageFault.Memory) }
@@ -200,8 +200,8 @@ fn has_twice(alloc: Global, ssccs: &[Sscc]) -> Result<bool, MessageFault>
     Ok(false)
 }
 
-/// The SSCC of each unit that is read; the fault `Unit` where a LIN stands outside of units, a unit has no identifier or
-/// not exactly one SSCC, or one SSCC stands in two units.
+/// Returns the SSCC of each unit that is read. It is the fault `Unit` if a LIN comes outside of units, a unit has no
+/// identifier or not exactly one SSCC, or two units have the same SSCC.
 pub(crate) fn ssccs(
     alloc: Global,
     units: &[ItemUnit<'_>],

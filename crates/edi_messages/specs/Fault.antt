@@ -33,7 +33,7 @@ abbrev pub faults : List MessageFault
 faults = fault.MessageType ∷ fault.Beginning ∷ fault.Function ∷ fault.Date ∷ fault.Parties ∷ fault.Summary ∷ fault.Line
     ∷ fault.Quantity ∷ fault.Reference ∷ fault.Unit ∷ fault.Control ∷ fault.WithoutLines ∷ []
 
--- this fault and those behind it
+-- this fault and those after it
 abbrev pub faults_from : MessageFault → List MessageFault
 faults_from first = filter (λ later. not (nat_lt (number later) (number first))) faults
 
@@ -41,6 +41,6 @@ abbrev pub unless : {X : Type 0} → Option MessageFault → X → Result X Mess
 unless None content = Ok content
 unless (Some found) content = Err found
 
--- a record where no condition holds, else the lowest fault whose condition does
+-- a record if no condition holds, or else the lowest fault whose condition does
 abbrev pub unless_any : {X : Type 0} → (MessageFault → Bool) → X → Result X MessageFault
 unless_any holds content = unless (find holds faults) content

@@ -19,11 +19,11 @@ is_type type message =
 abbrev pub is_bgm : Segment → Bool
 is_bgm = has_tag (codes "BGM")
 
--- what stands after UNH
+-- what follows UNH
 abbrev pub beginning : List Segment → Segment
 beginning message = slice_index_or message 1 no_segment
 
--- BGM stands after UNH and nowhere else, has this code (1001) and a document number (1004)
+-- BGM follows UNH and comes only there, has this code (1001) and a document number (1004)
 abbrev pub begins_as : List ℕ → List Segment → Bool
 begins_as code message =
     is_bgm (beginning message) && (length (filter is_bgm message) == 1)

@@ -1,4 +1,4 @@
--- What a line group says: LIN and QTY.
+-- Reads LIN and QTY of a line group.
 use Rattle.std.specs.Prelude.{ℕ, ◌==◌, Bool, not, ◌&&◌, ◌||◌, nat_le, if◌then◌else◌, List, length, is_some, codes}
 use Rattle.std.specs.Prelude.{Option, Some, None, option_and_then}
 use Rattle.std.specs.Option.{unwrap_or}
@@ -17,7 +17,7 @@ line group = first_segment group
 abbrev pub number : List Segment → Option ℕ
 number group = line_number (component (line group) 0 0)
 
--- the same, and 0 where it is not valid
+-- the line number, or 0 if it is not valid
 abbrev pub number_or_zero : List Segment → ℕ
 number_or_zero group = unwrap_or (number group) 0
 

@@ -18,7 +18,7 @@ is_cps = has_tag (codes "CPS")
 abbrev pub is_uns : Segment → Bool
 is_uns = has_tag (codes "UNS")
 
--- what stands before the first segment of a kind
+-- what comes before the first segment of a kind
 abbrev pub before_first : (Segment → Bool) → List Segment → List Segment
 before_first kind segments = take_while (λ segment. not (kind segment)) segments
 
@@ -40,7 +40,7 @@ ends_part segment = is_lin segment || is_cps segment || is_uns segment || is_unt
 abbrev pub up_to_end : List Segment → List Segment
 up_to_end segments = before_first ends_part segments
 
--- the header: what stands after UNH and before the first such segment
+-- the header: what comes after UNH and before the first such segment
 abbrev pub header : List Segment → List Segment
 header message = up_to_end (drop 1 message)
 
@@ -72,7 +72,7 @@ only _ = None
 abbrev pub only_qualified : List ℕ → List ℕ → List Segment → Option Segment
 only_qualified tag qualifier part = only (qualified tag qualifier part)
 
--- what is asked of the one holds where there is one, or there is none
+-- there is none, or what is asked holds of the only one
 abbrev pub none_or_one : (Option Segment → Bool) → List ℕ → List ℕ → List Segment → Bool
 none_or_one holds tag qualifier part =
     not (has_qualified tag qualifier part) || holds (only_qualified tag qualifier part)

@@ -1,4 +1,4 @@
--- What stands in the summary of a message: UNS and CNT.
+-- What the summary of a message says: UNS and CNT.
 use Rattle.std.specs.Prelude.{ℕ, Bool, false, not, ◌&&◌, if◌then◌else◌, List, [], ◌∷◌, length, filter, codes, Option}
 use Rattle.std.specs.Prelude.{Some, None}
 use Rattle.std.specs.List.{list_any}

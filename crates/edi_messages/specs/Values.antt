@@ -38,7 +38,7 @@ is_quantity bytes = nat_le (length bytes) 35 && nat_le 1 (length (whole_part byt
 abbrev pub quantity : List ℕ → Option ℕ
 quantity bytes = if is_quantity bytes then value_of (whole_part bytes) else None
 
--- the number of so many digits at a place
+-- the number of this many digits at a place
 abbrev pub number_at : ℕ → ℕ → List ℕ → Option ℕ
 number_at place count bytes = count_of (take count (drop place bytes))
 

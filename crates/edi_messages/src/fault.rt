@@ -7,9 +7,9 @@ use std::fmt;
 /// Why a message is refused. Each variant but the last is one condition, with the code that is printed for it.
 #[derive(Clone, Copy, Debug, PartialEq, Eq)]
 pub enum MessageFault {
-    /// M01: the message type, its version, release or agency is another one.
+    /// M01: the message type, its version, release or agency is wrong.
     MessageType,
-    /// M02: BGM stands elsewhere or more than once, or its code or document number is wrong.
+    /// M02: BGM does not follow UNH or comes more than once, or its code or document number is wrong.
     Beginning,
     /// M03: the message function.
     Function,
@@ -38,7 +38,7 @@ pub enum MessageFault {
 impl MessageFault {
     ghost use Rattle.edi_messages.specs.Fault.{code_text};
 
-    /// The code that is printed, as `M02`; `memory` for out of memory.
+    /// Returns the code that is printed, such as `M02`, or `memory` for out of memory.
     pub fn code(self) -> &'static str
         ensures { result.now ≡ code_text self }
     {

@@ -1,4 +1,4 @@
-//! What the header of a message says.
+//! Reads the header of a message.
 ghost use Rattle.std.specs.Prelude.{◌≡◌, length, filter};
 ghost use Rattle.edi_envelope.specs.Segments.{component};
 ghost use Rattle.edi_messages.specs.Header as spec;
@@ -18,21 +18,20 @@ pub fn is_type(kind: &[u8], message: &RawMessage) -> bool
         && message.agency.as_slice() == b"UN".as_slice()
 }
 
-// Whether a segment is the beginning of message.
 fn is_bgm(segment: &Segment) -> bool
     ensures { result ≡ spec.is_bgm segment.now }
 {
     segment.tag == *b"BGM"
 }
 
-// How many segments are BGM.
+// Counts the BGM segments.
 fn beginning_count(message: &[Segment]) -> usize
     ensures { result ≡ length (filter spec.is_bgm message.now) }
 {
     message.iter().filter(|segment| is_bgm(segment)).count()
 }
 
-// A component of the segment after UNH.
+// Returns the first component of an element of the segment after UNH.
 fn beginning_component(message: &[Segment], element: usize) -> &[u8]
     ensures { result.now ≡ component (spec.beginning message.now) element 0 }
 {
@@ -42,21 +41,21 @@ fn beginning_component(message: &[Segment], element: usize) -> &[u8]
     }
 }
 
-/// The document number (BGM 1004).
+/// Returns the document number (BGM 1004).
 pub fn document_number(message: &[Segment]) -> &[u8]
     ensures { result.now ≡ spec.document_number message.now }
 {
     beginning_component(message, 1)
 }
 
-/// The message function (BGM 1225).
+/// Returns the message function (BGM 1225).
 pub fn function(message: &[Segment]) -> &[u8]
     ensures { result.now ≡ spec.function message.now }
 {
     beginning_component(message, 2)
 }
 
-/// Whether BGM stands after UNH and nowhere else, with this code (1001) and a document number (1004).
+/// Whether BGM follows UNH and comes only there, with this code (1001) and a document number (1004).
 pub fn begins_as(code: &[u8], message: &[Segment]) -> bool
     ensures { result ≡ spec.begins_as code.now message.now }
 {
@@ -71,7 +70,7 @@ pub fn begins_as(code: &[u8], message: &[Segment]) -> bool
     }
 }
 
-/// Whether the header has one document date (DTM with 2005 137), which exists in its format.
+/// Whether the header has exactly one document date (DTM with 2005 137), and that day exists.
 pub fn has_date(message: &[Segment]) -> bool
     ensures { result ≡ spec.has_date message.now }
 {
@@ -81,7 +80,7 @@ pub fn has_date(message: &[Segment]) -> bool
     }
 }
 
-// The GLN of a party, where it is valid and said to be one.
+// Returns the GLN of a party, if it is valid and 3055 says that it is one.
 fn named_by(party: &Segment) -> Option<Gln>
     ensures { result ≡ spec.named_by party.now }
 {
@@ -93,16 +92,16 @@ fn named_by(party: &Segment) -> Option<Gln>
     }
 }
 
-/// The party that the header names in a role (NAD with 3035): there is just one such NAD, and it has a valid GLN (3039)
-/// with 3055 9. `BY` is the buyer, `SU` the supplier.
+/// Returns the party that the header names in a role (NAD with 3035): there is exactly one such NAD, and it has a valid
+/// GLN (3039) with 3055 9. `BY` is the buyer, `SU` the supplier.
 pub fn party(role: &[u8], message: &[Segment]) -> Option<Gln>
     ensures { result ≡ spec.party role.now message.now }
 {
     named_by(only_qualified(b"NAD", role, header(message))?)
 }
 
-/// The supplier that the header of a message names: there is just one NAD with 3035 SU, and it has a valid GLN (3039)
-/// with 3055 9. Works for each type of message, and takes no memory.
+/// Returns the supplier that the header of a message names: there is exactly one NAD with 3035 SU, and it has a valid
+/// GLN (3039) with 3055 9. Works for each type of message, and takes no memory.
 pub fn supplier_of(message: &RawMessage) -> Option<Gln>
     ensures { result ≡ spec.supplier_of message.now.segments }
 {

@@ -1,5 +1,5 @@
-//! What the messages of orders and goods share (EANCOM 2002 over UN/EDIFACT D.01B): their faults, parts, values, header,
-//! lines, references and summary.
+//! Reads what the messages of orders and goods share (EANCOM 2002 over UN/EDIFACT D.01B): their faults, parts, values,
+//! header, lines, references and summary.
 #![tactic(auto)]
 
 mod fault;

@@ -1,4 +1,4 @@
-//! What a line group says: LIN and QTY.
+//! Reads LIN and QTY of a line group.
 ghost use Rattle.std.specs.Prelude.{◌≡◌, ◌≢◌, List, IfOk, IfErr, Some, true, false, map};
 ghost use Rattle.std.specs.List.{list_all};
 ghost use Rattle.std.specs.Option.{IfSome, IfNone};
@@ -15,7 +15,7 @@ use gs1_ids::Gtin;
 use std::alloc::Global;
 use std::marker::Model;
 
-/// A line group whose LIN has a line number and an article and is no sub-line, with these.
+/// A line group whose LIN has a line number and an article and is not a sub-line, with these.
 #[derive(Drop)]
 pub struct LineItem<'a> {
     number: u32,
@@ -36,21 +36,21 @@ impl<'a> Model for LineItem<'a> {
 }
 
 impl<'a> LineItem<'a> {
-    /// The line group as it stands.
+    /// Returns the segments of the line group.
     pub fn group(&self) -> &'a [Segment]
         ensures { result.now ≡ self.now }
     {
         self.group
     }
 
-    /// The line number (LIN 1082), 1 to 999,999.
+    /// Returns the line number (LIN 1082), 1 to 999,999.
     pub fn number(&self) -> u32
         ensures { spec.number self.now ≡ Some result }
     {
         self.number
     }
 
-    /// The article (LIN 7140).
+    /// Returns the article (LIN 7140).
     pub fn gtin(&self) -> Gtin
         ensures { spec.gtin self.now ≡ Some result }
     {
@@ -58,7 +58,7 @@ impl<'a> LineItem<'a> {
     }
 }
 
-// The article of a LIN, where it is valid and said to be one.
+// Returns the article of a LIN, if it is valid and 7143 says that it is one.
 fn gtin_of(lin: &Segment) -> Option<Gtin>
     ensures { result ≡ spec.gtin_in lin.now }
 {
@@ -69,7 +69,7 @@ fn gtin_of(lin: &Segment) -> Option<Gtin>
     }
 }
 
-/// The line item of a line group, where its LIN has a line number and an article and is no sub-line.
+/// Returns the line item of a line group, if its LIN has a line number and an article and is not a sub-line.
 pub fn line_item(group: &[Segment]) -> Option<LineItem<'_>>
     ensures some { IfSome result (λ item. (item ≡ group.now) × (spec.is_line group.now ≡ true)) }
     ensures none { IfNone result (spec.is_line group.now ≡ false) }
@@ -87,7 +87,7 @@ pub fn line_item(group: &[Segment]) -> Option<LineItem<'_>>
     })
 }
 
-/// The line items of all line groups of a message, in their order; the fault `Line` where one has none.
+/// Returns the line items of all line groups of a message, in their order. It is the fault `Line` if a group has none.
 pub fn line_items(alloc: Global, message: &[Segment]) -> Result<Vec<LineItem<'_>>, MessageFault>
     ensures ok { IfOk result (λ items. (items.items ≡ line_groups message.now)
         × (list_all spec.is_line (line_groups message.now) ≡ true)) }
@@ -104,7 +104,7 @@ pub fn line_items(alloc: Global, message: &[Segment]) -> Result<Vec<LineItem<'_>
     Ok(items)
 }
 
-/// Whether one line number stands twice.
+/// Whether two items have the same line number.
 pub fn has_number_twice(alloc: Global, items: &[LineItem<'_>]) -> Result<bool, MessageFault>
     ensures ok { IfOk result (λ found. found ≡ has_number_twice (map spec.number_or_zero items.now)) }
     ensures err { IfErr result (λ fault. fault ≡ MessageFault.Memory) }
@@ -116,14 +116,13 @@ pub fn has_number_twice(alloc: Global, items: &[LineItem<'_>]) -> Result<bool, M
     Ok(number_twice(alloc, numbers.as_slice())?)
 }
 
-// Whether a unit is absent or the piece.
 fn is_piece(unit: &[u8]) -> bool
     ensures { result ≡ spec.is_piece unit.now }
 {
     unit.is_empty() || unit == b"PCE".as_slice()
 }
 
-// The quantity of a QTY in pieces, from a least one on.
+// Returns the quantity of a QTY in pieces, if it is not below the least.
 fn amount(least: u32, qty: &Segment) -> Option<u32>
     ensures { result ≡ spec.amount least qty.now }
 {
@@ -134,7 +133,7 @@ fn amount(least: u32, qty: &Segment) -> Option<u32>
     if least <= number { Some(number) } else { None }
 }
 
-/// The quantity of the one QTY of a kind (6063) in a group, from a least one on.
+/// Returns the quantity of the one QTY of a kind (6063) in a group, if it is not below the least.
 pub fn quantity_of(kind: &[u8], least: u32, group: &[Segment]) -> Option<u32>
     ensures { result ≡ spec.quantity_of kind.now least group.now }
 {

@@ -1,32 +1,32 @@
-//! The parts of a message, and the segments of a kind in a part.
+//! Splits a message into its parts, and finds the segments of a kind in a part.
 ghost use Rattle.std.specs.Prelude.{◌≡◌, ◌≤◌, length, not, option_map};
 ghost use Rattle.std.specs.List.{list_any, prefix_len};
 ghost use Rattle.edi_messages.specs.Parts as spec;
 
 use edi_envelope::Segment;
 
-/// Whether a segment is a line item.
+/// Whether a segment is a LIN, a line item.
 pub fn is_lin(segment: &Segment) -> bool
     ensures { result ≡ spec.is_lin segment.now }
 {
     segment.tag == *b"LIN"
 }
 
-/// Whether a segment is a section control.
+/// Whether a segment is a UNS, a section control.
 pub(crate) fn is_uns(segment: &Segment) -> bool
     ensures { result ≡ spec.is_uns segment.now }
 {
     segment.tag == *b"UNS"
 }
 
-/// Whether a segment begins a packing group.
+/// Whether a segment is a CPS, with which a packing group begins.
 pub fn is_cps(segment: &Segment) -> bool
     ensures { result ≡ spec.is_cps segment.now }
 {
     segment.tag == *b"CPS"
 }
 
-/// Whether one of the segments is a line item.
+/// Whether one of the segments is a LIN.
 pub fn has_lin(segments: &[Segment]) -> bool
     ensures { result ≡ list_any spec.is_lin segments.now }
 {
@@ -40,7 +40,7 @@ fn ends_part(segment: &Segment) -> bool
     is_lin(segment) || is_cps(segment) || is_uns(segment) || segment.tag == *b"UNT"
 }
 
-// How many segments stand before the first that ends a part.
+// Counts the segments before the first that ends a part.
 fn part_len(segments: &[Segment]) -> usize
     ensures within { result ≤ length segments.now }
     ensures value { result ≡ prefix_len (λ segment. not (spec.ends_part segment)) segments.now }
@@ -53,7 +53,7 @@ fn part_len(segments: &[Segment]) -> usize
     segments.len()
 }
 
-// The segments up to the first that ends a part.
+// Returns the segments before the first that ends a part.
 fn up_to_end(segments: &[Segment]) -> &[Segment]
     ensures { result.now ≡ spec.up_to_end segments.now }
 {
@@ -61,7 +61,7 @@ fn up_to_end(segments: &[Segment]) -> &[Segment]
     part
 }
 
-/// The header of a message.
+/// Returns the header of a message.
 pub fn header(message: &[Segment]) -> &[Segment]
     ensures { result.now ≡ spec.header message.now }
 {
@@ -71,7 +71,7 @@ pub fn header(message: &[Segment]) -> &[Segment]
     }
 }
 
-/// The first segment, with what follows it up to the next that ends a group.
+/// Returns the first segment with what follows it, up to the next that ends a group.
 pub fn group_of(segments: &[Segment]) -> &[Segment]
     ensures { result.now ≡ spec.group_of segments.now }
 {
@@ -103,7 +103,7 @@ pub fn has_qualified(tag: &[u8; 3], qualifier: &[u8], part: &[Segment]) -> bool
     false
 }
 
-/// The segment of a part with this tag and this qualifier, where there is just one.
+/// Returns the segment of a part with this tag and this qualifier, if there is exactly one.
 pub fn only_qualified<'a>(
     tag: &[u8; 3],
     qualifier: &[u8],

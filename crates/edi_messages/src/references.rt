@@ -1,4 +1,4 @@
-//! References to an order and its lines (RFF with 1153 ON).
+//! Reads references to an order and its lines (RFF with 1153 ON).
 ghost use Rattle.std.specs.Prelude.{◌≡◌, true, false, Some, option_map};
 ghost use Rattle.std.specs.Option.{IfSome, IfNone};
 ghost use Rattle.edi_messages.specs.References as spec;
@@ -14,14 +14,14 @@ pub fn has_reference(part: &[Segment]) -> bool
     has_qualified(b"RFF", b"ON", part)
 }
 
-/// The reference to an order in a part, where there is just one.
+/// Returns the reference to an order in a part, if there is exactly one.
 pub fn reference(part: &[Segment]) -> Option<&Segment>
     ensures { option_map (λ rff. rff.now) result ≡ spec.reference part.now }
 {
     only_qualified(b"RFF", b"ON", part)
 }
 
-/// The order number of a reference (1154), where it is within its limits.
+/// Returns the order number of a reference (1154), if it is within its limits.
 pub(crate) fn order_named(rff: &Segment) -> Option<&[u8]>
     ensures { option_map (λ number. number.now) result ≡ spec.order_named rff.now }
 {
@@ -33,14 +33,14 @@ pub(crate) fn order_named(rff: &Segment) -> Option<&[u8]>
     }
 }
 
-/// The order number of the one reference in the header of a message.
+/// Returns the order number of the one reference in the header of a message.
 pub fn order(message: &[Segment]) -> Option<&[u8]>
     ensures { option_map (λ number. number.now) result ≡ spec.order message.now }
 {
     order_named(reference(header(message))?)
 }
 
-// The line number of a reference (1156): an absent one is none; no answer where it is wrong.
+// Returns the line number of a reference (1156), `Some(None)` if there is none, or `None` if it is wrong.
 fn line_or_none(rff: &Segment) -> Option<Option<u32>>
     ensures some { IfSome result (λ line.
         (line ≡ spec.line_named rff.now) × (spec.has_line_or_none rff.now ≡ true)) }
@@ -59,11 +59,11 @@ fn line_or_none(rff: &Segment) -> Option<Option<u32>>
 pub struct NamedOrder<'a> {
     /// The order number (1154), 1 to 35 bytes.
     pub order: &'a [u8],
-    /// The line number (1156), where there is one.
+    /// The line number (1156), if there is one.
     pub line: Option<u32>,
 }
 
-/// What a reference names, where it has an order number, and a line number or none.
+/// Returns what a reference names, if it has an order number, and a valid line number or none.
 pub fn read_reference(rff: &Segment) -> Option<NamedOrder<'_>>
     ensures some { IfSome result (λ said. (spec.order_named rff.now ≡ Some said.order.now)
         × (said.line ≡ spec.line_named rff.now) × (spec.is_order_reference rff.now ≡ true)) }

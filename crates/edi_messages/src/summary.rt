@@ -1,4 +1,4 @@
-//! What stands in the summary of a message.
+//! Reads the summary of a message.
 ghost use Rattle.std.specs.Prelude.{◌≡◌, filter, option_map};
 ghost use Rattle.edi_messages.specs.Parts as parts;
 ghost use Rattle.edi_messages.specs.Summary as spec;
@@ -7,7 +7,7 @@ use crate::parts::{has_lin, has_qualified, is_lin, is_uns, only_qualified};
 use edi_base::is_count_of;
 use edi_envelope::Segment;
 
-// The section control, where there is just one.
+// Returns the UNS, if there is exactly one.
 fn only_section(message: &[Segment]) -> Option<&Segment>
     ensures { option_map (λ segment. segment.now) result ≡ parts.only (filter parts.is_uns message.now) }
 {
@@ -23,7 +23,7 @@ fn only_section(message: &[Segment]) -> Option<&Segment>
     found
 }
 
-// What follows the first section control.
+// Returns what follows the first UNS.
 fn behind_uns(message: &[Segment]) -> &[Segment]
     ensures { result.now ≡ spec.behind_uns message.now }
 {
@@ -46,14 +46,14 @@ pub fn has_summary(message: &[Segment]) -> bool
     }
 }
 
-/// How many LIN a message has.
+/// Counts the LIN of a message.
 pub fn line_count(message: &[Segment]) -> usize
     ensures { result ≡ spec.line_count message.now }
 {
     message.iter().filter(|segment| is_lin(segment)).count()
 }
 
-/// Whether there is no control of the number of line items (CNT with 6069 2), or just one, with the number of LIN.
+/// Whether there is no control of the number of line items (CNT with 6069 2), or exactly one, with the number of LIN.
 pub fn is_controlled(message: &[Segment]) -> bool
     ensures { result ≡ spec.is_controlled message.now }
 {

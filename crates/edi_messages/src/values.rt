@@ -1,4 +1,4 @@
-//! The values of data elements in messages.
+//! Reads the values of data elements in messages.
 ghost use Rattle.std.specs.Prelude.{◌≡◌, ◌==◌, ◌≤◌, ◌+◌, length};
 ghost use Rattle.std.specs.List.{list_all, prefix_len};
 ghost use Rattle.edi_base.specs.Limits.{is_digit};
@@ -14,7 +14,7 @@ pub(crate) fn is_document_number(bytes: &[u8]) -> bool
     has_length(1, 35, bytes) && all_printable(bytes)
 }
 
-/// The line number that 1 to 6 digits write, which is no zero.
+/// Returns the line number that 1 to 6 digits write, if it is not zero.
 pub(crate) fn line_number(bytes: &[u8]) -> Option<u32>
     ensures { result ≡ spec.line_number bytes.now }
 {
@@ -22,7 +22,7 @@ pub(crate) fn line_number(bytes: &[u8]) -> Option<u32>
     if number == 0 { None } else { Some(number) }
 }
 
-// How many digits stand at the beginning.
+// Counts the digits at the beginning.
 fn digits_len(bytes: &[u8]) -> usize
     ensures within { result ≤ length bytes.now }
     ensures value { result ≡ prefix_len is_digit bytes.now }
@@ -35,7 +35,6 @@ fn digits_len(bytes: &[u8]) -> usize
     bytes.len()
 }
 
-// Whether each byte is the digit zero.
 fn all_zeros(bytes: &[u8]) -> bool
     ensures { result ≡ list_all (λ digit. digit == 48) bytes.now }
 {
@@ -54,8 +53,8 @@ fn is_no_fraction(bytes: &[u8]) -> bool
     }
 }
 
-/// The quantity that these write: digits, perhaps with a decimal mark and one or more zeros after them, 35 bytes and
-/// 999,999,999 at most.
+/// Returns the quantity that these write: digits, perhaps with a decimal mark and one or more zeros after them; 35
+/// bytes and 999,999,999 at most.
 pub(crate) fn quantity(bytes: &[u8]) -> Option<u32>
     ensures { result ≡ spec.quantity bytes.now }
 {
@@ -67,7 +66,7 @@ pub(crate) fn quantity(bytes: &[u8]) -> Option<u32>
     }
 }
 
-// The number of so many digits at a place.
+// Returns the number of this many digits at a place.
 fn number_at(place: usize, count: usize, bytes: &[u8]) -> Option<u32>
     requires { place + count ≤ length bytes.now }
     ensures { result ≡ spec.number_at place count bytes.now }
@@ -100,7 +99,7 @@ fn is_day(bytes: &[u8]) -> bool
     }
 }
 
-// Whether the four bytes after them are a minute of a day, HHMM.
+// Whether the four bytes after the day are a minute of a day, HHMM.
 fn is_minute(bytes: &[u8]) -> bool
     requires { 12 ≤ length bytes.now }
     ensures { result ≡ spec.is_minute bytes.now }

@@ -20,7 +20,7 @@ use Rattle.edi_orders.specs.declared.order.OrderLine.{OrderLine}
 abbrev pub ordered : List Segment → Option ℕ
 ordered group = quantity_of (codes "21") 1 group
 
--- Each condition, of the whole message. Each is defined also where another one holds.
+-- Each condition, of the whole message. Each is defined even if another one holds.
 abbrev pub holds : MessageFault → RawMessage → Bool
 holds fault.MessageType m = not (is_type (codes "ORDERS") m)
 holds fault.Beginning m = not (begins_as (codes "220") m.segments)
@@ -52,6 +52,6 @@ contents_of message = record {
   lines = map line_of (line_groups message);
 }
 
--- the order of a message where no condition holds, else the lowest fault
+-- the order of a message if no condition holds, or else the lowest fault
 unfoldable pub order_of : RawMessage → Result Order MessageFault
 order_of m = unless_any (λ fault. holds fault m) (contents_of m.segments)

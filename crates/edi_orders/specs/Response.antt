@@ -57,13 +57,12 @@ action_of code =
 abbrev pub action : List Segment → Option Action
 action group = action_of (component (line group) 1 0)
 
--- the quantity that is to be delivered (QTY with 6063 113), where there is none that is ordered (21)
+-- the quantity to be delivered (QTY with 6063 113), or else the quantity ordered (21)
 abbrev pub changed : List Segment → Option ℕ
 changed group = if has_qualified (codes "QTY") (codes "113") group then quantity_of (codes "113") 0 group
     else quantity_of (codes "21") 0 group
 
--- the answer to a line; only a change has a quantity. Where there is no action, that is a fault of the line and none of
--- its quantity.
+-- the answer to a line; only a change has a quantity. A missing action is a fault of the line and not of its quantity.
 abbrev pub answer_by : Option Action → List Segment → Option LineAnswer
 answer_by (Some actions.Accept) group = Some line_answers.Accepted
 answer_by (Some actions.Refuse) group = Some line_answers.Refused
@@ -87,7 +86,7 @@ is_reference_to order (Some rff) = is_order_reference rff && is_of_order (order_
 abbrev pub has_no_reference_or_one_to : Option (List ℕ) → List Segment → Bool
 has_no_reference_or_one_to order group = none_or_one_reference (is_reference_to order) group
 
--- Each condition, of the whole message. Each is defined also where another one holds.
+-- Each condition, of the whole message. Each is defined even if another one holds.
 abbrev pub holds : MessageFault → RawMessage → Bool
 holds fault.MessageType m = not (is_type (codes "ORDRSP") m)
 holds fault.Beginning m = not (begins_as (codes "231") m.segments)
@@ -131,6 +130,6 @@ contents_of message = record {
   answer = answer_of (extent message) (map line_of (read_groups message));
 }
 
--- the response of a message where no condition holds, else the lowest fault
+-- the response of a message if no condition holds, or else the lowest fault
 unfoldable pub response_of : RawMessage → Result Response MessageFault
 response_of m = unless_any (λ fault. holds fault m) (contents_of m.segments)

@@ -1,4 +1,4 @@
-//! What the action of a line says.
+//! Reads the action of a line.
 ghost use Rattle.std.specs.Prelude.{◌≡◌};
 ghost use Rattle.edi_orders.specs.Response as spec;
 
@@ -13,7 +13,7 @@ pub enum Action {
     Change,
 }
 
-/// What the code of an action says.
+/// Returns the action of a code.
 pub(crate) fn action_of(code: &[u8]) -> Option<Action>
     ensures { result ≡ spec.action_of code.now }
 {

@@ -1,4 +1,4 @@
-//! The line groups of a response, read one condition after another.
+//! Reads the line groups of a response, one condition after another.
 ghost use Rattle.std.specs.Prelude.{◌≡◌, ◌≢◌, IfOk, IfErr, Some, true, false, map, is_some};
 ghost use Rattle.std.specs.List.{list_all};
 ghost use Rattle.edi_messages.specs.References.{group_line};
@@ -62,7 +62,7 @@ pub fn action(group: &[Segment]) -> Option<Action>
     }
 }
 
-/// The line items, each with its action; the fault `Line` where one has none.
+/// Returns the line items, each with its action. It is the fault `Line` if one has none.
 pub(crate) fn action_items<'a, 'b>(
     alloc: Global,
     items: &'b [LineItem<'a>],
@@ -80,7 +80,6 @@ pub(crate) fn action_items<'a, 'b>(
     Ok(lines)
 }
 
-// The quantity of a changed line.
 fn changed(group: &[Segment]) -> Option<u32>
     ensures { result ≡ spec.changed group.now }
 {
@@ -102,7 +101,7 @@ pub fn answer_by(action: Action, group: &[Segment]) -> Option<LineAnswer>
     }
 }
 
-/// The line items, each with its answer; the fault `Quantity` where a changed one has no quantity.
+/// Returns the line items, each with its answer. It is the fault `Quantity` if a changed one has no quantity.
 pub(crate) fn answered_items<'a, 'b>(
     alloc: Global,
     items: &[ActionItem<'a, 'b>],
@@ -145,7 +144,7 @@ pub fn order_line(order: &[u8], group: &[Segment]) -> Result<Option<u32>, Messag
     }
 }
 
-/// The answers to lines of this order; the fault `Reference` where a group names another one.
+/// Returns the answers to lines of this order. It is the fault `Reference` if a group names another one.
 pub(crate) fn answer_lines(
     alloc: Global,
     order: &[u8],

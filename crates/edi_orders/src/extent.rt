@@ -1,4 +1,4 @@
-//! What the message function of a response says.
+//! Reads the message function of a response.
 ghost use Rattle.std.specs.Prelude.{◌≡◌};
 ghost use Rattle.edi_orders.specs.Response as spec;
 
@@ -13,7 +13,7 @@ pub(crate) enum Extent {
     AllRefused,
 }
 
-/// What a message function says.
+/// Returns how far a response with this message function answers.
 pub(crate) fn extent_of(function: &[u8]) -> Option<Extent>
     ensures { result ≡ spec.extent_of function.now }
 {

@@ -1,4 +1,4 @@
-//! Orders and their answers: the records of ORDERS and ORDRSP messages (EANCOM 2002 over UN/EDIFACT D.01B).
+//! Reads orders and their answers: the records of ORDERS and ORDRSP messages (EANCOM 2002 over UN/EDIFACT D.01B).
 #![tactic(auto)]
 
 mod action;

@@ -1,4 +1,4 @@
-//! Orders (ORDERS).
+//! Reads orders (ORDERS).
 ghost use Rattle.std.specs.Prelude.{◌≡◌, ◌≢◌, IfOk, IfErr, Ok, Err, Some, true, false, codes, map, is_some};
 ghost use Rattle.std.specs.List.{list_all};
 ghost use Rattle.edi_base.specs.Seen.{has_number_twice as twice};
@@ -40,7 +40,7 @@ pub struct OrderLine {
     pub quantity: u32,
 }
 
-// The lines of groups, each with the quantity ordered.
+// Returns the lines of groups, each with the quantity ordered.
 fn order_lines(alloc: Global, items: &[LineItem<'_>]) -> Result<Items<OrderLine>, MessageFault>
     ensures ok { IfOk result (λ lines. (lines ≡ map spec.line_of items.now)
         × (list_all (λ group. is_some (spec.ordered group)) items.now ≡ true)) }
@@ -60,14 +60,14 @@ fn order_lines(alloc: Global, items: &[LineItem<'_>]) -> Result<Items<OrderLine>
     Ok(lines)
 }
 
-// Who orders, and of whom.
+// The parties of an order.
 #[derive(Drop)]
 struct Heading {
     buyer: Gln,
     supplier: Gln,
 }
 
-// What stands before the lines, or the lowest fault of it.
+// Returns what comes before the lines, or its lowest fault.
 fn read_heading(message: &RawMessage) -> Result<Heading, MessageFault>
     ensures said { IfOk result (λ heading. (party (codes "BY") message.now.segments ≡ Some heading.buyer)
         × (party (codes "SU") message.now.segments ≡ Some heading.supplier)) }
@@ -96,7 +96,7 @@ fn read_heading(message: &RawMessage) -> Result<Heading, MessageFault>
     Ok(Heading { buyer, supplier })
 }
 
-// The lines, or the lowest fault of them.
+// Returns the lines, or their lowest fault.
 fn read_lines(alloc: Global, message: &RawMessage) -> Result<Items<OrderLine>, MessageFault>
     ensures said { IfOk result (λ lines. lines ≡ map spec.line_of (line_groups message.now.segments)) }
     ensures apart { IfOk result (λ _. twice (map number_or_zero (line_groups message.now.segments)) ≡ false) }
@@ -113,9 +113,9 @@ fn read_lines(alloc: Global, message: &RawMessage) -> Result<Items<OrderLine>, M
 }
 
 impl Order {
-    /// The order that a message is: ORDERS of the directory D.01B with BGM 1001 220 and 1225 9, one document date, one
-    /// buyer and one supplier, lines each with its own number, an article and a quantity ordered, and one UNS. Else the
-    /// lowest fault of the message, wherever in it that stands.
+    /// Reads the order that a message is: ORDERS of the directory D.01B with BGM 1001 220 and 1225 9, one document
+    /// date, one buyer and one supplier, lines each with its own number, an article and a quantity ordered, and one
+    /// UNS. Otherwise it returns the lowest fault of the message, wherever that is in it.
     #[tactic(auto, unfolding(crate::specs::Order::order_of))]
     pub fn read(alloc: Global, message: &RawMessage) -> Result<Order, MessageFault>
         ensures ok { IfOk result (λ order. spec.order_of message.now ≡ Ok order) }

@@ -1,4 +1,4 @@
-//! Responses to orders (ORDRSP).
+//! Reads responses to orders (ORDRSP).
 ghost use Rattle.std.specs.Prelude.{◌≡◌, ◌≢◌, IfOk, IfErr, Ok, Err, Some, true, false, map, codes};
 ghost use Rattle.std.specs.List.{list_all};
 ghost use Rattle.edi_messages.specs.Fault.{faults, faults_from};
@@ -47,7 +47,7 @@ pub enum Answer {
 /// The answer to a line of an order.
 #[derive(Clone, Copy, Debug, PartialEq, Eq)]
 pub struct AnswerLine {
-    /// The line of the order (RFF ON 1156), where it is named.
+    /// The line of the order (RFF ON 1156), if it is named.
     pub order_line: Option<u32>,
     /// The article.
     pub gtin: Gtin,
@@ -58,15 +58,15 @@ pub struct AnswerLine {
 /// What becomes of a line of an order.
 #[derive(Clone, Copy, Debug, PartialEq, Eq)]
 pub enum LineAnswer {
-    /// It is accepted without amendment.
+    /// Accepted without amendment.
     Accepted,
-    /// It is not accepted.
+    /// Not accepted.
     Refused,
-    /// This quantity is accepted, in pieces, at most 999,999,999.
+    /// Accepted with this quantity, in pieces, at most 999,999,999.
     Changed(u32),
 }
 
-// The line items that a response answers; none where it answers all lines alike.
+// Returns the line items that a response answers, or none if it answers all lines alike.
 fn read_items(
     alloc: Global,
     extent: Extent,
@@ -84,7 +84,7 @@ fn read_items(
     }
 }
 
-// The answer of a response with these lines.
+// Returns the answer of a response with these lines.
 fn answer_of(extent: Extent, lines: Items<AnswerLine>) -> Answer
     ensures { result ≡ spec.answer_of (Some extent) lines }
 {
@@ -95,7 +95,7 @@ fn answer_of(extent: Extent, lines: Items<AnswerLine>) -> Answer
     }
 }
 
-/// What stands before the lines.
+/// What comes before the lines.
 #[derive(Drop)]
 struct Heading {
     extent: Extent,
@@ -110,7 +110,7 @@ struct Answers<'a> {
     lines: Items<AnswerLine>,
 }
 
-// What stands before the lines, or the lowest fault of it.
+// Returns what comes before the lines, or its lowest fault.
 fn read_heading(message: &RawMessage) -> Result<Heading, MessageFault>
     ensures said { IfOk result (λ heading. (spec.extent message.now.segments ≡ Some heading.extent)
         × (party (codes "BY") message.now.segments ≡ Some heading.buyer)
@@ -142,7 +142,7 @@ fn read_heading(message: &RawMessage) -> Result<Heading, MessageFault>
     })
 }
 
-// The order that is answered, and the answers to its lines, or the lowest fault of them.
+// Returns the order that is answered and the answers to its lines, or their lowest fault.
 fn read_answers(
     alloc: Global,
     extent: Extent,
@@ -166,10 +166,10 @@ fn read_answers(
 }
 
 impl Response {
-    /// The response that a message is: ORDRSP of the directory D.01B with BGM 1001 231 and 1225 4, 9, 27 or 29, one
-    /// document date, one buyer and one supplier, one reference to an order, lines each with an article, an action, the
-    /// quantity of a change and at most one reference to that order, and one UNS. Lines are not read with 27 and 29.
-    /// Else the lowest fault of the message, wherever in it that stands.
+    /// Reads the response that a message is: ORDRSP of the directory D.01B with BGM 1001 231 and 1225 4, 9, 27 or 29,
+    /// one document date, one buyer and one supplier, one reference to an order, lines each with an article, an action,
+    /// the quantity of a change and at most one reference to that order, and one UNS. Lines are not read with 27 and
+    /// 29. Otherwise it returns the lowest fault of the message, wherever that is in it.
     #[tactic(auto, unfolding(crate::specs::Response::response_of))]
     pub fn read(alloc: Global, message: &RawMessage) -> Result<Response, MessageFault>
         ensures ok { IfOk result (λ response. spec.response_of message.now ≡ Ok response) }

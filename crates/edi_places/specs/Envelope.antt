@@ -1,4 +1,4 @@
--- The segment that shows the fault of an interchange, by its number: UNB is counted as 1.
+-- Finds the segment that shows the fault of an interchange, by its number. UNB is number 1.
 use Rattle.std.specs.Prelude.{ℕ, ◌+◌, ◌-◌, ◌==◌, Bool, false, true, not, ◌&&◌, ◌||◌, if◌then◌else◌, List, [], ◌∷◌, length, take}
 use Rattle.std.specs.Prelude.{Option, Some, None}
 use Rattle.edi_base.specs.Seen.{is_among}
@@ -16,17 +16,17 @@ use Rattle.edi_envelope.specs.Check.{is_outer, has_identity}
 use Rattle.edi_envelope.specs.Message.{is_frame, is_within_limits, is_counted, is_closed}
 use Rattle.edi_places.specs.Counting.{first_place, place_from}
 
--- the first segment where it is no UNB, else the next UNB or UNZ, else the last
+-- the first segment if it is not a UNB, or else the next UNB or UNZ, or else the last
 abbrev pub frame_place : List Segment → Option ℕ
 frame_place [] = None
 frame_place (first ∷ rest) = Some (if is_unb first then 1 + first_place is_outer rest else 1)
 
--- the segment may stand in a row of messages, where one is begun or none is
+-- the segment may come next in a row of messages, by whether a message has begun
 abbrev pub may_stand : Bool → Segment → Bool
 may_stand false segment = is_unh segment
 may_stand true segment = is_unt segment || not (is_frame segment || is_unz segment)
 
--- the first segment at which messages cannot go on; after one that is no UNT a message is begun
+-- the first segment that cannot come next; after each but a UNT a message has begun
 abbrev pub first_break_place : Bool → List Segment → ℕ
 first_break_place begun [] = 0
 first_break_place begun (segment ∷ rest) = if may_stand begun segment then 1 + first_break_place (not (is_unt segment)) rest else 1
@@ -39,18 +39,19 @@ row_place (unb ∷ rest) = 1 + first_break_place false rest
 abbrev pub message_at : List Segment → List Segment
 message_at segments = take (first_place is_unt segments) segments
 
--- the conditions of one message
+-- a message has a fault
 abbrev pub shows : EnvelopeFault → List Segment → Bool
 shows MessageHeader message = not (is_within_limits message)
 shows SegmentCount message = not (is_counted message)
 shows MessageReference message = not (is_closed message)
 shows _ message = false
 
--- a message begins here of which the condition holds
+-- a message that has the fault begins here
 abbrev pub begins_wrong : EnvelopeFault → List Segment → Bool
 begins_wrong fault segments = is_unh (first_segment segments) && shows fault (message_at segments)
 
--- of such a message: its UNH where the reference or the identifier in it is against the limits, else its UNT
+-- the segment of such a message: its UNH if the reference or the identifier in it is outside the limits, or else its
+-- UNT
 abbrev pub place_in_message : EnvelopeFault → List Segment → ℕ
 place_in_message MessageHeader segments = if has_identity (first_segment segments) then first_place is_unt segments else 1
 place_in_message _ segments = first_place is_unt segments
@@ -59,7 +60,7 @@ place_in_message _ segments = first_place is_unt segments
 abbrev pub first_shown_place : EnvelopeFault → List Segment → ℕ
 first_shown_place fault segments = place_from (begins_wrong fault) (place_in_message fault) segments
 
--- the first UNH whose reference an earlier one has, where these have come before
+-- the first UNH with the reference of an earlier one, after these
 abbrev pub first_repeat_place : List (List ℕ) → List Segment → ℕ
 first_repeat_place come [] = 0
 first_repeat_place come (segment ∷ rest) =
@@ -67,14 +68,14 @@ first_repeat_place come (segment ∷ rest) =
     then (if is_among (component segment 0 0) come then 1 else 1 + first_repeat_place (component segment 0 0 ∷ come) rest)
     else 1 + first_repeat_place come rest
 
--- the UNH before which so many messages stand
+-- the UNH that comes after this many messages
 abbrev pub place_of_unh : ℕ → List Segment → ℕ
 place_of_unh before [] = 0
 place_of_unh before (segment ∷ rest) =
     if is_unh segment then (if before == 0 then 1 else 1 + place_of_unh (before - 1) rest)
     else 1 + place_of_unh before rest
 
--- The segment that shows each fault, of all segments of the interchange. Where there is none at all, none shows E06.
+-- the segment that shows each fault, among all segments of the interchange; if there is none at all, none shows E06
 abbrev pub envelope_place : EnvelopeFault → List Segment → Option ℕ
 envelope_place InterchangeFrame segments = frame_place segments
 envelope_place InterchangeHeader segments = Some 1

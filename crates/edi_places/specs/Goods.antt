@@ -1,4 +1,4 @@
--- The segment that shows a fault of a despatch advice or of a receiving advice, by its number: UNH is counted as 1.
+-- Finds the segment that shows a fault of a despatch advice or a receiving advice, by its number. UNH is number 1.
 use Rattle.std.specs.Prelude.{ℕ, ◌+◌, Bool, true, false, not, ◌&&◌, if◌then◌else◌, List, [], ◌∷◌, is_some, codes}
 use Rattle.std.specs.List.{list_any, prefix_len}
 use Rattle.std.specs.Option.{unwrap_or}
@@ -16,7 +16,7 @@ use Rattle.edi_places.specs.declared.groups.Condition.{Condition}
 use Rattle.edi_places.specs.declared.groups.Condition.TheVariants as condition
 use Rattle.edi_places.specs.Header.{beginning_place, date_place, goods_parties_place, reference_place, control_place}
 
--- how many segments stand before the first CPS
+-- how many segments come before the first CPS
 abbrev pub outside : List Segment → ℕ
 outside message = prefix_len (λ segment. not (is_cps segment)) message
 
@@ -29,15 +29,15 @@ abbrev pub reference_condition : Bool → Condition
 reference_condition true = condition.ReferenceOrNone
 reference_condition false = condition.Reference
 
--- the GIN with 7405 BJ of a unit: the second in its head, else the one that there is, else CPS
+-- the GIN with 7405 BJ of a unit: the second in its head, or else the only one, or else CPS
 abbrev pub sscc_place : List Segment → ℕ
 sscc_place unit = once_place (is_qualified (codes "GIN") (codes "BJ")) 1 (head unit)
 
--- a unit has an SSCC, which is none of those that have come
+-- a unit has an SSCC that is not among these
 abbrev pub is_new_unit : List (List ℕ) → List Segment → Bool
 is_new_unit come unit = is_some (sscc unit) && not (is_among (sscc_or_none unit) come)
 
--- a unit that is read begins here
+-- a unit that has lines begins here; others are not read
 abbrev pub begins_unit : List Segment → Bool
 begins_unit segments = is_cps (first_segment segments) && list_any is_lin (unit_of segments)
 
@@ -49,18 +49,18 @@ begins_wrong_unit come segments =
 abbrev pub ssccs_with : List (List ℕ) → List Segment → List (List ℕ)
 ssccs_with come segments = if begins_unit segments then sscc_or_none (unit_of segments) ∷ come else come
 
--- CPS where it has no identifier, else GIN
+-- CPS if it has no identifier, or else GIN
 abbrev pub place_in_unit : List Segment → ℕ
 place_in_unit unit = if has_identifier unit then sscc_place unit else 1
 
--- of the first such unit, where these SSCC have come before
+-- of the first such unit, after units with these SSCC
 abbrev pub first_unit_place : List (List ℕ) → List Segment → ℕ
 first_unit_place come [] = 0
 first_unit_place come (segment ∷ rest) =
     if begins_wrong_unit come (segment ∷ rest) then place_in_unit (unit_of (segment ∷ rest))
     else 1 + first_unit_place (ssccs_with come (segment ∷ rest)) rest
 
--- a LIN before the first CPS, else of such a unit
+-- a LIN before the first CPS, or else a segment of such a unit
 abbrev pub unit_place : List Segment → ℕ
 unit_place message = if has_line_outside message then first_place is_lin message else first_unit_place [] message
 

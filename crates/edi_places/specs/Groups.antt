@@ -66,6 +66,6 @@ place_at condition index message =
 abbrev pub group_place : Condition → List ℕ → ℕ → List Segment → Option ℕ
 group_place condition order from message = place_at condition (from + before_wrong condition order (drop from message)) message
 
--- the same, or else the last segment
+-- the last segment if the condition holds of each line group
 abbrev pub group_place_or_last : Condition → List ℕ → ℕ → List Segment → ℕ
 group_place_or_last condition order from message = unwrap_or (group_place condition order from message) (length message)

@@ -1,4 +1,4 @@
--- The segment that shows a fault of an order or of a response, by its number: UNH is counted as 1.
+-- Finds the segment that shows a fault of an order or a response, by its number. UNH is number 1.
 use Rattle.std.specs.Prelude.{ℕ, ◌+◌, Bool, not, ◌&&◌, nat_eq, if◌then◌else◌, List, [], ◌∷◌}
 use Rattle.std.specs.Prelude.{Option, Some, None}
 use Rattle.edi_base.specs.Seen.{comes_among}
@@ -12,14 +12,14 @@ use Rattle.edi_places.specs.Groups.{group_place_or_last}
 use Rattle.edi_places.specs.declared.groups.Condition.TheVariants as condition
 use Rattle.edi_places.specs.Header.{beginning_place, date_place, parties_place, reference_place, summary_place, control_place}
 
--- a LIN is valid, and its line number, 0 where it is not
+-- a LIN is valid; its line number, 0 if it is not
 abbrev pub is_lin_valid : Segment → Bool
 is_lin_valid lin = is_line (lin ∷ [])
 
 abbrev pub lin_number : Segment → ℕ
 lin_number lin = number_or_zero (lin ∷ [])
 
--- a LIN that is wrong, or has one of the numbers that have come
+-- a LIN that is wrong, or has one of these numbers
 abbrev pub shows_line : List ℕ → Segment → Bool
 shows_line come segment =
     is_lin segment && not (is_lin_valid segment && not (comes_among nat_eq (lin_number segment) come))
@@ -27,7 +27,7 @@ shows_line come segment =
 abbrev pub numbers_with : List ℕ → Segment → List ℕ
 numbers_with come segment = if is_lin segment then lin_number segment ∷ come else come
 
--- the first of them, where these numbers have come before
+-- the first of them, after lines with these numbers
 abbrev pub first_line_place : List ℕ → List Segment → ℕ
 first_line_place come [] = 0
 first_line_place come (segment ∷ rest) =
@@ -45,7 +45,7 @@ order_place fault.Quantity message = group_place_or_last condition.Ordered [] 0 
 order_place fault.Control message = control_place message
 order_place _ message = 1
 
--- of the header where it names no order, else of a line group
+-- of the header if it names no order, or else of a line group
 abbrev pub response_reference_place : Option (List ℕ) → List Segment → ℕ
 response_reference_place None message = reference_place message
 response_reference_place (Some order) message = group_place_or_last condition.SameOrder order 0 message

@@ -1,4 +1,4 @@
-//! The number of a segment in a list, the first counted as 1.
+//! Finds segments in a list by their numbers. The first is number 1.
 ghost use Rattle.std.specs.Prelude.{◌≡◌, ◌≤◌, ◌+◌, length};
 ghost use Rattle.std.specs.List.{list_any};
 ghost use Rattle.edi_envelope.specs.Segments.{has_tag};
@@ -8,7 +8,6 @@ ghost use Rattle.edi_places.specs.Counting as spec;
 use edi_messages::parts::has_qualified;
 use edi_tokens::Segment;
 
-/// Whether one of the segments has a tag.
 pub(crate) fn has_tag(tag: &[u8; 3], segments: &[Segment]) -> bool
     ensures { result ≡ list_any (has_tag tag.now) segments.now }
 {
@@ -20,7 +19,7 @@ pub(crate) fn has_tag(tag: &[u8; 3], segments: &[Segment]) -> bool
     false
 }
 
-/// The number of the first segment with a tag; how many there are, where there is none.
+/// Returns the number of the first segment with a tag, or the number of all segments if none has it.
 pub(crate) fn first_tag_place(tag: &[u8; 3], segments: &[Segment]) -> usize
     ensures within { result ≤ length segments.now }
     ensures value { result ≡ spec.first_place (has_tag tag.now) segments.now }
@@ -33,7 +32,7 @@ pub(crate) fn first_tag_place(tag: &[u8; 3], segments: &[Segment]) -> usize
     segments.len()
 }
 
-/// The second segment with a tag behind the first, whose number is given; else the first.
+/// Returns the number of the second segment with a tag, or else of the first, whose number is given.
 pub(crate) fn second_or_first_place(tag: &[u8; 3], first: usize, segments: &[Segment]) -> usize
     requires { first ≤ length segments.now }
     ensures { result ≡ spec.second_or_first_place (has_tag tag.now) first segments.now }
@@ -46,7 +45,7 @@ pub(crate) fn second_or_first_place(tag: &[u8; 3], first: usize, segments: &[Seg
     }
 }
 
-// The number of the first segment with a tag and a qualifier; how many there are, where there is none.
+// Returns the number of the first segment with a tag and a qualifier, or the number of all segments if none has them.
 fn first_qualified_place(tag: &[u8; 3], qualifier: &[u8], segments: &[Segment]) -> usize
     ensures within { result ≤ length segments.now }
     ensures value { result ≡ spec.first_place (is_qualified tag.now qualifier.now) segments.now }
@@ -59,7 +58,8 @@ fn first_qualified_place(tag: &[u8; 3], qualifier: &[u8], segments: &[Segment]) 
     segments.len()
 }
 
-/// Of what has to stand once, by its tag and its qualifier: the second, else the one that there is, else another.
+/// Returns the number of the second segment with a tag and a qualifier, which has to come once; or else of the only
+/// one, or else `other`.
 pub(crate) fn once_place(
     tag: &[u8; 3],
     qualifier: &[u8],

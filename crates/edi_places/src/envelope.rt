@@ -1,4 +1,4 @@
-//! The segment that shows the fault of an interchange, by its number: UNB is counted as 1.
+//! Finds the segment that shows the fault of an interchange, by its number. UNB is number 1.
 ghost use Rattle.std.specs.Prelude.{◌≡◌, ◌≤◌, ◌+◌, [], IfOk, false, length};
 ghost use Rattle.std.specs.List.{list_all, list_any};
 ghost use Rattle.edi_envelope.specs.Segments.{component, first_segment, last_segment};
@@ -15,17 +15,17 @@ use edi_envelope::EnvelopeFault;
 use edi_tokens::{Items, MemoryFault, Segment};
 use std::alloc::Global;
 
-/// An interchange has at most so many messages.
+/// The most messages that an interchange has.
 const MOST_MESSAGES: usize = 999;
 
-// Whether a segment stands at an end of the interchange alone.
+// Whether a segment may only begin or end the interchange.
 fn is_outer(segment: &Segment) -> bool
     ensures { result ≡ check.is_outer segment.now }
 {
     segment.tag == *b"UNB" || segment.tag == *b"UNZ"
 }
 
-// The first UNB or UNZ; how many segments there are, where there is none.
+// Returns the number of the first UNB or UNZ, or of the last segment if there is none.
 fn first_outer_place(segments: &[Segment]) -> usize
     ensures within { result ≤ length segments.now }
     ensures value { result ≡ first_place check.is_outer segments.now }
@@ -38,7 +38,6 @@ fn first_outer_place(segments: &[Segment]) -> usize
     segments.len()
 }
 
-// The segment that shows a wrong frame of the interchange.
 fn frame_place(segments: &[Segment]) -> Option<usize>
     ensures { result ≡ spec.frame_place segments.now }
 {
@@ -49,7 +48,7 @@ fn frame_place(segments: &[Segment]) -> Option<usize>
     Some(1 + first_outer_place(rest))
 }
 
-// Whether a segment may stand in a row of messages, where one is begun or none is.
+// Whether a segment may come next in a row of messages, by whether a message has begun.
 fn may_stand(begun: bool, segment: &Segment) -> bool
     ensures { result ≡ spec.may_stand begun segment.now }
 {
@@ -61,7 +60,7 @@ fn may_stand(begun: bool, segment: &Segment) -> bool
         || !(tag == *b"UNH" || tag == *b"UNT" || tag == *b"UNG" || tag == *b"UNE" || tag == *b"UNZ")
 }
 
-// The first segment at which messages cannot go on.
+// Returns the first segment that cannot come next in a row of messages.
 fn first_break_place(segments: &[Segment]) -> usize
     ensures within { result ≤ length segments.now }
     ensures value { result ≡ spec.first_break_place false segments.now }
@@ -76,7 +75,7 @@ fn first_break_place(segments: &[Segment]) -> usize
     segments.len()
 }
 
-// The segment after UNB at which messages cannot go on.
+// Returns the first segment after UNB that cannot come next in a row of messages.
 fn row_place(segments: &[Segment]) -> usize
     ensures { result ≡ spec.row_place segments.now }
 {
@@ -86,7 +85,7 @@ fn row_place(segments: &[Segment]) -> usize
     }
 }
 
-// The segments of a message, UNH to UNT.
+// Returns the segments of a message, UNH to UNT.
 fn message_at(segments: &[Segment]) -> &[Segment]
     ensures { result.now ≡ spec.message_at segments.now }
 {
@@ -94,14 +93,13 @@ fn message_at(segments: &[Segment]) -> &[Segment]
     message
 }
 
-// Whether no byte is past 0x7E.
 fn all_seven_bit(bytes: &[u8]) -> bool
     ensures { result ≡ list_all limits.is_seven_bit bytes.now }
 {
     bytes.iter().all(|b| *b <= 0x7e)
 }
 
-// Whether these are so many bytes, none past 0x7E.
+// Whether the number of bytes is within these limits, and none is past 0x7E.
 fn is_identifier(low: usize, high: usize, bytes: &[u8]) -> bool
     ensures { result ≡ limits.is_identifier low high bytes.now }
 {
@@ -122,7 +120,7 @@ fn has_identity(unh: &Segment) -> bool
         && is_identifier(0, 6, unh.component(1, 4))
 }
 
-// Whether the first segment has an identity.
+// Whether the first segment is a UNH whose reference and message identifier are within their limits.
 fn is_identified(segments: &[Segment]) -> bool
     ensures { result ≡ check.has_identity (first_segment segments.now) }
 {
@@ -132,7 +130,7 @@ fn is_identified(segments: &[Segment]) -> bool
     }
 }
 
-// A component of the last segment, that of element 1 or 2 which stands first.
+// Returns the first component of an element of the last segment.
 fn last_component(segments: &[Segment], element: usize) -> &[u8]
     ensures { result.now ≡ component (last_segment segments.now) element 0 }
 {
@@ -142,7 +140,7 @@ fn last_component(segments: &[Segment], element: usize) -> &[u8]
     }
 }
 
-// The message reference number in UNH.
+// Returns the message reference number in UNH.
 fn reference_of(message: &[Segment]) -> &[u8]
     ensures { result.now ≡ messages.reference_of message.now }
 {
@@ -159,7 +157,7 @@ fn is_within_limits(message: &[Segment]) -> bool
     is_identified(message) && count_of(last_component(message, 0)).is_some()
 }
 
-// Whether a condition of one message holds.
+// Whether a message has a fault.
 fn shows(fault: EnvelopeFault, message: &[Segment]) -> bool
     ensures { result ≡ spec.shows fault message.now }
 {
@@ -171,7 +169,7 @@ fn shows(fault: EnvelopeFault, message: &[Segment]) -> bool
     }
 }
 
-// The segment of a message that shows its condition.
+// Returns the segment of a message that shows its fault.
 fn place_in_message(fault: EnvelopeFault, segments: &[Segment]) -> usize
     ensures within { result ≤ length segments.now + 1 }
     ensures value { result ≡ spec.place_in_message fault segments.now }
@@ -183,7 +181,7 @@ fn place_in_message(fault: EnvelopeFault, segments: &[Segment]) -> usize
     }
 }
 
-// The segment that shows a condition of one message, of the first of which it holds.
+// Returns the segment that shows the fault of the first message that has it.
 fn first_shown_place(fault: EnvelopeFault, segments: &[Segment]) -> usize
     ensures { result ≡ spec.first_shown_place fault segments.now }
 {
@@ -196,7 +194,7 @@ fn first_shown_place(fault: EnvelopeFault, segments: &[Segment]) -> usize
     segments.len()
 }
 
-// The first UNH whose reference an earlier one has.
+// Returns the first UNH with the reference of an earlier one.
 fn first_repeat_place(alloc: Global, segments: &[Segment]) -> Result<usize, MemoryFault>
     ensures { IfOk result (λ place. place ≡ spec.first_repeat_place [] segments.now) }
 {
@@ -209,7 +207,7 @@ fn first_repeat_place(alloc: Global, segments: &[Segment]) -> Result<usize, Memo
     Ok(segments.len())
 }
 
-// The UNH before which so many messages stand.
+// Returns the UNH that comes after this many messages.
 fn place_of_unh(before: usize, segments: &[Segment]) -> usize
     ensures { result ≡ spec.place_of_unh before segments.now }
 {
@@ -225,14 +223,13 @@ fn place_of_unh(before: usize, segments: &[Segment]) -> usize
     segments.len()
 }
 
-// Whether a byte from 0xA0 on is among the bytes.
+// Whether one of the bytes is 0xA0 or above.
 fn has_high(bytes: &[u8]) -> bool
     ensures { result ≡ interchange.has_high bytes.now }
 {
     bytes.iter().any(|b| *b >= 0xa0)
 }
 
-// Whether a component has a byte from 0xA0 on.
 fn has_high_component(components: &[Items<u8>]) -> bool
     ensures { result ≡ list_any interchange.has_high components.now }
 {
@@ -241,7 +238,6 @@ fn has_high_component(components: &[Items<u8>]) -> bool
         .any(|component| has_high(component.as_slice()))
 }
 
-// Whether a segment has a byte from 0xA0 on in its data.
 fn has_high_data(segment: &Segment) -> bool
     ensures { result ≡ interchange.has_high_data segment.now }
 {
@@ -251,7 +247,7 @@ fn has_high_data(segment: &Segment) -> bool
         .any(|element| has_high_component(element.as_slice()))
 }
 
-// The first segment with a byte from 0xA0 on.
+// Returns the first segment with a byte of 0xA0 or above in its data.
 fn first_high_place(segments: &[Segment]) -> usize
     ensures { result ≡ first_place interchange.has_high_data segments.now }
 {
@@ -263,9 +259,9 @@ fn first_high_place(segments: &[Segment]) -> usize
     segments.len()
 }
 
-/// The number of the segment that shows the fault of an interchange (ISO 9735, structures), of all its segments, UNB
-/// counted as 1; none where there is no segment. Of another list of segments it is some number. Out of memory, where the
-/// references of messages are compared.
+/// Returns the number of the segment that shows the fault of an interchange (ISO 9735, structures) among all its
+/// segments. UNB is number 1; `None` if there is no segment. For segments without this fault it is some number. Only
+/// the comparison of references takes memory.
 pub fn envelope_place(
     alloc: Global,
     fault: EnvelopeFault,

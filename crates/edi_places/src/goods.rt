@@ -1,4 +1,4 @@
-//! The segment that shows a fault of a despatch advice or of a receiving advice, by its number: UNH is counted as 1.
+//! Finds the segment that shows a fault of a despatch advice or a receiving advice, by its number. UNH is number 1.
 ghost use Rattle.std.specs.Prelude.{◌≡◌, ◌≤◌, ◌+◌, ◌&&◌, ◌||◌, ℕ, List, [], IfOk, OnOk, length, is_some, true, false, option_map};
 ghost use Rattle.std.specs.Str.{bytes_eq};
 ghost use Rattle.edi_base.specs.Seen.{is_among};
@@ -27,7 +27,7 @@ fn has_header_reference_or_none(message: &[Segment]) -> bool
     !has_reference(header(message)) || order(message).is_some()
 }
 
-// Whether a unit that is read begins here.
+// Whether these segments begin with a unit that has lines. Others are not read.
 fn begins_unit(segments: &[Segment]) -> bool
     ensures { result ≡ spec.begins_unit segments.now }
 {
@@ -37,7 +37,7 @@ fn begins_unit(segments: &[Segment]) -> bool
     }
 }
 
-// The bytes of the one SSCC of a GIN, which stands alone after the qualifier.
+// Returns the bytes of the one SSCC of a GIN, the only component after the qualifier.
 fn gin_sscc(gin: &Segment) -> Option<&[u8]>
     ensures { option_map (λ sscc. sscc.now) result ≡ units.sscc_in gin.now }
 {
@@ -52,14 +52,13 @@ fn gin_sscc(gin: &Segment) -> Option<&[u8]>
     }
 }
 
-// The SSCC of a unit.
 fn sscc(unit: &[Segment]) -> Option<&[u8]>
     ensures { option_map (λ sscc. sscc.now) result ≡ units.sscc unit.now }
 {
     gin_sscc(only_qualified(b"GIN", b"BJ", head(unit))?)
 }
 
-// Whether a unit has an SSCC that comes for the first time.
+// Whether a unit has an SSCC that no earlier unit has. The SSCC is added to those that were seen.
 fn is_new_unit<'a>(seen: &mut Seen<'a>, unit: &'a [Segment]) -> Result<bool, MemoryFault>
     ensures new { IfOk result (λ new. new ≡ spec.is_new_unit seen.old unit.now) }
     ensures seen { OnOk result (is_some (units.sscc unit.now) ≡ true → (other : List ℕ) →
@@ -71,7 +70,7 @@ fn is_new_unit<'a>(seen: &mut Seen<'a>, unit: &'a [Segment]) -> Result<bool, Mem
     seen.insert(sscc)
 }
 
-// The GIN that shows a wrong SSCC of a unit: the second in its head, else the one that there is, else CPS.
+// Returns the GIN that shows a wrong SSCC of a unit: the second in its head, or else the only one, or else CPS.
 fn sscc_place(unit: &[Segment]) -> usize
     ensures within { result ≤ length unit.now + 1 }
     ensures value { result ≡ spec.sscc_place unit.now }
@@ -80,7 +79,8 @@ fn sscc_place(unit: &[Segment]) -> usize
     once_place(b"GIN", b"BJ", 1, head)
 }
 
-// Whether a unit that is read begins here, without an identifier or without an SSCC of its own, which else is put in.
+// Whether these segments begin with a unit that is read, but has no identifier or no SSCC of its own. Its SSCC is added
+// otherwise.
 fn begins_wrong_unit<'a>(seen: &mut Seen<'a>, segments: &'a [Segment]) -> Result<bool, MemoryFault>
     ensures wrong { IfOk result (λ wrong. wrong ≡ spec.begins_wrong_unit seen.old segments.now) }
     ensures seen { IfOk result (λ wrong. wrong ≡ false → (other : List ℕ) →
@@ -97,7 +97,7 @@ fn begins_wrong_unit<'a>(seen: &mut Seen<'a>, segments: &'a [Segment]) -> Result
     Ok(!new)
 }
 
-// The segment of such a unit that shows it: CPS where it has no identifier, else GIN.
+// Returns the segment that shows a wrong unit: CPS if it has no identifier, or else GIN.
 fn place_in_unit(unit: &[Segment]) -> usize
     ensures within { result ≤ length unit.now + 1 }
     ensures value { result ≡ spec.place_in_unit unit.now }
@@ -109,7 +109,7 @@ fn place_in_unit(unit: &[Segment]) -> usize
     }
 }
 
-// The segment that shows a wrong unit, of the first that is wrong or has the SSCC of an earlier one.
+// Returns the segment that shows the first unit that is wrong or has the SSCC of an earlier one.
 fn first_unit_place(alloc: Global, message: &[Segment]) -> Result<usize, MemoryFault>
     ensures { IfOk result (λ place. place ≡ spec.first_unit_place [] message.now) }
 {
@@ -123,8 +123,8 @@ fn first_unit_place(alloc: Global, message: &[Segment]) -> Result<usize, MemoryF
     Ok(message.len())
 }
 
-// The segment that shows a wrong unit: a LIN before the first CPS, else one of the first unit that is wrong or has the
-// SSCC of an earlier one.
+// Returns the segment that shows a wrong unit: a LIN before the first CPS, or else one of the first unit that is wrong
+// or has the SSCC of an earlier one.
 fn unit_place(alloc: Global, message: &[Segment]) -> Result<usize, MemoryFault>
     ensures { IfOk result (λ place. place ≡ spec.unit_place message.now) }
 {
@@ -164,8 +164,9 @@ fn despatch_reference_place(message: &[Segment]) -> usize
     }
 }
 
-/// The number of the segment that shows a fault of a despatch advice, DESADV (EANCOM 2002), UNH counted as 1; UNH where no
-/// one segment does. Of a message without this fault it is some number. Out of memory, where SSCC are compared.
+/// Returns the number of the segment that shows a fault of a despatch advice, DESADV (EANCOM 2002). UNH is number 1,
+/// and shows a fault that no one segment shows. For a message without this fault it is some number. Only the comparison
+/// of SSCC takes memory.
 pub fn despatch_place(
     alloc: Global,
     fault: MessageFault,
@@ -195,7 +196,7 @@ fn receipt_quantity_place(message: &[Segment]) -> usize
     group_place(Condition::Received, &[], outside_len(message), message).unwrap_or(1)
 }
 
-/// The same of a receiving advice, RECADV.
+/// Like `despatch_place`, for a receiving advice, RECADV.
 pub fn receipt_place(
     alloc: Global,
     fault: MessageFault,

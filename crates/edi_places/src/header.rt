@@ -1,4 +1,4 @@
-//! The segment that shows a fault of a message outside of its lines, by its number: UNH is counted as 1.
+//! Finds the segment that shows a fault of a message outside of its lines, by its number. UNH is number 1.
 ghost use Rattle.std.specs.Prelude.{◌≡◌, ◌≤◌, length};
 ghost use Rattle.edi_goods.specs.Parties.{has_buyer_or_none};
 ghost use Rattle.edi_places.specs.Header as spec;
@@ -8,7 +8,7 @@ use edi_messages::header::party;
 use edi_messages::parts::{has_qualified, header};
 use edi_tokens::Segment;
 
-/// The segment that shows a wrong beginning: the other BGM, else the segment after UNH.
+/// Returns the segment that shows a wrong beginning: another BGM, or else the segment after UNH.
 pub(crate) fn beginning_place(message: &[Segment]) -> usize
     ensures { result ≡ spec.beginning_place message.now }
 {
@@ -23,21 +23,21 @@ pub(crate) fn beginning_place(message: &[Segment]) -> usize
     }
 }
 
-// Of what has to stand once in the header: the second, else the one that there is, else UNH.
+// Returns the second segment of a kind that has to come once in the header, or else the only one, or else UNH.
 fn header_place(tag: &[u8; 3], qualifier: &[u8], message: &[Segment]) -> usize
     ensures { result ≡ spec.header_place tag.now qualifier.now message.now }
 {
     1 + once_place(tag, qualifier, 0, header(message))
 }
 
-/// The DTM that shows a wrong document date, else UNH.
+/// Returns the DTM that shows a wrong document date, or else UNH.
 pub(crate) fn date_place(message: &[Segment]) -> usize
     ensures { result ≡ spec.date_place message.now }
 {
     header_place(b"DTM", b"137", message)
 }
 
-/// The NAD that shows a wrong buyer, or else a wrong supplier, else UNH.
+/// Returns the NAD that shows a wrong buyer or a wrong supplier, or else UNH.
 pub(crate) fn parties_place(message: &[Segment]) -> usize
     ensures { result ≡ spec.parties_place message.now }
 {
@@ -48,14 +48,13 @@ pub(crate) fn parties_place(message: &[Segment]) -> usize
     }
 }
 
-// Whether the header names a buyer, or has none.
 fn has_buyer_or_none(message: &[Segment]) -> bool
     ensures { result ≡ has_buyer_or_none message.now }
 {
     !has_qualified(b"NAD", b"BY", header(message)) || party(b"BY", message).is_some()
 }
 
-/// The same where the buyer may be left out.
+/// Like `parties_place`, for a message that may leave out the buyer.
 pub(crate) fn goods_parties_place(message: &[Segment]) -> usize
     ensures { result ≡ spec.goods_parties_place message.now }
 {
@@ -66,14 +65,14 @@ pub(crate) fn goods_parties_place(message: &[Segment]) -> usize
     }
 }
 
-/// The RFF that shows a wrong reference of the header, else UNH.
+/// Returns the RFF that shows a wrong reference of the header, or else UNH.
 pub(crate) fn reference_place(message: &[Segment]) -> usize
     ensures { result ≡ spec.reference_place message.now }
 {
     header_place(b"RFF", b"ON", message)
 }
 
-// What shows a wrong summary behind the first UNS, whose number is given.
+// Returns what shows a wrong summary after the first UNS, whose number is given.
 fn behind_section(first: usize, message: &[Segment]) -> usize
     requires { first ≤ length message.now }
     ensures { result ≡ spec.behind_section first message.now }
@@ -86,7 +85,7 @@ fn behind_section(first: usize, message: &[Segment]) -> usize
     }
 }
 
-/// The second UNS, else a LIN behind the one that there is, else this one, else UNH.
+/// Returns the second UNS, or else a LIN after the only one, or else that one, or else UNH.
 pub(crate) fn summary_place(message: &[Segment]) -> usize
     ensures { result ≡ spec.summary_place message.now }
 {
@@ -97,7 +96,7 @@ pub(crate) fn summary_place(message: &[Segment]) -> usize
     }
 }
 
-/// The CNT that shows a wrong number of lines.
+/// Returns the CNT that shows a wrong number of lines.
 pub(crate) fn control_place(message: &[Segment]) -> usize
     ensures { result ≡ spec.control_place message.now }
 {

@@ -1,4 +1,5 @@
-//! Which byte of a text shows its fault, and which segment that of an interchange or of a message, by its number.
+//! Finds which byte of a text shows its fault, and which segment shows that of an interchange or a message, by its
+//! number.
 #![tactic(auto)]
 
 mod counting;

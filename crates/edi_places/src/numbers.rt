@@ -1,4 +1,4 @@
-//! Line numbers that have come so far.
+//! Keeps line numbers, to notice one that is used twice.
 ghost use Rattle.std.specs.Prelude.{◌≡◌, ◌||◌, ℕ, [], not, nat_eq, IfOk, OnOk};
 ghost use Rattle.edi_base.specs.Seen.{comes_among};
 
@@ -7,7 +7,7 @@ use std::alloc::Global;
 use std::collections::BTreeSet;
 use std::marker::Model;
 
-/// The line numbers that have come so far, so that one that comes twice shows.
+/// The line numbers so far.
 #[derive(Drop)]
 pub(crate) struct Numbers {
     set: BTreeSet<u32>,
@@ -22,7 +22,7 @@ impl Model for Numbers {
 }
 
 impl Numbers {
-    /// None has come. Takes no memory.
+    /// Makes an empty set. That takes no memory.
     pub(crate) fn new(alloc: Global) -> Self
         ensures { result ≡ [] }
     {
@@ -31,7 +31,7 @@ impl Numbers {
         }
     }
 
-    /// Puts a number in, as a set does. Whether it comes for the first time.
+    /// Adds a number. Returns whether it is new.
     pub(crate) fn insert(&mut self, number: u32) -> Result<bool, MemoryFault>
         ensures new { IfOk result (λ new. new ≡ not (comes_among nat_eq number self.old)) }
         ensures seen { OnOk result ((other : ℕ) → comes_among nat_eq other self.new

@@ -1,4 +1,4 @@
-//! The segment that shows a fault of an order or of a response, by its number: UNH is counted as 1.
+//! Finds the segment that shows a fault of an order or a response, by its number. UNH is number 1.
 ghost use Rattle.std.specs.Prelude.{◌≡◌, ℕ, [], IfOk, nat_eq, false};
 ghost use Rattle.edi_base.specs.Seen.{comes_among};
 ghost use Rattle.edi_places.specs.Orders as spec;
@@ -16,7 +16,7 @@ use edi_tokens::{MemoryFault, Segment};
 use std::alloc::Global;
 use std::slice::from_ref;
 
-// Whether a segment is a LIN that is wrong or has a number that has come; it is put in where it is none of these.
+// Whether a segment is a LIN that is wrong or has the number of an earlier one. The number of any other LIN is added.
 fn shows_line(numbers: &mut Numbers, segment: &Segment) -> Result<bool, MemoryFault>
     ensures shows { IfOk result (λ shows. shows ≡ spec.shows_line numbers.old segment.now) }
     ensures seen { IfOk result (λ shows. shows ≡ false → (other : ℕ) →
@@ -33,7 +33,7 @@ fn shows_line(numbers: &mut Numbers, segment: &Segment) -> Result<bool, MemoryFa
     Ok(!new)
 }
 
-// The first LIN that is wrong or has the number of an earlier one.
+// Returns the first LIN that is wrong or has the number of an earlier one.
 fn first_line_place(alloc: Global, message: &[Segment]) -> Result<usize, MemoryFault>
     ensures { IfOk result (λ place. place ≡ spec.first_line_place [] message.now) }
 {
@@ -46,8 +46,9 @@ fn first_line_place(alloc: Global, message: &[Segment]) -> Result<usize, MemoryF
     Ok(message.len())
 }
 
-/// The number of the segment that shows a fault of an order, ORDERS (EANCOM 2002), UNH counted as 1; UNH where no one
-/// segment does. Of a message without this fault it is some number. Out of memory, where line numbers are compared.
+/// Returns the number of the segment that shows a fault of an order, ORDERS (EANCOM 2002). UNH is number 1, and shows a
+/// fault that no one segment shows. For a message without this fault it is some number. Only the comparison of line
+/// numbers takes memory.
 pub fn order_place(
     alloc: Global,
     fault: MessageFault,
@@ -69,7 +70,8 @@ pub fn order_place(
     Ok(place)
 }
 
-// The segment that shows a wrong reference: of the header where it names no order, else of a line group.
+// Returns the segment that shows a wrong reference: one of the header if it names no order, or else one of a line
+// group.
 fn response_reference_place(message: &[Segment]) -> usize
     ensures { result ≡ spec.response_place MessageFault.Reference message.now }
 {
@@ -79,7 +81,7 @@ fn response_reference_place(message: &[Segment]) -> usize
     }
 }
 
-/// The same of a response, ORDRSP. Takes no memory.
+/// Like `order_place`, for a response, ORDRSP. That takes no memory.
 pub fn response_place(fault: MessageFault, message: &[Segment]) -> usize
     ensures { result ≡ spec.response_place fault message.now }
 {

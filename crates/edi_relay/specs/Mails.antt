@@ -28,7 +28,7 @@ front_text header mark number = una mark ++ (header ++ (decimal number ++ codes 
 abbrev pub trailer_text : ℕ → List ℕ
 trailer_text number = codes "UNZ+1+" ++ (decimal number ++ codes "'")
 
--- of the mail text of a message that is begun; nothing, where none is
+-- of the mail text of a message that is begun; nothing if none is
 abbrev pub begun_text : List ℕ → ℕ → ℕ → List Segment → List ℕ
 begun_text header mark number [] = []
 begun_text header mark number (unh ∷ rest) = front_text header mark number ++ text (map renumbered (unh ∷ rest))
@@ -37,7 +37,7 @@ abbrev pub IsOpen : Bool → List Segment → Type 0
 IsOpen true last = last ≢ []
 IsOpen false last = last ≡ []
 
--- the mail texts of the messages before the last UNH, and the front of that of the message from it on
+-- the mail texts of the messages before the last UNH, and the prefix of that of the message from there on
 pub record Keeps (words : RelayWords) (mark : ℕ) (lent : List Segment) (mails : Mails) : Type 0 where
   pub header : mails.header.items ≡ header_text words
   pub before : List Segment
@@ -56,7 +56,7 @@ pub record Whole (words : RelayWords) (mark : ℕ) (lent : List Segment) (mails 
   pub number : mails.number ≡ words.number + length (blocks (drop 1 lent))
   pub out : mails.out.items ≡ mail_texts words mark words.number (map message_of (blocks (drop 1 lent)))
 
--- the same, where UNZ is the last segment
+-- the mail texts of all messages, if UNZ is the last segment
 abbrev pub Ends : RelayWords → ℕ → List Segment → Mails → Type 0
 Ends words mark lent mails = mails.out.items ≡ mail_texts words mark words.number (map message_of (messages_in lent))
 

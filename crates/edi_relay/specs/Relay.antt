@@ -26,7 +26,7 @@ are_gln_digits text = length text == 13 && list_all is_digit text
 abbrev pub messages_after : ℕ
 messages_after = 998
 
--- the words, where both GLNs are 13 digits and the number is within its limits
+-- the words, if both GLNs are 13 digits and the number is within its limits
 abbrev pub relay_words_of : List ℕ → List ℕ → ℕ → ℕ → Option RelayWords
 relay_words_of hub owner moment number =
     if (are_gln_digits hub && are_gln_digits owner) && (nat_le 1 number && nat_le (number + messages_after) last_number)
@@ -82,7 +82,7 @@ abbrev pub Relays : {X : Type 0} → (X → List ℕ) → Result X RelayFault �
 Relays view (Ok x) given = given ≡ Ok (view x)
 Relays view (Err fault) given = Fails fault given
 
--- the same, unless a read failed
+-- what was relayed, unless a read failed
 abbrev pub RelaysRead : {X : Type 0} → (X → List ℕ) → Result X RelayFault → Result (List ℕ) RelayFault → Type 0
 RelaysRead view (Ok x) given = given ≡ Ok (view x)
 RelaysRead view (Err (Token token.Read)) given = Unit {0}

@@ -18,7 +18,7 @@ use Rattle.edi_relay.specs.declared.relaying.Relaying.{Relaying}
 use Rattle.edi_relay.specs.Relay.{mail_texts, relayed}
 use Rattle.edi_relay.specs.Mails.{Writes}
 
--- the check of segments, and what is written of them as long as no fault is sure
+-- the check of segments, and what is written of them as long as no fault is certain
 pub record Stands (words : RelayWords) (mark : ℕ) (lent : List Segment) (relaying : Relaying) : Type 0 where
   pub checked : Checked lent relaying.check
   pub kept : is_fine relaying.check ≡ true → Writes words mark lent relaying.mails
@@ -29,13 +29,13 @@ IsMailed words view (Ok out) given =
     (i : Interchange) × (given ≡ Ok i) × (view out ≡ mail_texts words i.decimal words.number i.messages)
 IsMailed words view (Err fault) given = given ≡ Err fault
 
--- where the text spells segments, the check of those that were lent, and what is written with the text's decimal mark
+-- if the text spells segments, the check of those that were lent, and what is written with the text's decimal mark
 abbrev pub StandsBy : RelayWords → Option (List ℕ) → Lender → List Segment → Relaying → Type 0
 StandsBy words known old lent relaying =
     (all : List ℕ) (tokens : Tokens) → Fed known all [] old → tokens_of all ≡ Ok tokens
     → Stands words tokens.service.decimal lent relaying
 
--- of a text all segments are relayed, or its token fault is told, or a read failed, or memory ran out
+-- all segments of a text are relayed, or its token fault is reported, or a read failed, or memory ran out
 abbrev pub Reads : RelayWords → Option (List ℕ) → Lender → Result Relaying RelayFault → Lender → Type 0
 Reads words known old (Ok relaying) new =
     (lent : List Segment) × StandsBy words known old lent relaying
@@ -45,7 +45,7 @@ Reads words known old (Err (Token fault)) new =
 Reads words known old (Err (Envelope fault)) new = ⊥
 Reads words known old (Err Memory) new = Unit {0}
 
--- a failed read is told where the reader's flag is up, and else the flag stays
+-- a failed read is reported if the reader's flag is up, and otherwise the flag stays
 abbrev pub Flagged : {X : Type 0} → Result X RelayFault → Bool → Bool → Type 0
 Flagged (Ok x) old new = new ≡ old
 Flagged (Err (Token fault)) old new = HasCause fault old new
@@ -63,7 +63,7 @@ pub record HasRead (words : RelayWords) (before after : Option (List ℕ)) (was 
   pub bound : TakesOf before after (room_of old) (room_of new)
   pub ends : AtEnd before old → AtEnd after new
 
--- the token fault by which a lender is stopped after the answer, where it had stopped by this one before, or by none
+-- the token fault by which a lender is stopped after the answer, if it had stopped by this one before, or by none
 abbrev pub stopped_after : {X : Type 0} → Result X RelayFault → Option TokenFault → Option TokenFault
 stopped_after (Ok x) was = None
 stopped_after (Err (Token fault)) was = Some fault

@@ -20,7 +20,7 @@ abbrev pub Delivers : Option (List ℕ) → RelayWords → Option (List ℕ) →
 Delivers known words old new =
     IfSome known (λ bytes. (mail : List ℕ) × (relayed (take read_limit bytes) words ≡ Ok mail) × Appends old new mail)
 
--- what was read is relayed, and a front of the mail texts was written
+-- what was read is relayed, and a prefix of the mail texts was written
 abbrev pub DeliversFront : Option (List ℕ) → RelayWords → Option (List ℕ) → Option (List ℕ) → Type 0
 DeliversFront known words old new =
     IfSome known (λ bytes. (mail : List ℕ) × (relayed (take read_limit bytes) words ≡ Ok mail)
@@ -41,8 +41,8 @@ IfToEnd (Err (Token fault)) fact = fact
 IfToEnd (Err (Envelope fault)) fact = fact
 IfToEnd (Err Memory) fact = Unit {0}
 
--- What was read of a reader, and relayed: at most so many bytes, and all of them where no read failed and memory did not
--- run out.
+-- What was read from a reader, and relayed: at most this many bytes, and all of them unless a read failed or memory ran
+-- out.
 pub record Ran {X : Type 0} (view : X → List ℕ) (words : RelayWords) (before after : Option (List ℕ)) (was failed : Bool)
     (result : Result X RelayFault) : Type 0 where
   pub relayed_as : IfSome before (λ known. RelaysRead view result (relayed (take read_limit known) words))

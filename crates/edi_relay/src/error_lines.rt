@@ -1,10 +1,10 @@
-//! The lines on standard error that go with an exit status.
+//! Prints the lines on standard error that go with an exit status.
 
 ghost use Rattle.edi_relay.specs.ErrorLines.{Tells};
 
 use edi_tokens::{Sink, write_bytes};
 
-/// Prints a line. Where the writer fails, the exit status alone tells.
+/// Prints a line. If the writer fails, only the exit status says so.
 pub fn tell<E: Sink>(line: &[u8], err: &mut E)
     ensures { Tells (E.contents err.old) (E.contents err.new) (E.failed err.new) line.now }
 {

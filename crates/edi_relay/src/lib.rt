@@ -1,4 +1,4 @@
-//! An interchange becomes the mail texts of its messages, in one pass over its segments.
+//! Turns an interchange into the mail texts of its messages, in one pass over its segments.
 #![tactic(auto)]
 
 mod error_lines;

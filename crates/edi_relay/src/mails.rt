@@ -1,4 +1,4 @@
-//! The mail texts of the messages of an interchange, written while its segments come.
+//! Writes the mail texts of the messages of an interchange while its segments come.
 
 ghost use Rattle.std.specs.Prelude.{◌≡◌, ◌≢◌, ℕ, ◌+◌, ◌∷◌, ◌++◌, List, [], true, false, IfOk, OnOk};
 ghost use Rattle.edi_segments.specs.declared.segment.Segment.{Segment};
@@ -26,7 +26,7 @@ pub(crate) struct Mails {
     begun: bool,
 }
 
-// The interchange header from one partner to another, up to its number.
+// Returns the interchange header from one partner to another, up to its number.
 fn header_text(alloc: Global, words: &RelayWords) -> Result<Vec<u8>, MemoryFault>
     ensures { IfOk result (λ header. header.items ≡ header_text words.now) }
 {
@@ -43,7 +43,7 @@ fn header_text(alloc: Global, words: &RelayWords) -> Result<Vec<u8>, MemoryFault
     Ok(header)
 }
 
-// The next number. No memory has so many mail texts that there is none.
+// Returns the next number. No memory has room for so many mail texts that there is none.
 fn next_number(number: u64) -> Result<u64, MemoryFault>
     ensures { IfOk result (λ next. next ≡ number + 1) }
 {
@@ -110,8 +110,8 @@ impl Mails {
         Ok(())
     }
 
-    /// Takes one more segment, which stands at this place, of an interchange with this decimal mark. Where it is refused,
-    /// all that was written is dropped.
+    /// Takes one more segment, which has this position, of an interchange with this decimal mark. If it is refused, all
+    /// that was written is dropped.
     pub(crate) fn take(
         &mut self,
         alloc: Global,
@@ -138,7 +138,7 @@ impl Mails {
         Ok(())
     }
 
-    /// What was written.
+    /// Returns what was written.
     pub(crate) fn into_out(self) -> Vec<u8>
         ensures { result ≡ self.out }
     {

@@ -1,4 +1,4 @@
-//! `edihub relay`: an interchange becomes the mail texts of its messages.
+//! Does what `edihub relay` does: turns an interchange into the mail texts of its messages.
 
 ghost use Rattle.std.specs.Prelude.{◌≡◌, ℕ, List, [], None, IfSome, IsTrue, All};
 ghost use Rattle.edi_segments.specs.Characters.{is_digit};
@@ -41,7 +41,7 @@ fn are_gln_digits(text: &[u8]) -> bool
     text.len() == 13 && are_digits(text)
 }
 
-// The 13 digits of a GLN.
+// Returns the 13 digits of a GLN.
 fn gln_digits(text: &str) -> Option<[u8; 13]>
     ensures value { SomeIff result (IsTrue (are_gln_digits text.now)) text.now }
     ensures digits { IfSome result (λ digits. All (λ digit. IsTrue (is_digit digit)) digits) }
@@ -58,7 +58,7 @@ impl RelayWords {
     /// The number of the first mail text is at most this, so that those of 999 messages have 14 digits.
     pub const LAST_NUMBER: u64 = LAST_MAIL_NUMBER - 998;
 
-    /// The words, where both GLNs are 13 digits and the number is within its limits.
+    /// Returns the words, if both GLNs are 13 digits and the number is within its limits.
     pub fn new(hub: &str, owner: &str, moment: Moment, number: u64) -> Option<RelayWords>
         ensures value { result ≡ relay_words_of hub.now owner.now moment number }
         ensures limits { IfSome result AreRelayWords }
@@ -91,7 +91,7 @@ pub enum RelayFault {
 impl RelayFault {
     ghost use Rattle.edi_relay.specs.Relay.{code_of};
 
-    /// The code that is printed, as `E12`; `memory` for out of memory.
+    /// Returns the code that is printed, as `E12`; `memory` for out of memory.
     pub fn code(self) -> &'static str
         ensures { result.now ≡ code_of self }
     {
@@ -182,24 +182,25 @@ fn read<R: Source>(
     Ok(relaying)
 }
 
-/// The mail texts of all messages of an interchange whose segments are lent one after another as a reader is read, joined
-/// in order and numbered from `words.number` on; or why the interchange is refused. It reads to the end, so that a token
-/// fault goes before an envelope fault. Once a fault is sure nothing is kept.
+/// Returns the mail texts of all messages of an interchange whose segments are lent one after another as a reader is
+/// read, joined in order and numbered from `words.number` on; or why the interchange is refused. It reads to the end,
+/// so that a token fault is reported rather than an envelope fault. Once a fault is certain, nothing is kept.
 pub fn relay_lent<R: Source>(
     alloc: Global,
     lender: &mut Lender,
     reader: &mut R,
     words: &RelayWords,
 ) -> Result<Vec<u8>, RelayFault>
-    // Of a text of which nothing was lent.
+    // The lender must not have lent anything yet.
     ensures relayed { (all : List ℕ) → Fed (R.remaining reader.old) all [] lender.old →
         RelaysRead (λ out. out.items) result (relayed all words.now) }
-    // A failed read is told where the reader answered an error, and else its flag stays.
+    // A failed read is reported only if the reader failed. Otherwise its flag stays.
     ensures flag { stopped lender.old ≡ None → Flagged result (R.failed reader.old) (R.failed reader.new) }
     ensures bound { TakesOf (R.remaining reader.old) (R.remaining reader.new)
         (room_of lender.old) (room_of lender.new) }
     ensures ends { AtEnd (R.remaining reader.old) lender.old → AtEnd (R.remaining reader.new) lender.new }
-    // The lender stops with the token fault that it told. After any other answer it goes on, unless it had stopped before.
+    // The lender stops with the token fault that it reports. After any other answer it continues, unless it had stopped
+    // before.
     ensures stops { Stops R.remaining
         (stopped_after result (stopped lender.old)) reader.old lender.old reader.new lender.new }
 {
@@ -208,7 +209,7 @@ pub fn relay_lent<R: Source>(
     Ok(out)
 }
 
-// The fault of a text that is read without a fault.
+// Returns the fault of a text that is read without a fault.
 fn without_read(fault: RelayFault) -> RelayFault
     ensures { result ≡ without_read fault }
 {
@@ -221,8 +222,8 @@ fn without_read(fault: RelayFault) -> RelayFault
     }
 }
 
-/// The mail texts of all messages of an interchange, joined in order and numbered from `words.number` on; or why the
-/// interchange is refused.
+/// Returns the mail texts of all messages of an interchange, joined in order and numbered from `words.number` on; or
+/// why the interchange is refused.
 pub fn relay_text(alloc: Global, text: &[u8], words: &RelayWords) -> Result<Vec<u8>, RelayFault>
     requires { AreRelayWords words.now }
     ensures { Relays (λ out. out.items) result (relayed text.now words.now) }

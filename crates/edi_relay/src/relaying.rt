@@ -1,4 +1,4 @@
-//! The check of an interchange, and what is written of its mail texts as long as no fault is sure.
+//! Checks an interchange, and writes its mail texts as long as no fault is certain.
 
 ghost use Rattle.std.specs.Prelude.{ℕ, ◌∷◌, ◌++◌, List, [], IfOk, OnOk};
 ghost use Rattle.edi_segments.specs.declared.segment.Segment.{Segment};
@@ -46,7 +46,7 @@ impl Relaying {
         self.mails.take(alloc, place, segment, mark)
     }
 
-    /// The mail texts, or the fault of the interchange.
+    /// Returns the mail texts, or the fault of the interchange.
     pub(crate) fn finish(self) -> Result<Vec<u8>, EnvelopeFault>
         ensures { (words : RelayWords) (tokens : Tokens) →
             Stands words tokens.service.decimal tokens.segments self →

@@ -1,4 +1,4 @@
-//! A run of `relay` between a reader and two writers.
+//! Runs `relay` between a reader and two writers.
 
 ghost use Rattle.std.specs.Prelude.{◌≡◌, ◌⊎◌, true, take, codes, Err, OnOk, OnErr, IsTrue, IfSome};
 ghost use Rattle.std.specs.Io.KnownBytes.{Appends, Consumes, Keeps};
@@ -31,7 +31,7 @@ fn write_refusal<E: Sink>(fault: RelayFault, err: &mut E) -> Result<(), WriteFau
     write_bytes(b"\n", err)
 }
 
-// Prints the line of a refusal. Where the writer fails, the exit status alone tells.
+// Prints the line of a refusal. If the writer fails, only the exit status says so.
 fn tell_refusal<E: Sink>(fault: RelayFault, err: &mut E)
     ensures { Tells (E.contents err.old) (E.contents err.new) (E.failed err.new) (refusal fault) }
 {
@@ -60,8 +60,8 @@ fn is_failed_read(relayed: &Result<Vec<u8>, RelayFault>) -> bool
     matches!(relayed, Err(RelayFault::Token(TokenFault::Read)))
 }
 
-// The mail texts of an interchange, of which at most 1,048,577 bytes are read; or why it is refused, or that a read
-// failed. Where memory did not run out and no read failed, so many bytes are read, or the reader has ended.
+// Returns the mail texts of an interchange, of which at most 1,048,577 bytes are read; or why it is refused, or that a
+// read failed. Unless memory ran out or a read failed, that many bytes are read, or the reader has ended.
 fn relay_input<R: Source>(
     alloc: Global,
     words: &RelayWords,
@@ -83,9 +83,9 @@ fn relay_input<R: Source>(
     }
 }
 
-/// Reads an interchange, at most 1,048,577 bytes, and writes its mail texts to `out`. Answers the exit status: 0 where
-/// they were written; 1 where the interchange is refused, and then `refused` with the code is a line on `err`; 3 where
-/// a read or write failed, with the line `file`, or memory ran out, with the line `memory`.
+/// Reads an interchange, at most 1,048,577 bytes, and writes its mail texts to `out`. Returns the exit status: 0 if
+/// they were written; 1 if the interchange is refused, and then `refused` with the code is a line on `err`; 3 if a read
+/// or write failed, with the line `file`, or memory ran out, with the line `memory`.
 pub fn relay_run<R: Source, W: Sink, E: Sink>(
     alloc: Global,
     words: &RelayWords,

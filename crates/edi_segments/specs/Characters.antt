@@ -1,4 +1,4 @@
--- The characters of a text (ISO 9735, character sets UNOA to UNOC).
+-- Says which characters a text may have (ISO 9735, character sets UNOA to UNOC).
 use Rattle.std.specs.Prelude.{ℕ, Bool, false, ◌==◌, nat_le, ◌&&◌, ◌||◌, Option, Some, None}
 use Rattle.edi_base.specs.Limits as limits
 use Rattle.edi_segments.specs.declared.segment.Service.{Service}
@@ -16,15 +16,15 @@ is_small b = nat_le 97 b && nat_le b 122
 abbrev pub is_digit : ℕ → Bool
 is_digit = limits.is_digit
 
--- a byte of a tag behind its first: a capital letter or a digit
+-- a byte of a tag after its first: a capital letter or a digit
 abbrev pub is_in_tag : ℕ → Bool
 is_in_tag b = is_capital b || is_digit b
 
--- CR or LF, which may stand between segments
+-- CR or LF, which are allowed between segments
 abbrev pub is_line_end : ℕ → Bool
 is_line_end b = b == 13 || b == 10
 
--- the release character, where there is one
+-- the release character, if there is one
 abbrev pub is_release : Option ℕ → ℕ → Bool
 is_release None b = false
 is_release (Some r) b = b == r

@@ -1,9 +1,9 @@
--- Lists that stand one after another in one list, with the place where each ends.
+-- Lists that follow one another in one list, with the place where each ends.
 use Rattle.std.specs.Prelude.{◌≡◌, ℕ, ◌+◌, ◌-◌, ◌≤◌, ◌<◌, ◌⊎◌, List, [], ◌∷◌, length, take, drop}
 use Rattle.edi_segments.specs.Spelling.{segment_limit, without_empty_end}
 use Rattle.edi_segments.specs.Reading.{Open}
 
--- the lists that end at these places, of a list whose first item stands at `low`
+-- the lists that end at these places, of a list whose first item is at `low`
 abbrev pub cut_from : {A : Type 0} → ℕ → List ℕ → List A → List (List A)
 cut_from low [] xs = []
 cut_from low (end ∷ ends) xs = take (end - low) xs ∷ cut_from end ends (drop (end - low) xs)
@@ -16,12 +16,12 @@ abbrev pub Rise : ℕ → List ℕ → ℕ → Type 0
 Rise low [] high = low ≡ high
 Rise low (end ∷ ends) high = (low ≤ end) × Rise end ends high
 
--- without the empty ones at the end, so many of the lists are left
+-- without the empty ones at the end, this many of the lists are left
 pub record IsKept {A : Type 0} (kept : ℕ) (lists : List (List A)) : Type 0 where
   pub within : kept ≤ length lists
   pub front : without_empty_end lists ≡ take kept lists
 
--- how many are left without the empty ones at the end, where the last of `count` stands from one place to another
+-- how many are left without the empty ones at the end, if the last of `count` extends from one place to another
 abbrev pub IsLeft : ℕ → ℕ → ℕ → ℕ → ℕ → Type 0
 IsLeft kept count from to left = ((to ≤ from) × (left ≡ kept)) ⊎ ((from < to) × (left ≡ count))
 

@@ -16,7 +16,7 @@ place_of at.InTag m = InTag m.fresh (take m.taken m.tag)
 place_of at.InData m = InData m.open
 place_of at.Released m = Released m.open
 
--- the segments that were lent stand with the reader of them
+-- the segments that were lent, with the state of the reader
 abbrev pub reading_of : List Segment → Machine → Reading
 reading_of lent m = record { service = m.service; segments = lent; place = place_of m.place m }
 

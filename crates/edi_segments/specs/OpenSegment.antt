@@ -5,7 +5,7 @@ use Rattle.edi_segments.specs.Reading.{Open}
 use Rattle.edi_segments.specs.Text.{open_text}
 use Rattle.edi_segments.specs.SegmentText.{HasRoom, text_in}
 
--- the open segment with data bytes that no release character stands before
+-- the open segment with data bytes that need no release character
 abbrev pub with_bytes : Open → List ℕ → Open
 with_bytes o bytes =
     record {
@@ -19,7 +19,7 @@ with_bytes o bytes =
 abbrev pub open_in : Inside → Open
 open_in s = s.parts
 
--- the text is right where it is kept
+-- the text is right if it is kept
 pub record IsSound (s : Inside) : Type 0 where
   pub room : HasRoom s.text
   pub kept : IfSome (text_in s.text) (λ text. text ≡ open_text s.parts)

@@ -20,8 +20,8 @@ pub record Open : Type 0 where
   pub component : List ℕ
   pub length : ℕ
 
--- where the bytes so far end: outside of segments (and whether a service string may still stand here), among
--- the six characters of a service string, in a tag or right after it, in data, after a release character
+-- where the bytes so far end: outside of segments (and whether a service string may still come here), among the six
+-- characters of a service string, in a tag or right after it, in data, after a release character
 pub data Place : Type 0 where
   Outside : (fresh : Bool) → Place
   InService : (six : List ℕ) → Place
@@ -134,7 +134,7 @@ step_data r o b =
 abbrev pub step_released : Reading → Open → ℕ → Result Reading TokenFault
 step_released r o b = if is_data b then Ok (at r (InData (with_byte o b))) else Err Byte
 
--- no byte stands after as many as a segment may have
+-- no byte comes after as many as a segment may have
 abbrev pub within : Open → Result Reading TokenFault → Result Reading TokenFault
 within o next = if o.length == segment_limit then Err LongSegment else next
 
@@ -153,7 +153,7 @@ abbrev pub run : Reading → List ℕ → Result Reading TokenFault
 run r [] = Ok r
 run r (b ∷ bytes) = step r b >>= λ next. run next bytes
 
--- what the text is where it ends here
+-- what the text is if it ends here
 abbrev pub finish_at : Reading → Place → Result Tokens TokenFault
 finish_at r (Outside fresh) = Ok (record { service = r.service; segments = r.segments })
 finish_at r (InService six) = Err ServiceString

@@ -8,7 +8,7 @@ text_in s = if s.kept then Some (take s.filled s.bytes.items) else None
 abbrev pub HasRoom : SegmentText → Type 0
 HasRoom s = s.filled ≤ vec_len s.bytes
 
--- where it is kept, it is what was kept before, and these bytes
+-- if it is kept, it is what was kept before, and these bytes
 abbrev pub GrowsBy : List ℕ → Option (List ℕ) → Option (List ℕ) → Type 0
 GrowsBy more old None = Unit {0}
 GrowsBy more None (Some text) = ⊥

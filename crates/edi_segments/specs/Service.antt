@@ -56,7 +56,7 @@ are_right component element decimal release reserved terminator =
     && differs element (terminator ∷ release ∷ decimal ∷ []))
     && (differs terminator (release ∷ decimal ∷ []) && differs release (decimal ∷ []))))
 
--- what six characters say, where they are valid; a blank for the release character says that there is none
+-- what six characters say, if they are valid; a blank for the release character says that there is none
 abbrev pub service_of : List ℕ → Option Service
 service_of (component ∷ element ∷ decimal ∷ release ∷ reserved ∷ terminator ∷ []) =
     if are_right component element decimal release reserved terminator

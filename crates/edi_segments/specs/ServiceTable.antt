@@ -1,4 +1,4 @@
--- The service characters of a text, with what each byte is to them.
+-- Looks up what a byte is to the service characters of a text.
 use Rattle.std.specs.Prelude.{◌≡◌, ◌<◌, ℕ, Bool, false, ◌&&◌, not, List, slice_index_or}
 use Rattle.std.specs.List.{list_all}
 use Rattle.edi_segments.specs.declared.segment.Service.{Service}

@@ -27,7 +27,7 @@ Behind separator R text x = (rest : List ℕ) × (text ≡ separator ∷ rest) �
 abbrev pub Before : {A : Type 0} → ℕ → (List ℕ → A → Type 0) → List ℕ → A → Type 0
 Before separator R text x = (front : List ℕ) × (text ≡ front ++ separator ∷ []) × R front x
 
--- a data byte: plain where it is not special, or after the release character, whichever it is
+-- a data byte: alone if it is not special, or after the release character, whichever it is
 abbrev pub SpellsByte : Service → List ℕ → ℕ → Type 0
 SpellsByte s text b =
     IsTrue (is_data b) × (((text ≡ b ∷ []) × IsTrue (not (is_special s b)))
@@ -102,12 +102,12 @@ abbrev pub IsNoAdvice : List (List ℕ) → Type 0
 IsNoAdvice [] = Unit {0}
 IsNoAdvice (tag ∷ others) = tag ≢ una_tag
 
--- the service characters are those of the service string where there is one, and else the usual ones
+-- the service characters are those of the service string if there is one, or else the usual ones
 abbrev pub Advises : Option Advice → Service → List (List ℕ) → Type 0
 Advises None s tags = (s ≡ usual) × IsNoAdvice tags
 Advises (Some a) s tags = LineEnds a.before × (service_of a.six ≡ Some s)
 
--- whole segments, with what stands before and after them
+-- whole segments, with what comes before and after them
 pub record SpellsWhole (text : List ℕ) (s : Service) (segments : List Segment) : Type 0 where
   pub advice : Option Advice
   pub body : List ℕ

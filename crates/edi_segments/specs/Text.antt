@@ -16,7 +16,7 @@ byte_text b = if is_usual b then usual_release ∷ b ∷ [] else b ∷ []
 abbrev pub component_text : List ℕ → List ℕ
 component_text component = flat_map byte_text component
 
--- the components, parted by `:`
+-- the components, with `:` between them
 abbrev pub components_text : List (List ℕ) → List ℕ
 components_text [] = []
 components_text (first ∷ others) =
@@ -30,6 +30,6 @@ element_text components = usual_element ∷ components_text components
 abbrev pub segment_text : Segment → List ℕ
 segment_text segment = segment.tag ++ flat_map element_text segment.elements ++ usual_terminator ∷ []
 
--- the same of a segment that is open, as far as it has come: the open element stands behind those that are closed
+-- the canonical text of an open segment so far: the open element comes after those that are closed
 abbrev pub open_text : Open → List ℕ
 open_text o = o.tag ++ (flat_map element_text o.elements ++ element_text (o.element ++ o.component ∷ []))

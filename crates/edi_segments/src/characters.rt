@@ -1,9 +1,9 @@
-//! The characters of a text (ISO 9735, character sets UNOA to UNOC).
+//! Says which characters a text may have (ISO 9735, character sets UNOA to UNOC).
 
 ghost use Rattle.std.specs.Prelude.{◌≡◌};
 ghost use Rattle.edi_segments.specs.Characters as set;
 
-/// Whether a byte may stand in data: 0x20 to 0x7E, and 0xA0 to 0xFF.
+/// Whether a byte is allowed in data: 0x20 to 0x7E, and 0xA0 to 0xFF.
 pub(crate) fn is_data(byte: u8) -> bool
     ensures { result ≡ set.is_data byte }
 {
@@ -31,7 +31,7 @@ pub(crate) fn is_digit(byte: u8) -> bool
     byte.is_ascii_digit()
 }
 
-/// Whether a byte may stand in a tag behind its first: a capital letter or a digit.
+/// Whether a byte is allowed in a tag after its first: a capital letter or a digit.
 pub(crate) fn is_in_tag(byte: u8) -> bool
     ensures { result ≡ set.is_in_tag byte }
 {

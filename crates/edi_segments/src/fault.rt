@@ -5,18 +5,18 @@ use std::alloc::{AllocError, AllocFailed};
 use std::error::Error;
 use std::fmt;
 
-/// Why a text is refused. The number of a fault is what a partner is told.
+/// Why a text is refused. A partner sees the number of the fault.
 #[derive(Clone, Copy, Debug, PartialEq, Eq, Hash)]
 pub enum TokenFault {
     /// E01: the text is longer than 1,048,576 bytes.
     TooLong,
     /// E02: the service string advice is cut, or its characters are against the rules.
     ServiceString,
-    /// E03: a byte that may not stand in a segment.
+    /// E03: a byte that is not allowed in a segment.
     Byte,
     /// E04: the text ends inside a segment.
     Cut,
-    /// E05: no tag where one has to stand, or a wrong byte after it.
+    /// E05: a missing tag, or a wrong byte after one.
     Tag,
     /// E20: a segment is longer than 8,192 bytes.
     LongSegment,
@@ -29,7 +29,7 @@ pub enum TokenFault {
 impl TokenFault {
     ghost use Rattle.edi_segments.specs.Code.{code_text};
 
-    /// The code that is printed, as `E04`; `read` or `memory` for a fault that the text has no part in.
+    /// Returns the code that is printed, such as `E04`, or `read` or `memory` for a fault that is not of the text.
     pub fn code(self) -> &'static str
         ensures { result.now ≡ code_text self }
     {

@@ -1,5 +1,5 @@
-//! A segment whose data has begun, kept flat: its bytes in one buffer, and the places where components and elements
-//! end. Its buffers are made once, so that no later call takes memory.
+//! Keeps a segment whose data has begun: its bytes in one buffer, and the places where components and elements end. The
+//! buffers are made once, so that no later call takes memory.
 
 ghost use Rattle.std.specs.Prelude.{◌≡◌, ◌==◌, ◌&&◌, not, ◌+◌, ◌≤◌, ◌<◌, [], ◌∷◌, ◌++◌, length};
 ghost use Rattle.std.specs.Prelude.{take, drop, IsTrue, slice_index, slice_range, IfOk};
@@ -27,27 +27,27 @@ pub(crate) struct FlatSegment {
     components: usize,
     /// Where the open component begins in the bytes.
     component_from: usize,
-    /// How many components are left where the empty ones at the end of the open element are dropped.
+    /// Counts the components that are left once the empty ones at the end of the open element are dropped.
     components_kept: usize,
     /// Where each closed element ends among the components.
     element_ends: Vec<usize>,
     elements: usize,
     /// Where the open element begins among the components.
     element_from: usize,
-    /// How many elements are left where the empty ones at the end are dropped.
+    /// Counts the elements that are left once the empty ones at the end are dropped.
     elements_kept: usize,
     /// How many bytes of the segment have come.
     size: usize,
 }
 
-/// How many are left without the empty ones at the end, where the last of `count` stands from one place to another.
+/// Counts those that are left without the empty ones at the end. The last of `count` extends from one place to another.
 fn left(kept: usize, count: usize, from: usize, to: usize) -> usize
     ensures { IsLeft kept count from to result }
 {
     if from < to { count } else { kept }
 }
 
-/// Where the piece with this number begins, in a list where each ends at such a place.
+/// Returns where the piece with this number begins, in a list in which each ends at such a place.
 fn start_of(ends: &[usize], index: usize) -> usize
     requires { index ≤ length ends.now }
     ensures { result ≡ slice_index (0 ∷ ends.now) index }
@@ -55,7 +55,7 @@ fn start_of(ends: &[usize], index: usize) -> usize
     if index == 0 { 0 } else { ends[index - 1] }
 }
 
-/// The bytes of the piece with this number, where each ends at such a place.
+/// Returns the bytes of the piece with this number, of which each ends at such a place.
 fn piece_of<'a>(bytes: &'a [u8], ends: &[usize], index: usize) -> &'a [u8]
     requires within { index < length ends.now }
     requires rises { slice_index (0 ∷ ends.now) index ≤ slice_index ends.now index }
@@ -105,7 +105,7 @@ impl FlatSegment {
         })
     }
 
-    /// Begins anew: a tag and an element separator have come.
+    /// Begins a new segment: a tag and an element separator have come.
     pub(crate) fn begin(&mut self, tag: [u8; 3])
         ensures { self.new ≡ with_tag tag }
     {
@@ -120,7 +120,7 @@ impl FlatSegment {
         self.size = 4;
     }
 
-    /// How many bytes of the segment have come.
+    /// Returns how many bytes of the segment have come.
     pub(crate) fn size(&self) -> usize
         ensures size { result ≡ self.now.length }
         ensures short { result ≤ segment_limit }
@@ -142,21 +142,21 @@ impl FlatSegment {
         self.element_from == self.components
     }
 
-    /// Whether the open element is closed with an empty component dropped behind others.
+    /// Whether an empty component is dropped after others when the open element is closed.
     pub(crate) fn drops_component(&self) -> bool
         ensures { result ≡ ((length self.now.component == 0) && not (length self.now.element == 0)) }
     {
         self.is_component_empty() && !self.is_first_component()
     }
 
-    /// How many elements are closed, with the empty ones at the end.
+    /// Returns how many elements are closed, with the empty ones at the end.
     fn closed_elements(&self) -> usize
         ensures { result ≡ length self.now.elements }
     {
         self.elements
     }
 
-    /// Whether nothing has come behind the last element that is closed, and none at the end is dropped.
+    /// Whether nothing has come after the last element that is closed, and none at the end is dropped.
     pub(crate) fn is_whole(&self) -> bool
         ensures { result ≡ ((length self.now.element == 0 && length self.now.component == 0)
             && length (without_empty_end self.now.elements) == length self.now.elements) }
@@ -166,8 +166,8 @@ impl FlatSegment {
             && self.elements() == self.closed_elements()
     }
 
-    /// Takes the bytes at the front that stand for themselves, in the text and in its canonical one, and copies them to
-    /// another place too. How many.
+    /// Takes the leading bytes that stand for themselves, in the text and in its canonical one, and copies them to
+    /// another place too. Returns how many.
     #[inline(always)]
     pub(crate) fn take_run(&mut self, service: &ServiceTable, bytes: &[u8], too: &mut [u8]) -> usize
         requires fits { self.old.length + length bytes.now ≤ segment_limit }
@@ -243,21 +243,21 @@ impl FlatSegment {
         self.size += 1;
     }
 
-    /// The tag.
+    /// Returns the tag.
     pub(crate) fn tag(&self) -> [u8; 3]
         ensures { result ≡ self.now.tag }
     {
         self.tag
     }
 
-    /// How many elements are closed, without the empty ones at the end.
+    /// Returns how many elements are closed, without the empty ones at the end.
     pub(crate) fn elements(&self) -> usize
         ensures { result ≡ length (without_empty_end self.now.elements) }
     {
         self.elements_kept
     }
 
-    /// How many components such an element has; none where it is absent.
+    /// Counts the components of such an element: 0 if it is absent.
     pub(crate) fn components(&self, element: usize) -> usize
         ensures { result ≡ length (element_at (without_empty_end self.now.elements) element) }
     {
@@ -267,7 +267,7 @@ impl FlatSegment {
         self.element_ends[element] - start_of(self.element_ends.as_slice(), element)
     }
 
-    /// The bytes of a component of such an element; none where it is absent.
+    /// Returns the bytes of a component of such an element, or none if it is absent.
     pub(crate) fn component(&self, element: usize, place: usize) -> &[u8]
         ensures { result.now ≡ component_at (without_empty_end self.now.elements) element place }
     {

@@ -1,4 +1,4 @@
-//! Segments, the characters that part them, and the machine that reads one after another (ISO 9735, syntax version 3).
+//! Defines segments and the characters between them, and reads one segment after another (ISO 9735, syntax version 3).
 #![tactic(auto)]
 
 mod characters;

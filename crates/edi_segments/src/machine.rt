@@ -1,5 +1,5 @@
-//! One machine over the bytes of a text, in whatever pieces they come. It keeps the segment that has begun, or the one
-//! that ended last, and no other.
+//! Reads the bytes of a text by one machine, in whatever pieces they come. It keeps the segment that has begun, or the
+//! one that ended last, and no other.
 
 ghost use Rattle.std.specs.Prelude.{◌≡◌, ◌≤◌, List, [], length, take, IfOk, IfErr, OnErr, false, true, ◌<◌, Ok, Err};
 ghost use Rattle.edi_segments.specs.Reading.{step, run, start, finish, is_una};
@@ -208,8 +208,8 @@ impl Machine {
         Ok(false)
     }
 
-    /// Takes the tag at the front with the element separator behind it, where a segment may begin, and says how many bytes.
-    /// None where something else stands there.
+    /// Takes a leading tag with the element separator after it, if a segment may begin there, and returns the number of
+    /// bytes: 0 if they begin with anything else.
     fn push_whole_tag(&mut self, bytes: &[u8]) -> usize
         ensures within { result ≤ length bytes.now }
         ensures taken { run (reading_of [] self.old) (take result bytes.now) ≡ Ok (reading_of [] self.new) }
@@ -280,7 +280,7 @@ impl Machine {
         Ok((at, false))
     }
 
-    /// The segment that ended last.
+    /// Returns the segment that ended last.
     pub fn lent(&self) -> SegmentRef<'_>
         ensures { segment_in result ≡ lent_of self.now }
     {

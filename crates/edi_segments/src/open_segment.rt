@@ -1,4 +1,4 @@
-//! A segment whose data has begun: its parts, and its canonical text.
+//! Keeps a segment whose data has begun: its parts, and its canonical text.
 
 ghost use Rattle.std.specs.Prelude.{◌≡◌, ◌+◌, ◌≤◌, ◌<◌, [], ◌∷◌, ◌++◌, length, take, IfOk, IfSome, IsTrue};
 ghost use Rattle.edi_segments.specs.Spelling.{segment_limit, without_empty_end};
@@ -49,7 +49,7 @@ impl OpenSegment {
         })
     }
 
-    /// Begins anew: a tag and an element separator have come.
+    /// Begins a new segment: a tag and an element separator have come.
     pub(crate) fn begin(&mut self, tag: [u8; 3])
         ensures { self.new ≡ with_tag tag }
     {
@@ -57,7 +57,7 @@ impl OpenSegment {
         self.text.begin(tag);
     }
 
-    /// How many bytes of the segment have come.
+    /// Returns how many bytes of the segment have come.
     pub(crate) fn size(&self) -> usize
         ensures size { result ≡ self.now.length }
         ensures short { result ≤ segment_limit }
@@ -123,35 +123,35 @@ impl OpenSegment {
         }
     }
 
-    /// The tag.
+    /// Returns the tag.
     pub(crate) fn tag(&self) -> [u8; 3]
         ensures { result ≡ self.now.tag }
     {
         self.parts.tag()
     }
 
-    /// How many elements are closed, without the empty ones at the end.
+    /// Returns how many elements are closed, without the empty ones at the end.
     pub(crate) fn elements(&self) -> usize
         ensures { result ≡ length (without_empty_end self.now.elements) }
     {
         self.parts.elements()
     }
 
-    /// How many components such an element has; none where it is absent.
+    /// Counts the components of such an element: 0 if it is absent.
     pub(crate) fn components(&self, element: usize) -> usize
         ensures { result ≡ length (element_at (without_empty_end self.now.elements) element) }
     {
         self.parts.components(element)
     }
 
-    /// The bytes of a component of such an element; none where it is absent.
+    /// Returns the bytes of a component of such an element, or none if it is absent.
     pub(crate) fn component(&self, element: usize, place: usize) -> &[u8]
         ensures { result.now ≡ component_at (without_empty_end self.now.elements) element place }
     {
         self.parts.component(element, place)
     }
 
-    /// The canonical text of a segment that has ended, without its terminator, where it is kept.
+    /// Returns the canonical text of a segment that has ended, without its terminator, if it is kept.
     pub(crate) fn text(&self) -> Option<&[u8]>
         ensures { IfSome result (λ front. front.now ++ usual_terminator ∷ [] ≡ segment_text (segment_of self.now)) }
     {
@@ -159,7 +159,7 @@ impl OpenSegment {
             return None;
         }
         let text = self.text.get()?;
-        // behind the last element stands a separator
+        // a separator comes after the last element
         Some(&text[..text.len() - 1])
     }
 }

@@ -37,7 +37,7 @@ pub struct Tokens {
 impl Segment {
     ghost use Rattle.edi_segments.specs.Segment.{element_at, component_at};
 
-    /// The components of an element, counted from 0; none where the element is absent.
+    /// Returns the components of an element, counted from 0, or none if the element is absent.
     pub fn element(&self, element: usize) -> &[Items<u8>]
         ensures { result.now ≡ element_at self.now.elements element }
     {
@@ -47,7 +47,7 @@ impl Segment {
         }
     }
 
-    /// The bytes of a component, element and place counted from 0; empty where it is absent.
+    /// Returns the bytes of a component, with element and place counted from 0, or no bytes if it is absent.
     pub fn component(&self, element: usize, place: usize) -> &[u8]
         ensures { result.now ≡ component_at self.now.elements element place }
     {

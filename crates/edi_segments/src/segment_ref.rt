@@ -1,4 +1,4 @@
-//! A segment that is lent.
+//! Lends a segment.
 
 ghost use Rattle.std.specs.Prelude.{◌≡◌, [], ◌∷◌, ◌++◌, length, IfOk, IfSome};
 ghost use Rattle.edi_segments.specs.Segment.{element_at, component_at};
@@ -35,7 +35,7 @@ impl<'a> SegmentRef<'a> {
         }
     }
 
-    /// A segment that is kept, lent.
+    /// Returns a segment that is kept, lent.
     pub fn of(segment: &'a Segment) -> Self
         ensures { segment_in result ≡ segment.now }
     {
@@ -44,7 +44,7 @@ impl<'a> SegmentRef<'a> {
         }
     }
 
-    /// The three bytes of the tag.
+    /// Returns the three bytes of the tag.
     pub fn tag(&self) -> [u8; 3]
         ensures { result ≡ (segment_in self.now).tag }
     {
@@ -54,7 +54,7 @@ impl<'a> SegmentRef<'a> {
         }
     }
 
-    /// How many elements there are.
+    /// Returns how many elements there are.
     pub fn elements(&self) -> usize
         ensures { result ≡ length (segment_in self.now).elements }
     {
@@ -64,7 +64,7 @@ impl<'a> SegmentRef<'a> {
         }
     }
 
-    /// How many components an element has, counted from 0; none where the element is absent.
+    /// Counts the components of an element, counted from 0: none if the element is absent.
     pub fn components(&self, element: usize) -> usize
         ensures { result ≡ length (element_at (segment_in self.now).elements element) }
     {
@@ -74,7 +74,7 @@ impl<'a> SegmentRef<'a> {
         }
     }
 
-    /// The bytes of a component, element and place counted from 0; empty where it is absent.
+    /// Returns the bytes of a component, with element and place counted from 0, or no bytes if it is absent.
     pub fn component(&self, element: usize, place: usize) -> &[u8]
         ensures { result.now ≡ component_at (segment_in self.now).elements element place }
     {
@@ -84,7 +84,7 @@ impl<'a> SegmentRef<'a> {
         }
     }
 
-    /// The canonical text, without its terminator, where it is kept.
+    /// Returns the canonical text, without its terminator, if it is kept.
     pub fn text(&self) -> Option<&[u8]>
         ensures { IfSome result (λ front. front.now ++ usual_terminator ∷ [] ≡ segment_text (segment_in self.now)) }
     {
@@ -104,7 +104,7 @@ impl<'a> SegmentRef<'a> {
         Ok(Items::from_vec(components))
     }
 
-    /// A copy that can be kept.
+    /// Returns a copy that can be kept.
     pub fn to_segment(&self, alloc: Global) -> Result<Segment, MemoryFault>
         ensures { IfOk result (λ copy. copy ≡ segment_in self.now) }
     {

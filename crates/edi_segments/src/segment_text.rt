@@ -1,5 +1,5 @@
-//! The canonical text of a segment, kept as its bytes come, so that it is written again at once. It is kept where no empty
-//! component or element was dropped behind others.
+//! Keeps the canonical text of a segment as its bytes come, so that it is written again at once. It is kept if no empty
+//! component or element was dropped after others.
 
 ghost use Rattle.std.specs.Prelude.{◌≡◌, [], ◌∷◌, ◌++◌, Some, None, IfOk, IfSome, vec_len, ◌-◌};
 ghost use Rattle.edi_segments.specs.Service.{usual_element};
@@ -36,7 +36,7 @@ impl SegmentText {
         })
     }
 
-    /// Begins anew: a tag and an element separator.
+    /// Begins a new text: a tag and an element separator.
     pub(crate) fn begin(&mut self, tag: [u8; 3])
         requires { HasRoom self.old }
         ensures room { HasRoom self.new }
@@ -51,7 +51,7 @@ impl SegmentText {
         self.push(ELEMENT);
     }
 
-    /// How many bytes more there is room for.
+    /// Returns how many bytes more there is room for.
     pub(crate) fn room(&self) -> usize
         requires { HasRoom self.now }
         ensures { result ≡ vec_len self.now.bytes - self.now.filled }
@@ -73,7 +73,7 @@ impl SegmentText {
         self.filled += 1;
     }
 
-    /// Takes a byte of data, with a release character before it where it is one of the usual service characters.
+    /// Takes a byte of data, with a release character before it if it is one of the usual service characters.
     pub(crate) fn push_data(&mut self, byte: u8)
         requires { HasRoom self.old }
         ensures room { HasRoom self.new }
@@ -94,7 +94,7 @@ impl SegmentText {
         self.kept = false;
     }
 
-    /// The text, where it is kept.
+    /// Returns the text, if it is kept.
     pub(crate) fn get(&self) -> Option<&[u8]>
         requires { HasRoom self.now }
         ensures { IfSome result (λ text. text_in self.now ≡ Some text.now) }

@@ -1,4 +1,4 @@
-//! The service characters of a text (ISO 9735, service string advice).
+//! Reads the service characters of a text (ISO 9735, service string advice).
 
 ghost use Rattle.std.specs.Prelude.{◌≡◌};
 ghost use Rattle.edi_segments.specs.Service as spec;
@@ -60,7 +60,7 @@ fn are_right(
     are_marks && is_decimal(decimal) && 32 <= reserved && reserved <= 126 && are_apart
 }
 
-/// Whether a byte is one of the usual service characters, which a release character stands before in data.
+/// Whether a byte is one of the usual service characters, which need a release character in data.
 pub fn is_usual(byte: u8) -> bool
     ensures { result ≡ is_usual byte }
 {
@@ -68,7 +68,7 @@ pub fn is_usual(byte: u8) -> bool
 }
 
 impl Service {
-    /// The service characters of a text without a service string: `:` `+` `.` `?` `'`.
+    /// Returns the service characters of a text without a service string: `:` `+` `.` `?` `'`.
     pub fn usual() -> Self
         ensures { result ≡ spec.usual }
     {
@@ -81,8 +81,8 @@ impl Service {
         }
     }
 
-    /// What six characters say: component separator, element separator, decimal mark, release character
-    /// or a blank where there is none, reserved position, terminator. None where they are against the rules.
+    /// Returns what six characters say: component separator, element separator, decimal mark, release character or a
+    /// blank for none, reserved position, terminator. `None` if they break the rules.
     pub(crate) fn of(six: &[u8; 6]) -> Option<Self>
         ensures { result ≡ spec.service_of six.now }
     {

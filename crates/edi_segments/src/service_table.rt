@@ -1,4 +1,4 @@
-//! The service characters of a text, with what each byte is to them.
+//! Looks up what a byte is to the service characters of a text.
 
 ghost use Rattle.std.specs.Prelude.{◌≡◌, ◌≤◌, ◌++◌, IsTrue, length, take, drop};
 ghost use Rattle.edi_segments.specs.ServiceTable.{are_run, stands_for_itself};
@@ -41,7 +41,7 @@ impl ServiceTable {
         }
     }
 
-    /// The service characters.
+    /// Returns the service characters.
     pub fn get(&self) -> Service
         ensures { result ≡ self.now }
     {
@@ -55,8 +55,8 @@ impl ServiceTable {
         self.stands_for_itself[byte as usize]
     }
 
-    /// Copies the bytes at the front that stand for themselves, in the text and in its canonical one, to two places. How
-    /// many.
+    /// Copies the leading bytes that stand for themselves, in the text and in its canonical one, to two places. Returns
+    /// how many.
     #[inline(always)]
     pub(crate) fn copy_run(&self, bytes: &[u8], one: &mut [u8], other: &mut [u8]) -> usize
         requires one { length bytes.now ≤ length one.old }

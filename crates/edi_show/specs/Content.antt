@@ -26,7 +26,7 @@ abbrev pub content_from : (MessageFault → ℕ) → Result Document MessageFaul
 content_from place (Ok document) = Read document
 content_from place (Err fault) = Refused fault (place fault)
 
--- what a message of a type says, behind so many segments of the interchange
+-- what a message of a type says, after this many segments of the interchange
 abbrev pub content_by : Option DocumentType → ℕ → RawMessage → Content
 content_by (Some type) before m = content_from (λ fault. before + place_as type fault m.segments) (document_as type m)
 content_by None before m = Refused MessageType (before + 1)
@@ -37,7 +37,7 @@ content_of before m = content_by (type_of m.kind) before m
 abbrev pub shown_message : ℕ → RawMessage → ShownMessage
 shown_message before m = record { reference = m.reference; kind = m.kind; content = content_of before m }
 
--- the messages behind so many segments
+-- the messages after this many segments
 abbrev pub shown_messages : ℕ → List RawMessage → List ShownMessage
 shown_messages before [] = []
 shown_messages before (m ∷ messages) = shown_message before m ∷ shown_messages (before + length m.segments) messages

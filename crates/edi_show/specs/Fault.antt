@@ -1,4 +1,4 @@
--- Faults, and their names in words.
+-- Describes faults by their names in words.
 use Rattle.std.specs.Prelude.{ℕ, List, codes}
 use Rattle.edi_segments.specs.declared.fault.TokenFault.{TokenFault}
 use Rattle.edi_segments.specs.declared.fault.TokenFault.TheVariants as token

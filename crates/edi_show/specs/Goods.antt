@@ -1,4 +1,4 @@
--- The lines of despatch advices and receiving advices.
+-- Writes the lines of despatch advices and receiving advices.
 use Rattle.std.specs.Prelude.{ℕ, Bool, true, false, List, [], ◌++◌, codes}
 use Rattle.std.specs.List.{flat_map}
 use Rattle.std.specs.Fmt.{decimal}

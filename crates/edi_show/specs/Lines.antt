@@ -1,8 +1,8 @@
--- Lines, and what the lines of messages share.
+-- Writes lines, and what the lines of messages share.
 use Rattle.std.specs.Prelude.{ℕ, List, ◌++◌, codes, Option, Some, None}
 use Rattle.std.specs.Fmt.{decimal}
 
--- a name with what stands before it, a value, the end of the line
+-- a name with what comes before it, a value, the end of the line
 unfoldable pub line : List ℕ → List ℕ → List ℕ
 line name value = name ++ (value ++ codes "\n")
 

@@ -1,4 +1,4 @@
--- The lines of messages.
+-- Writes the lines of messages.
 use Rattle.std.specs.Prelude.{ℕ, ◌+◌, List, [], ◌∷◌, ◌++◌, codes}
 use Rattle.std.specs.Fmt.{decimal}
 use Rattle.edi_messages.specs.Fault.{code_text}

@@ -1,4 +1,4 @@
--- The lines of orders and responses.
+-- Writes the lines of orders and responses.
 use Rattle.std.specs.Prelude.{ℕ, List, ◌++◌, codes}
 use Rattle.std.specs.List.{flat_map}
 use Rattle.std.specs.Fmt.{decimal}

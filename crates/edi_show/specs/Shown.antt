@@ -15,7 +15,7 @@ use Rattle.edi_show.specs.Content.{shown_messages, is_refused_message}
 use Rattle.edi_places.specs.Envelope.{envelope_place}
 use Rattle.edi_places.specs.Text.{text_place}
 
--- The interchange of a text, or its fault with the segment that shows it. UNB stands before the messages.
+-- The interchange of a text, or its fault with the segment that shows it. UNB comes before the messages.
 abbrev pub shown_interchange : Tokens → Result Interchange EnvelopeFault → Shown
 shown_interchange tokens (Err fault) = shown.Refused (Envelope fault (envelope_place fault tokens.segments))
 shown_interchange tokens (Ok interchange) = shown.Interchange (record {
@@ -35,7 +35,7 @@ shown_read bytes (Ok tokens) = shown_tokens tokens
 abbrev pub shown_of : List ℕ → Shown
 shown_of bytes = shown_read bytes (tokens_of bytes)
 
--- the segments that a text spells; none where it spells none
+-- the segments that a text spells; none if it spells none
 abbrev pub segments_in : Result Tokens TokenFault → List Segment
 segments_in (Err fault) = []
 segments_in (Ok tokens) = tokens.segments

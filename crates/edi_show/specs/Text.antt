@@ -1,4 +1,4 @@
--- What a text says, in lines.
+-- Writes what a text says, in lines.
 use Rattle.std.specs.Prelude.{ℕ, List, [], ◌∷◌, ◌++◌, length, codes, Option, Some, None}
 use Rattle.std.specs.Fmt.{decimal}
 use Rattle.edi_segments.specs.declared.segment.Service.{Service}
@@ -62,7 +62,7 @@ place_text place =
     codes " at offset " ++ (decimal place.offset ++ (codes " line " ++ (decimal place.line
     ++ (codes " segment " ++ (decimal place.segment ++ codes "\n")))))
 
--- what shows the fault; nothing where there is no segment
+-- what shows the fault; nothing if there is no segment
 abbrev pub whole_place : WholeFault → List ℕ
 whole_place (Token fault place) = place_text place
 whole_place (Envelope fault (Some number)) = segment_text number

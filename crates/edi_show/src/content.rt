@@ -15,8 +15,8 @@ use std::alloc::{AllocError, Global};
 pub enum Content {
     /// It was read.
     Read(Document),
-    /// The message is none that the hub reads, or has a fault; and the number in the interchange of the segment that shows
-    /// it, UNB counted as 1, or of UNH where no one segment does.
+    /// The message is not one that the hub reads, or has a fault; with the number in the interchange of the segment
+    /// that shows it, or of UNH if no one segment does. UNB is number 1.
     Refused(MessageFault, usize),
 }
 
@@ -31,7 +31,7 @@ pub struct ShownMessage {
     pub content: Content,
 }
 
-// The sum of two numbers of segments. No memory has as many as would be too many to count.
+// Returns the sum of two numbers of segments. No memory has as many as would be too many to count.
 fn sum(one: usize, other: usize) -> Result<usize, MemoryFault>
     ensures { IfOk result (λ sum. sum ≡ one + other) }
 {
@@ -55,7 +55,7 @@ fn fault_place(
     }
 }
 
-// Reads a message of a type, behind so many segments.
+// Reads a message of a type that comes after this many segments.
 fn content_as(
     alloc: Global,
     kind: DocumentType,
@@ -74,7 +74,7 @@ fn content_as(
     }
 }
 
-// Reads a message by its type, behind so many segments.
+// Reads a message by its type, after this many segments.
 fn content_of(alloc: Global, before: usize, message: &RawMessage) -> Result<Content, MemoryFault>
     ensures { IfOk result (λ content. content ≡ spec.content_of before message.now) }
 {
@@ -84,7 +84,7 @@ fn content_of(alloc: Global, before: usize, message: &RawMessage) -> Result<Cont
     }
 }
 
-// A message behind so many segments, with what it says.
+// Returns a message after this many segments, with what it says.
 fn shown_message(
     alloc: Global,
     before: usize,

@@ -1,4 +1,4 @@
-//! Faults, and their names in words.
+//! Describes faults by their names in words.
 ghost use Rattle.std.specs.Prelude.{◌≡◌};
 ghost use Rattle.edi_show.specs.Fault as spec;
 
@@ -12,12 +12,12 @@ use edi_tokens::TokenFault;
 pub enum WholeFault {
     /// The text spells no segments: its fault, and the byte that shows it or the end of the text.
     Token(TokenFault, TextPlace),
-    /// The segments are no interchange: the fault, and the number of the segment that shows it, UNB counted as 1; none
-    /// where there is no segment.
+    /// The segments are not an interchange: the fault, and the number of the segment that shows it, or `None` if there
+    /// is no segment. UNB is number 1.
     Envelope(EnvelopeFault, Option<usize>),
 }
 
-// The name of a fault of a text.
+// Returns the name of a fault of a text.
 fn token_words(fault: TokenFault) -> &'static str
     ensures { result.now ≡ spec.token_words fault }
 {
@@ -33,7 +33,7 @@ fn token_words(fault: TokenFault) -> &'static str
     }
 }
 
-// The name of a fault of an envelope.
+// Returns the name of a fault of an envelope.
 fn envelope_words(fault: EnvelopeFault) -> &'static str
     ensures { result.now ≡ spec.envelope_words fault }
 {
@@ -54,7 +54,7 @@ fn envelope_words(fault: EnvelopeFault) -> &'static str
     }
 }
 
-/// The name of a fault of a message, as `quantity` for M08; `memory` for out of memory.
+/// Returns the name of a fault of a message, as `quantity` for M08; `memory` for out of memory.
 pub(crate) fn message_words(fault: MessageFault) -> &'static str
     ensures { result.now ≡ spec.message_words fault }
 {
@@ -76,7 +76,7 @@ pub(crate) fn message_words(fault: MessageFault) -> &'static str
 }
 
 impl WholeFault {
-    /// The code that is printed, as `E12`.
+    /// Returns the code that is printed, as `E12`.
     pub fn code(self) -> &'static str
         ensures { result.now ≡ spec.whole_code self }
     {
@@ -86,7 +86,7 @@ impl WholeFault {
         }
     }
 
-    /// The name in words, as `count of segments` for E12.
+    /// Returns the name in words, as `count of segments` for E12.
     pub fn words(self) -> &'static str
         ensures { result.now ≡ spec.whole_words self }
     {

@@ -1,4 +1,4 @@
-//! The lines of despatch advices and receiving advices.
+//! Writes the lines of despatch advices and receiving advices.
 ghost use Rattle.std.specs.Prelude.{◌≡◌, ◌++◌, OnOk};
 ghost use Rattle.std.specs.List.{flat_map};
 ghost use Rattle.edi_show.specs.Goods as spec;
@@ -133,7 +133,7 @@ fn put_receipt_units(
     Ok(())
 }
 
-// Appends that an advice takes the place of what was received, where it does.
+// Appends that an advice takes the place of what was received, if it does.
 fn put_function(out: &mut Vec<u8>, replaces: bool) -> Result<(), MemoryFault>
     ensures { OnOk result (out.new.items ≡ out.old.items ++ spec.function_text replaces) }
 {

@@ -1,5 +1,5 @@
-//! What an interchange says, as a value and in plain lines: its service characters, its header, and each message as a
-//! record or with its fault and what shows it.
+//! Says what is in an interchange, as a value and in plain lines: its service characters, its header, and each message
+//! as a record or with its fault and what shows it.
 #![tactic(auto)]
 
 mod content;

@@ -1,4 +1,4 @@
-//! Lines, and what the lines of messages share.
+//! Writes lines, and what the lines of messages share.
 ghost use Rattle.std.specs.Prelude.{◌≡◌, ◌++◌, IfOk, OnOk, string_bytes};
 ghost use Rattle.edi_show.specs.Lines as spec;
 
@@ -6,7 +6,7 @@ use edi_tokens::MemoryFault;
 use gs1_ids::Gln;
 use std::alloc::Global;
 
-/// Appends a line: a name with what stands before it, a value, the end of the line.
+/// Appends a line: a name with what comes before it, a value, the end of the line.
 #[tactic(auto, unfolding(crate::specs::Lines::line))]
 pub(crate) fn put_line(out: &mut Vec<u8>, name: &[u8], value: &[u8]) -> Result<(), MemoryFault>
     ensures { OnOk result (out.new.items ≡ out.old.items ++ spec.line name.now value.now) }
@@ -35,7 +35,7 @@ pub(crate) fn put_head(
     Ok(())
 }
 
-/// The digits of a buyer, or a hyphen where none is named.
+/// Returns the digits of a buyer, or a hyphen if none is named.
 pub(crate) fn buyer_text(buyer: &Option<Gln>) -> &[u8]
     ensures { result.now ≡ spec.buyer_text buyer.now }
 {
@@ -45,7 +45,7 @@ pub(crate) fn buyer_text(buyer: &Option<Gln>) -> &[u8]
     }
 }
 
-/// The line of an order that is named, or a hyphen where none is.
+/// Returns the line of an order that is named, or a hyphen if none is.
 pub(crate) fn line_text(alloc: Global, line: Option<u32>) -> Result<String, MemoryFault>
     ensures { IfOk result (λ text. string_bytes text ≡ spec.line_text line) }
 {

@@ -1,4 +1,4 @@
-//! The lines of messages.
+//! Writes the lines of messages.
 ghost use Rattle.std.specs.Prelude.{◌≡◌, ◌++◌, OnOk};
 ghost use Rattle.edi_show.specs.Messages as spec;
 

@@ -1,4 +1,4 @@
-//! The lines of orders and responses.
+//! Writes the lines of orders and responses.
 ghost use Rattle.std.specs.Prelude.{◌≡◌, ◌++◌, OnOk, IfOk, string_bytes};
 ghost use Rattle.std.specs.List.{flat_map};
 ghost use Rattle.edi_show.specs.Orders as spec;
@@ -47,7 +47,7 @@ pub(crate) fn put_order(alloc: Global, out: &mut Vec<u8>, order: &Order) -> Resu
     Ok(())
 }
 
-// The answer to a line in words.
+// Returns the answer to a line in words.
 fn answer_text(alloc: Global, answer: LineAnswer) -> Result<String, MemoryFault>
     ensures { IfOk result (λ text. string_bytes text ≡ spec.answer_text answer) }
 {

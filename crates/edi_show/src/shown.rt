@@ -1,4 +1,4 @@
-//! What the text of an interchange says.
+//! Reads what the text of an interchange says.
 ghost use Rattle.std.specs.Prelude.{◌≡◌, IfOk, Ok};
 ghost use Rattle.std.specs.List.{list_any};
 ghost use Rattle.edi_segments.specs.Reading.{tokens_of};
@@ -35,7 +35,7 @@ pub struct ShownInterchange {
     pub messages: Items<ShownMessage>,
 }
 
-// The segments of a text, read once more; none where it spells none.
+// Returns the segments of a text, read once more; none if it spells none.
 fn segments_of(alloc: Global, text: &[u8]) -> Result<Items<Segment>, MemoryFault>
     ensures { IfOk result (λ segments. segments ≡ spec.segments_in (tokens_of text.now)) }
 {
@@ -46,7 +46,7 @@ fn segments_of(alloc: Global, text: &[u8]) -> Result<Items<Segment>, MemoryFault
     }
 }
 
-// The fault of an interchange, with the segment of its text that shows it.
+// Returns the fault of an interchange, with the segment of its text that shows it.
 fn refused(alloc: Global, text: &[u8], fault: EnvelopeFault) -> Result<Shown, MemoryFault>
     ensures { IfOk result (λ shown. shown ≡ Shown.Refused (WholeFault.Envelope fault
         (envelope_place fault (spec.segments_in (tokens_of text.now))))) }
@@ -56,7 +56,7 @@ fn refused(alloc: Global, text: &[u8], fault: EnvelopeFault) -> Result<Shown, Me
     Ok(Shown::Refused(WholeFault::Envelope(fault, place)))
 }
 
-// What the segments of a text say.
+// Returns what the segments of a text say.
 fn shown_tokens(alloc: Global, text: &[u8], tokens: Tokens) -> Result<Shown, MemoryFault>
     requires { tokens_of text.now ≡ Ok tokens }
     ensures { IfOk result (λ shown. shown ≡ spec.shown_tokens tokens) }
@@ -75,10 +75,10 @@ fn shown_tokens(alloc: Global, text: &[u8], tokens: Tokens) -> Result<Shown, Mem
     }))
 }
 
-/// What a text says: the service characters, the header and each message of an interchange; or why the text is refused
-/// as a whole, by the fault that its earliest byte shows, or else by the lowest fault of the interchange. A message that
-/// is refused has the lowest of its faults; the others are as if it were not there. Each fault comes with the place that
-/// shows it. A text that is refused is read twice.
+/// Returns what a text says: the service characters, the header and each message of an interchange; or why the text is
+/// refused as a whole, by the fault that its earliest byte shows, or else by the lowest fault of the interchange. A
+/// message that is refused has the lowest of its faults; the others are as if it were not there. Each fault comes with
+/// the place that shows it. A text that is refused is read twice.
 pub fn show_text(alloc: Global, text: &[u8]) -> Result<Shown, MemoryFault>
     ensures { IfOk result (λ shown. shown ≡ spec.shown_of text.now) }
 {

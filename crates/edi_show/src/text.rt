@@ -1,4 +1,4 @@
-//! What a text says, in lines.
+//! Writes what a text says, in lines.
 ghost use Rattle.std.specs.Prelude.{◌≡◌, ◌++◌, OnOk, IfOk, string_bytes};
 ghost use Rattle.edi_show.specs.Text as spec;
 
@@ -115,7 +115,7 @@ fn put_interchange(
     Ok(())
 }
 
-// What shows a fault of the whole, and the end of its line.
+// Returns what shows a fault of the whole, and the end of its line.
 fn place_text(alloc: Global, fault: WholeFault) -> Result<String, MemoryFault>
     ensures { IfOk result (λ text. string_bytes text ≡ spec.whole_place fault) }
 {
@@ -157,9 +157,10 @@ fn put_shown(alloc: Global, out: &mut Vec<u8>, shown: &Shown) -> Result<(), Memo
 }
 
 impl Shown {
-    /// What the text says, in lines that each end with a line feed. A text that is refused as a whole is one line,
-    /// `refused`, its code, its name in words, and what shows it. An interchange is its service characters, its header and
-    /// its messages; what belongs to one of them stands two blanks further in. Numbers and references stand as their bytes.
+    /// Returns what the text says, in lines that each end with a line feed. A text that is refused as a whole is one
+    /// line: `refused`, its code, its name in words, and what shows it. An interchange is its service characters, its
+    /// header and its messages; what belongs to one of them is indented by two more blanks. Numbers and references are
+    /// printed as their bytes.
     pub fn to_lines(&self, alloc: Global) -> Result<Vec<u8>, MemoryFault>
         ensures { IfOk result (λ lines. lines.items ≡ spec.shown_lines self.now) }
     {

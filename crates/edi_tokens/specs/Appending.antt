@@ -3,7 +3,7 @@ use Rattle.std.specs.Prelude.{◌≡◌, ℕ, List, length, take, slice_set}
 use Rattle.edi_segments.specs.declared.segment.Segment.{Segment}
 use Rattle.edi_segments.specs.Segment.{element_at}
 
--- the components of an element with another first one, where there is one
+-- the components of an element with another first one, if there is one
 abbrev pub with_first : List (List ℕ) → List ℕ → List (List ℕ)
 with_first components first = slice_set components 0 first
 

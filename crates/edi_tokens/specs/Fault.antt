@@ -46,8 +46,8 @@ pub record EndsInTag (text : List ℕ) (s : Service) (segments : List Segment) (
   pub tag_is : IsTagFront tag
   pub no_advice : fresh ≡ true → tag ≢ una_tag
 
--- a segment whose data has begun: the tag, closed elements, and an element separator with the open element,
--- whose closed components stand before a component separator each
+-- a segment whose data has begun: the tag, closed elements, and an element separator with the open element, in which
+-- each closed component comes before a component separator
 pub record SpellsOpen (s : Service) (text : List ℕ) (o : Open) : Type 0 where
   pub closed : List ℕ
   pub written : List (List (List ℕ))
@@ -71,7 +71,7 @@ pub record EndsInData (text : List ℕ) (s : Service) (segments : List Segment) 
   pub no_advice : Advises whole.advice s (tags segments ++ o.tag ∷ [])
   pub segment_spells : SpellsOpen s segment o
 
--- the same, and a release character
+-- then a release character
 pub record EndsReleased (text : List ℕ) (s : Service) (segments : List Segment) (o : Open) : Type 0 where
   pub front : List ℕ
   pub release : ℕ
@@ -82,7 +82,7 @@ pub record EndsReleased (text : List ℕ) (s : Service) (segments : List Segment
   pub open_is : o ≡ with_release data_before
   pub is_short : o.length ≤ segment_limit
 
--- the text is a front of a valid one, and ends at this place
+-- the text is a prefix of a valid one, and ends at this place
 abbrev pub EndsAt : List ℕ → Service → List Segment → Place → Type 0
 EndsAt text s segments (Outside fresh) = EndsOutside text s segments fresh
 EndsAt text s segments (InService six) = EndsInService text s segments six

@@ -1,4 +1,4 @@
--- How far a text has been read and its segments lent, and what a call tells of it.
+-- How far a text has been read and its segments lent, and what a call returns.
 use Rattle.std.specs.Prelude.{◌≡◌, ◌≢◌, ◌⊎◌, ℕ, ◌+◌, ◌<◌, ◌≤◌, Bool, true, false, List, [], ◌∷◌, ◌++◌, length, take}
 use Rattle.std.specs.Prelude.{Option, Some, None, Result, Ok, Err, IfErr, IfSome, OnOk, if◌then◌else◌}
 use Rattle.std.specs.Io.KnownBytes.{Consumes, IsAtEnd}
@@ -13,13 +13,13 @@ use Rattle.edi_segments.specs.Spelling.{text_limit}
 use Rattle.edi_segments.specs.Reading.{start, run, finish, tokens_of}
 use Rattle.edi_segments.specs.Machine.{lent_of, reading_of, tokens_at}
 
--- of the bytes of a reader so many are left of a text, or fewer at their end
+-- of the bytes of a reader this many are left of a text, or fewer at their end
 pub record Begins (known : Option (List ℕ)) (left : List ℕ) (room : ℕ) : Type 0 where
   pub bytes : List ℕ
   pub known_is : known ≡ Some bytes
   pub left_is : left ≡ take room bytes
 
--- how a text goes on behind the bytes that were read: so many of them, and so many more may be read
+-- how a text continues after the bytes that were read: this many were read, and this many more may be
 abbrev pub GoesOn : Tail → Option (List ℕ) → List ℕ → ℕ → ℕ → Type 0
 GoesOn More known left room count = (known ≡ Some left) × (room + count ≡ text_limit + 1) × (0 < room)
 GoesOn Within known left room count = Begins known left room × (room + count ≤ text_limit) × (0 < room)
@@ -27,8 +27,8 @@ GoesOn End known left room count = (left ≡ []) × (count ≤ text_limit)
 GoesOn Long known left room count = (0 < length left) × (count ≡ text_limit)
 GoesOn (Failed fault) known left room count = ⊥
 
--- Of a text some bytes are taken, which spell the segments that were lent and a front of the next one; behind them
--- stand those that were read, and those that are left of it. Of its reader these bytes are known.
+-- Some bytes of a text are taken: the segments that were lent and a prefix of the next one. After them come those that
+-- were read, and those that are left. These bytes of its reader are known.
 pub record Fed (known : Option (List ℕ)) (all : List ℕ) (lent : List Segment) (l : Lender) : Type 0 where
   pub taken : List ℕ
   pub left : List ℕ
@@ -61,11 +61,11 @@ room_of l = l.room
 abbrev pub unread : Lender → ℕ
 unread l = l.room + length l.piece
 
--- where the reader has ended, none of its known bytes is left, or none may be read
+-- once the reader has ended, none of its known bytes is left, or none may be read
 abbrev pub AtEnd : Option (List ℕ) → Lender → Type 0
 AtEnd known l = l.ended ≡ true → IsAtEnd known ⊎ (l.room ≡ 0)
 
--- nothing is read yet, and so many bytes may be read
+-- nothing is read yet, and this many bytes may be read
 pub record IsBegun (l : Lender) (room : ℕ) : Type 0 where
   pub room_is : room_of l ≡ room
   pub going : stopped l ≡ None
@@ -75,7 +75,7 @@ pub record IsBegun (l : Lender) (room : ℕ) : Type 0 where
 abbrev pub lent_by : Lender → Segment
 lent_by l = lent_of l.machine
 
--- the service characters, where a service string or a segment has come
+-- the service characters, once a service string or a segment has come
 abbrev pub known_service : Lender → Option Service
 known_service l = if l.machine.fresh then None else Some l.machine.service
 
@@ -83,7 +83,7 @@ known_service l = if l.machine.fresh then None else Some l.machine.service
 abbrev pub decimal_of : Lender → ℕ
 decimal_of l = l.machine.service.decimal
 
--- what a call tells of a text: one more segment, its end, or its fault
+-- what a call says about a text: one more segment, its end, or its fault
 abbrev pub Told : Option (List ℕ) → List ℕ → List Segment → Result (Option Segment) TokenFault → Lender → Type 0
 Told known all lent (Ok (Some segment)) l = Fed known all (lent ++ segment ∷ []) l
 Told known all lent (Ok None) l = Fed known all lent l × (tokens_of all ≡ Ok (tokens_at lent l.machine))
@@ -107,7 +107,7 @@ pub record Came (lent : List Segment) (l : Lender) : Type 0 where
   pub all : List ℕ
   pub fed : Fed known all lent l
 
--- what a call tells of some text: one more segment, its end, or its fault
+-- what a call says about some text: one more segment, its end, or its fault
 abbrev pub TellsSome : List Segment → Result (Option Segment) TokenFault → Lender → Type 0
 TellsSome lent (Ok (Some segment)) l = Came (lent ++ segment ∷ []) l
 TellsSome lent (Ok None) l = Came lent l × ((all : List ℕ) × (tokens_of all ≡ Ok (tokens_at lent l.machine)))
@@ -158,8 +158,8 @@ abbrev pub Flags : {X : Type 0} → Result X TokenFault → Bool → Bool → Ty
 Flags (Ok x) old new = new ≡ old
 Flags (Err fault) old new = HasCause fault old new
 
--- What a call answers, of the bytes that are known of its reader before and after it, and of the reader's flag: to whoever
--- has not been told a fault, and to whoever has. Where no bytes are known, they are those of some text.
+-- What a call returns, for the bytes that are known of its reader before and after it, and for the reader's flag:
+-- before a fault was reported, and after. If no bytes are known, they are those of some text.
 pub record Feeds (before after : Option (List ℕ)) (was failed : Bool) (old : Lender)
     (result : Result (Option Segment) TokenFault) (new : Lender) : Type 0 where
   pub told : (all : List ℕ) (lent : List Segment) → Fed before all lent old → Told after all lent result new
@@ -177,7 +177,7 @@ answered (Ok true) l = Ok (Some (lent_by l))
 answered (Ok false) l = Ok None
 answered (Err fault) l = Err fault
 
--- The rest of a reader's bytes was read away, to their end or as far as there was room, and so many fewer came. At a
+-- The rest of a reader's bytes was read, to their end or as far as there was room, and this many fewer came. At a
 -- failed read no more was taken.
 abbrev pub ReadsAway : {E : Type 0} → Option (List ℕ) → Option (List ℕ) → Lender → Result ℕ E → Type 0
 ReadsAway before after l (Ok missing) =

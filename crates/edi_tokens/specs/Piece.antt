@@ -2,7 +2,7 @@
 use Rattle.std.specs.Prelude.{◌≡◌, ℕ, ◌<◌, ◌≤◌, List, [], length, take, Option, Result, Ok, Err}
 use Rattle.std.specs.Io.KnownBytes.{Consumes, Keeps, IsAtEnd}
 
--- so many bytes of the reader are the piece, none only at its end or where there is no room
+-- this many bytes of the reader are the piece, none only at its end or if there is no room
 pub record FillsWith (old new : Option (List ℕ)) (piece : List ℕ) (room count : ℕ) : Type 0 where
   pub consumed : Consumes old new piece
   pub count_is : length piece ≡ count
@@ -13,7 +13,7 @@ abbrev pub Fills : {E : Type 0} → Option (List ℕ) → Option (List ℕ) → 
 Fills old new (Ok count) piece room = FillsWith old new piece room count
 Fills old new (Err e) piece room = Keeps old new × (piece ≡ [])
 
--- the same in the front of a buffer
+-- the piece is the front of a buffer
 pub record ReadsFront (old new : Option (List ℕ)) (buffer : List ℕ) (room count : ℕ) : Type 0 where
   pub consumed : Consumes old new (take count buffer)
   pub inside : count ≤ length buffer

@@ -9,7 +9,7 @@ use Rattle.edi_tokens.specs.Lender.{Fed, stopped}
 abbrev pub StaysStopped : {R : Type 0} → R → Lender → R → Lender → Type 0
 StaysStopped before old after new = IfSome (stopped old) (λ _. (new ≡ old) × (after ≡ before))
 
--- the lender has stopped where this fault was told, and else it stands among the segments of the same text
+-- the lender has stopped after this fault, or else is among the segments of the same text
 pub record Stops {R : Type 0} (remaining : R → Option (List ℕ)) (told : Option TokenFault) (before : R) (old : Lender)
     (after : R) (new : Lender) : Type 0 where
   pub told_is : stopped new ≡ told

@@ -1,4 +1,4 @@
--- The canonical text of segments (ISO 9735, character sets and structures).
+-- Writes the canonical text of segments (ISO 9735, character sets and structures).
 use Rattle.std.specs.Prelude.{ℕ, List, [], ◌∷◌, ◌++◌, drop}
 use Rattle.std.specs.List.{flat_map}
 use Rattle.edi_segments.specs.declared.segment.Segment.{Segment}

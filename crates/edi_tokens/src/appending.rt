@@ -1,4 +1,4 @@
-//! The text of a segment that is lent, appended to what was written (ISO 9735, character sets and structures).
+//! Appends the text of a segment that is lent (ISO 9735, character sets and structures).
 
 ghost use Rattle.std.specs.Prelude.{◌≡◌, [], ◌∷◌, ◌++◌, OnOk, OnErr};
 ghost use Rattle.edi_segments.specs.Service.{usual_terminator};
@@ -61,7 +61,7 @@ fn append_element(
     append_others(out, segment, element)
 }
 
-/// Appends an element with another first component, where it has one.
+/// Appends an element with another first component, if it has one.
 #[tactic(auto, using(crate::proofs::Kept::keeps))]
 fn append_element_with(
     out: &mut Vec<u8>,
@@ -81,7 +81,7 @@ fn append_element_with(
     append_others(out, segment, element)
 }
 
-/// Appends the canonical text of a segment. Where memory runs out, a part of it may be left behind.
+/// Appends the canonical text of a segment. If memory runs out, a part of it may be left there.
 #[tactic(auto, using(crate::proofs::Kept::keeps))]
 fn append_parts(out: &mut Vec<u8>, segment: &SegmentRef<'_>) -> Result<(), MemoryFault>
     ensures ok { OnOk result (out.new.items ≡ out.old.items ++ segment_text (segment_in segment.now)) }
@@ -95,8 +95,8 @@ fn append_parts(out: &mut Vec<u8>, segment: &SegmentRef<'_>) -> Result<(), Memor
     Ok(())
 }
 
-/// Appends the canonical text of a segment, with another first component of an element. Where memory runs out, a part of it
-/// may be left behind.
+/// Appends the canonical text of a segment, with another first component of an element. If memory runs out, a part of
+/// it may be left there.
 #[tactic(auto, using(crate::proofs::Kept::keeps))]
 fn append_parts_with(
     out: &mut Vec<u8>,
@@ -131,7 +131,7 @@ fn append_front(out: &mut Vec<u8>, front: &[u8]) -> Result<(), MemoryFault>
     Ok(())
 }
 
-/// Appends the canonical text of a segment, at once where it is kept. Where memory runs out, a part of it may be left behind.
+/// Appends the canonical text of a segment, at once if it is kept. If memory runs out, a part of it may be left there.
 fn append_whole(out: &mut Vec<u8>, segment: &SegmentRef<'_>) -> Result<(), MemoryFault>
     ensures ok { OnOk result (out.new.items ≡ out.old.items ++ segment_text (segment_in segment.now)) }
     ensures kept { Keeps out.old.items out.new.items }
@@ -155,8 +155,8 @@ pub fn append_segment(out: &mut Vec<u8>, segment: &SegmentRef<'_>) -> Result<(),
     result
 }
 
-/// Appends the canonical text of a segment, with another first component of the element with this number, counted from 0.
-/// Where there is no such component, it stays as it is.
+/// Appends the canonical text of a segment, with another first component of the element with this number, counted from
+/// 0. A segment without such a component stays as it is.
 pub fn append_segment_with(
     out: &mut Vec<u8>,
     segment: &SegmentRef<'_>,

@@ -1,4 +1,4 @@
-//! The segments of a text, one after another, as its bytes are read.
+//! Lends the segments of a text one after another, as it reads the bytes.
 
 ghost use Rattle.std.specs.Prelude.{◌≡◌, ◌+◌, ℕ, List, [], IfOk, IfErr, Some};
 ghost use Rattle.edi_segments.specs.Spelling.{text_limit};
@@ -32,7 +32,7 @@ impl<R: Source> Feeder<R> {
     ghost use Rattle.edi_tokens.specs.Feeder.{FeedsOn};
     ghost use Rattle.edi_segments.specs.SegmentRef.{segment_in, segment_told};
 
-    /// Nothing is read yet. Where memory is refused, the reader is given back.
+    /// Nothing is read yet. If memory is refused, the reader is given back.
     pub fn new(alloc: Global, reader: R) -> Result<Self, Refused<R>>
         ensures fed { IfOk result (λ feeder. (known : List ℕ) → R.remaining reader ≡ Some known →
             Fed (R.remaining feeder.reader) known [] feeder.lender) }
@@ -65,28 +65,28 @@ impl<R: Source> Feeder<R> {
         Ok(Some(self.lent()))
     }
 
-    /// The segment that ended last.
+    /// Returns the segment that ended last.
     fn lent(&self) -> SegmentRef<'_>
         ensures { segment_in result ≡ lent_by self.now.lender }
     {
         self.lender.lent()
     }
 
-    /// The service characters, known from the first segment on.
+    /// Returns the service characters, known from the first segment on.
     pub fn service(&self) -> Option<Service>
         ensures { result ≡ known_service self.now.lender }
     {
         self.lender.service()
     }
 
-    /// The decimal mark: a full stop, until a service string has said another.
+    /// Returns the decimal mark: a full stop, until a service string has said another.
     pub fn decimal(&self) -> u8
         ensures { result ≡ decimal_of self.now.lender }
     {
         self.lender.decimal()
     }
 
-    /// The reader, as far as it was read.
+    /// Returns the reader, as far as it was read.
     pub fn into_reader(self) -> R
         ensures { result ≡ self.reader }
     {

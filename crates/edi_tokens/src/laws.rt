@@ -1,4 +1,4 @@
-//! The laws of the token grammar. Each is the contract of a function without a body.
+//! States the laws of the token grammar, each as the contract of a function without a body.
 
 ghost use Rattle.std.specs.Prelude.{◌≡◌, ◌⊎◌, ◌↔◌, ◌≤◌, ◌≢◌, ℕ, List, [], ◌++◌, length, Option, Ok};
 ghost use Rattle.std.specs.List.{AllByRecursion};
@@ -20,8 +20,8 @@ pub fn text_spells_one_list()
         Spells bytes s xs → Spells bytes t ys → (s ≡ t) × (xs ≡ ys) }
 {}
 
-/// A text spells segments or shows a fault, and never both; the fault that it shows is one, and so is the byte
-/// that shows it. Where the end shows it, no byte does.
+/// A text spells segments or shows a fault, and never both; the fault that it shows is one, and so is the byte that
+/// shows it. If the end shows it, no byte does.
 pub fn text_spells_or_shows_a_fault()
     ensures either { (bytes : List ℕ) →
         ((s : Service) × (xs : List Segment) × Spells bytes s xs)
@@ -45,8 +45,8 @@ pub fn reading_is_the_grammar()
         Shows bytes fault ↔ (tokens_of bytes ≡ Err fault) }
 {}
 
-/// The canonical text of segments that some text spells, after a service string, spells them again,
-/// where it keeps within the longest text and the longest segment.
+/// The canonical text of the segments of a text, after a service string, has the same segments, if it keeps within the
+/// longest text and the longest segment.
 pub fn canonical_text_spells_again()
     ensures { (bytes : List ℕ) (s : Service) (xs : List Segment) (decimal : ℕ) →
         Spells bytes s xs → (decimal ≡ 46) ⊎ (decimal ≡ 44) →
@@ -55,15 +55,15 @@ pub fn canonical_text_spells_again()
         Spells (una decimal ++ text xs) (with_decimal decimal) xs }
 {}
 
-/// What has been lent is what a front of the text spells: the bytes to the end of the last segment that was lent, with
-/// the service characters as far as they are known.
+/// What has been lent are the segments of a prefix of the text: the bytes to the end of the last segment that was lent,
+/// with the service characters as far as they are known.
 pub fn lent_segments_are_spelled()
     ensures { (known : Option (List ℕ)) (all : List ℕ) (lent : List Segment) (l : Lender) →
         Fed known all lent l →
         (front rest : List ℕ) × (all ≡ front ++ rest) × SpellsWhole front l.machine.service lent }
 {}
 
-/// Where a segment of a text was lent, the service characters are those of the whole text.
+/// If a segment of a text was lent, the service characters are those of the whole text.
 pub fn service_is_settled()
     ensures { (known : Option (List ℕ)) (all : List ℕ) (lent : List Segment) (l : Lender) (tokens : Tokens) →
         Fed known all lent l → lent ≢ [] → tokens_of all ≡ Ok tokens → tokens.service ≡ l.machine.service }

@@ -1,4 +1,4 @@
-//! The segments of a text, one after another, as its bytes are read from a reader that is handed in at each call.
+//! Lends the segments of a text one after another, as it reads the bytes from a reader that each call hands in.
 
 ghost use Rattle.std.specs.Prelude.{◌≡◌, ◌<◌, ◌≤◌, ◌-◌, ◌+◌, ◌++◌, ℕ, List, [], length, take, IfOk, IfErr, OnOk, OnErr};
 ghost use Rattle.std.specs.Prelude.{Option, Some, None, Ok, IfSome, false, true};
@@ -17,12 +17,12 @@ use edi_base::{MemoryFault, Source};
 use edi_segments::{Machine, SegmentRef, Service, TokenFault};
 use std::alloc::Global;
 
-/// How the text goes on behind the bytes that were read.
+/// How the text continues after the bytes that were read.
 #[derive(Clone, Copy, Debug, PartialEq, Eq)]
 pub(crate) enum Tail {
     /// More bytes may be read, the last of them one too many.
     More,
-    /// More bytes may be read, and the text ends behind them.
+    /// More bytes may be read, and the text ends after them.
     Within,
     /// The text ends.
     End,
@@ -46,7 +46,7 @@ pub struct Lender {
     ended: bool,
 }
 
-/// How a text goes on of which so many bytes are still to be read.
+/// Returns how a text continues of which this many bytes are still to be read.
 fn tail_within(room: usize) -> Tail
     ensures last { room ≡ 0 → result ≡ Tail.End }
     ensures more { 0 < room → result ≡ Tail.Within }
@@ -54,7 +54,7 @@ fn tail_within(room: usize) -> Tail
     if room == 0 { Tail::End } else { Tail::Within }
 }
 
-/// Reads once, and at most so many bytes. How many came.
+/// Reads once, and at most this many bytes. Returns how many came.
 fn skip_piece<R: Source>(
     piece: &mut Piece,
     reader: &mut R,
@@ -123,7 +123,7 @@ impl Lender {
         Ok(ended)
     }
 
-    /// Reads once, where more may be read. Whether bytes came.
+    /// Reads once, if more may be read. Returns whether bytes came.
     fn read<R: Source>(&mut self, reader: &mut R) -> Result<bool, TokenFault>
         requires tail { MayRead self.old.tail }
         requires piece { self.old.piece ≡ [] }
@@ -162,7 +162,7 @@ impl Lender {
         Ok(true)
     }
 
-    /// Reads on where all that was read is taken. Whether bytes came; none at the end of the text.
+    /// Reads more if all that was read is taken. Returns whether there are bytes: none at the end of the text.
     fn refill<R: Source>(&mut self, reader: &mut R) -> Result<bool, TokenFault>
         requires piece { self.old.piece ≡ [] }
         requires going { stopped self.old ≡ None }
@@ -232,14 +232,14 @@ impl Lender {
         result
     }
 
-    /// The segment that ended last.
+    /// Returns the segment that ended last.
     pub fn lent(&self) -> SegmentRef<'_>
         ensures { segment_in result ≡ lent_by self.now }
     {
         self.machine.lent()
     }
 
-    /// The service characters, known from the first segment on.
+    /// Returns the service characters, known from the first segment on.
     pub fn service(&self) -> Option<Service>
         ensures { result ≡ known_service self.now }
     {
@@ -249,15 +249,15 @@ impl Lender {
         Some(self.machine.service.get())
     }
 
-    /// The decimal mark: a full stop, until a service string has said another.
+    /// Returns the decimal mark: a full stop, until a service string has said another.
     pub fn decimal(&self) -> u8
         ensures { result ≡ decimal_of self.now }
     {
         self.machine.service.get().decimal
     }
 
-    /// Reads away what is left of the text, whatever it is. How many bytes fewer came than may be read: none, or the
-    /// reader has ended. Fails only where the reader answers an error.
+    /// Reads what is left of the text, whatever it is. Returns how many bytes fewer came than may be read: none, or the
+    /// reader has ended. Fails only if the reader fails.
     pub fn skip_rest<R: Source>(self, reader: &mut R) -> Result<usize, ReadFailed>
         ensures away { ReadsAway (R.remaining reader.old) (R.remaining reader.new) self result }
         ensures kept { OnOk result (R.failed reader.new ≡ R.failed reader.old) }

@@ -1,4 +1,4 @@
-//! Segments from the text of an interchange, and the text of segments (ISO 9735, syntax version 3).
+//! Reads the segments of an interchange's text, and writes the text of segments (ISO 9735, syntax version 3).
 #![tactic(auto)]
 
 mod appending;

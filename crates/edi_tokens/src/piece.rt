@@ -1,4 +1,4 @@
-//! The bytes that were read last, and how far they are taken.
+//! Keeps the bytes that were read last, and how far they are taken.
 
 ghost use Rattle.std.specs.Prelude.{◌≡◌, ◌≤◌, ◌<◌, ◌||◌, ◌-◌, ℕ, List, [], length, take, drop, IfOk, is_err, vec_len};
 ghost use Rattle.edi_tokens.specs.Piece.{Fills, Reads};
@@ -22,7 +22,7 @@ pub(crate) struct Piece {
 #[derive(Clone, Copy, Debug, PartialEq, Eq)]
 pub struct ReadFailed;
 
-/// Reads once into the front, and at most so many bytes.
+/// Reads once into the front, and at most this many bytes.
 fn read_front<R: Source>(reader: &mut R, bytes: &mut [u8], room: usize) -> Result<usize, ReadFailed>
     ensures bytes { Reads (R.remaining reader.old) (R.remaining reader.new) result bytes.new room }
     ensures flag { R.failed reader.new ≡ (R.failed reader.old || is_err result) }
@@ -35,7 +35,7 @@ fn read_front<R: Source>(reader: &mut R, bytes: &mut [u8], room: usize) -> Resul
     Ok(count)
 }
 
-/// A buffer for 8,192 bytes at least that begins with these.
+/// Returns a buffer for 8,192 bytes at least that begins with these.
 fn buffer_with(alloc: Global, front: &[u8]) -> Result<Vec<u8>, MemoryFault>
     ensures some { IfOk result (λ bytes. 0 < vec_len bytes) }
     ensures long { IfOk result (λ bytes. length front.now ≤ vec_len bytes) }
@@ -100,7 +100,7 @@ impl Piece {
         self.end -= 1;
     }
 
-    /// Reads once, and at most so many bytes, in place of those before.
+    /// Reads once, and at most this many bytes, in place of those before.
     pub(crate) fn fill<R: Source>(
         &mut self,
         reader: &mut R,

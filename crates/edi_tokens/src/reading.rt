@@ -1,4 +1,4 @@
-//! What any bytes are read as.
+//! Reads any bytes.
 
 ghost use Rattle.std.specs.Prelude.{◌≢◌, List, IfOk, IfErr, Ok};
 ghost use Rattle.edi_segments.specs.declared.segment.Service.{Service};
@@ -53,7 +53,7 @@ fn read(alloc: Global, text: &[u8]) -> Result<Tokens, TokenFault>
     })
 }
 
-/// The service characters and the segments of a text (ISO 9735, syntax version 3), or the fault that its
+/// Returns the service characters and the segments of a text (ISO 9735, syntax version 3), or the fault that its
 /// earliest byte shows.
 pub fn read_all(alloc: Global, text: &[u8]) -> Result<Tokens, TokenFault>
     // What is read is what the text spells.
@@ -63,7 +63,7 @@ pub fn read_all(alloc: Global, text: &[u8]) -> Result<Tokens, TokenFault>
         Answers (λ tokens. tokens) result (Ok (record { service = service; segments = segments })) }
     // A fault is the one that the text shows, unless memory ran out.
     ensures shown { IfErr result (λ fault. fault ≢ TokenFault.Memory → Shows text.now fault) }
-    // The same by the function that the definitions of the layers above cite.
+    // In the words of the definitions of the layers above.
     ensures exact { Answers (λ tokens. tokens) result (tokens_of text.now) }
 {
     read(alloc, text)

@@ -1,4 +1,4 @@
-//! The canonical text of segments (ISO 9735, character sets and structures).
+//! Writes the canonical text of segments (ISO 9735, character sets and structures).
 
 ghost use Rattle.std.specs.Prelude.{◌≡◌, ◌≤◌, ◌<◌, [], ◌++◌, length, take, IsTrue, OnOk, OnErr, IfOk, true, slice_index};
 ghost use Rattle.std.specs.Io.KnownBytes.{Appends};
@@ -10,7 +10,7 @@ use edi_segments::{COMPONENT, ELEMENT, RELEASE, Segment, TERMINATOR, is_usual};
 use std::alloc::{AllocError, Global};
 use std::mem;
 
-/// How many bytes at the front stand for themselves.
+/// Counts the leading bytes that stand for themselves.
 pub(crate) fn plain_len(bytes: &[u8]) -> usize
     ensures within { result ≤ length bytes.now }
     ensures plain { component_text (take result bytes.now) ≡ take result bytes.now }
@@ -109,7 +109,7 @@ fn put_all<W: Sink>(out: &mut W, front: &[u8], segments: &[Segment]) -> Result<(
     buffer.flush(out)
 }
 
-/// The service string `UNA:+.? '`, with this decimal mark (ISO 9735, service string advice).
+/// Returns the service string `UNA:+.? '`, with this decimal mark (ISO 9735, service string advice).
 pub fn service_string(decimal: u8) -> [u8; 9]
     ensures { result ≡ una decimal }
 {
@@ -118,8 +118,9 @@ pub fn service_string(decimal: u8) -> [u8; 9]
     ]
 }
 
-/// Writes the service string `UNA:+.? '`, with this decimal mark, and the canonical text of segments (ISO 9735, character
-/// sets, service string advice and structures). It takes no memory. At `WriteFault` a front of the text was written.
+/// Writes the service string `UNA:+.? '`, with this decimal mark, and the canonical text of segments (ISO 9735,
+/// character sets, service string advice and structures). It takes no memory. At `WriteFault` a prefix of the text was
+/// written.
 pub fn write_text<W: Sink>(segments: &[Segment], decimal: u8, out: &mut W) -> Result<(), WriteFault>
     ensures ok { OnOk result
         (Appends (W.contents out.old) (W.contents out.new) (una decimal ++ text segments.now)) }
@@ -151,7 +152,7 @@ pub fn append_segments(out: &mut Vec<u8>, segments: &[Segment]) -> Result<(), Me
     Ok(())
 }
 
-/// The canonical text of segments, with no service string (ISO 9735, character sets and structures).
+/// Returns the canonical text of segments, with no service string (ISO 9735, character sets and structures).
 pub fn body_text(alloc: Global, segments: &[Segment]) -> Result<Vec<u8>, MemoryFault>
     ensures { IfOk result (λ text_of. text_of.items ≡ text segments.now) }
 {

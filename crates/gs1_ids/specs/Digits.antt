@@ -28,7 +28,7 @@ pub record IsKey (n : ℕ) (xs : List ℕ) : Type 0 where
   pub ascii : All IsAsciiDigit xs
   pub checked : digit_value (slice_index xs (n - 1)) ≡ check (take (n - 1) xs)
 
--- the same as a test
+-- as a test
 abbrev pub is_key : ℕ → List ℕ → Bool
 is_key n xs = length xs == n && (list_all is_ascii_digit xs
     && digit_value (slice_index xs (n - 1)) == check (take (n - 1) xs))

@@ -6,7 +6,7 @@ use Rattle.gs1_ids.specs.Digits.{IsKey, is_key}
 abbrev pub IsGln : List ℕ → Type 0
 IsGln xs = IsKey 13 xs
 
--- the same as a test
+-- as a test
 abbrev pub is_gln : List ℕ → Bool
 is_gln = is_key 13
 

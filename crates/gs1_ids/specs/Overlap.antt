@@ -5,7 +5,7 @@ use Rattle.std.specs.List.{list_any}
 use Rattle.gs1_ids.specs.Prefix.{Begins, overlap}
 use Rattle.gs1_ids.specs.Sscc.{under_some}
 
--- what stands at two places of a list passes a test together; past its end stands d
+-- what is at two places of a list passes a test together; past its end it is d
 pub record PairAt {X : Type 0} (test : X → X → Bool) (d : X) (xs : List X) (i j : ℕ) : Type 0 where
   pub before : i < j
   pub within : j < length xs
@@ -59,7 +59,7 @@ PrefixFree suppliers = AllPairs AreApart suppliers
 abbrev pub PrefixesOfOneOverlap : Type 0
 PrefixesOfOneOverlap = (p q xs : List ℕ) → Begins p xs → Begins q xs → IsTrue (overlap p q)
 
--- where the suppliers' prefixes are free of one another, an SSCC is under those of one supplier at most
+-- if the suppliers' prefixes are free of one another, an SSCC is under those of one supplier at most
 abbrev pub SsccHasOneSupplier : Type 0
 SsccHasOneSupplier = (suppliers : List (List (List ℕ))) (sscc : List ℕ) (i j : ℕ) → PrefixFree suppliers →
     i < length suppliers → IsTrue (under_some sscc (slice_index_or suppliers i [])) →

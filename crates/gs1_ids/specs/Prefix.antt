@@ -10,7 +10,7 @@ pub record IsPrefix (xs : List ℕ) : Type 0 where
   pub most : length xs ≤ 12
   pub ascii : All IsAsciiDigit xs
 
--- the same as a test
+-- as a test
 abbrev pub is_prefix : List ℕ → Bool
 is_prefix xs = nat_le 4 (length xs) && (nat_le (length xs) 12 && list_all is_ascii_digit xs)
 
@@ -22,7 +22,7 @@ prefix_of text = if is_prefix text then Some text else None
 abbrev pub Begins : List ℕ → List ℕ → Type 0
 Begins prefix xs = (rest : List ℕ) × (xs ≡ prefix ++ rest)
 
--- the same as a test
+-- as a test
 abbrev pub begins : List ℕ → List ℕ → Bool
 begins prefix xs = starts_with nat_eq xs prefix
 

@@ -1,4 +1,4 @@
-//! Digits and the check digit.
+//! Checks digits, and computes the check digit.
 ghost use Rattle.std.specs.Prelude.{◌≡◌, ◌<◌, ◌≤◌, ◌+◌, ◌*◌, ◌%◌, ◌↔◌, All, length, IsTrue, IfSome};
 ghost use Rattle.std.specs.Char.{IsAsciiDigit};
 ghost use Rattle.std.specs.Fmt.{WritesOnOk, WritesStyledOnOk, formatter_spec, styled_text};
@@ -7,12 +7,11 @@ ghost use Rattle.gs1_ids.specs.Digits.{check, weighted_sum, IsKey};
 
 use std::{fmt, str};
 
-// As many digits as the longest key has. The number is even, so the weights begin anew in each part of
-// that many.
+// As many digits as the longest key has. The number is even, so the weights start again in each part of that length.
 const PART: usize = 18;
 
-// Whether all bytes are ASCII digits. It does not stop at a byte that is none, so that many bytes are
-// compared at once.
+// Whether all bytes are ASCII digits. It does not stop at a byte that is not one, so that many bytes are compared at
+// once.
 fn are_digits(text: &[u8]) -> bool
     ensures { IsTrue result ↔ All IsAsciiDigit text.now }
 {
@@ -23,7 +22,7 @@ fn are_digits(text: &[u8]) -> bool
     all
 }
 
-// The weighted sum of a part's digits, of which the last weighs three.
+// Returns the weighted sum of a part's digits, of which the last weighs three.
 fn weighted_sum(digits: &[u8]) -> u32
     requires digits { All IsAsciiDigit digits.now }
     requires most { length digits.now ≤ PART }
@@ -39,9 +38,9 @@ fn weighted_sum(digits: &[u8]) -> u32
     3 * u32::from(threes) + u32::from(ones)
 }
 
-/// The check digit, a number from 0 to 9, of the digits that stand before it: what brings their
-/// weighted sum to a multiple of ten (GS1 General Specifications, section 7.9.1). `None` for no
-/// digits, and where a byte is no ASCII digit.
+/// Returns the check digit, a number from 0 to 9, of the digits that come before it: what brings their weighted sum to
+/// a multiple of ten (GS1 General Specifications, section 7.9.1). `None` for no digits, or if a byte is not an ASCII
+/// digit.
 pub fn check_digit(digits: &[u8]) -> Option<u8>
     ensures value { SomeIff result ((0 < length digits.now) × All IsAsciiDigit digits.now) (check digits.now) }
     ensures tens { IfSome result (λ d. (d < 10) × ((weighted_sum digits.now + d) % 10 ≡ 0)) }
@@ -68,7 +67,7 @@ fn ends_in_check_digit(key: &[u8]) -> bool
     are_digits(key) && (weighted_sum(rest) + u32::from(last - b'0')) % 10 == 0
 }
 
-// The digits of `text`, if it is a key of `N` digits.
+// Returns the digits of `text`, if it is a key of `N` digits.
 pub(crate) fn key_of<const N: usize>(text: &[u8]) -> Option<[u8; N]>
     requires least { 1 < N }
     requires most { N ≤ PART }

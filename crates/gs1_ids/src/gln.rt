@@ -1,4 +1,4 @@
-//! Global Location Numbers.
+//! Defines Global Location Numbers (GLN).
 ghost use Rattle.std.specs.Prelude.{◌≡◌, ℕ, List, Some};
 ghost use Rattle.std.specs.Fmt.{styled_text};
 ghost use Rattle.std.specs.Option.{SomeIff};
@@ -25,7 +25,7 @@ impl Model for Gln {
 }
 
 impl Gln {
-    /// The GLN that `text` writes in ASCII digits; `None` where it is no GLN.
+    /// Returns the GLN that `text` writes in ASCII digits, or `None` if it is not a GLN.
     pub fn parse(text: &[u8]) -> Option<Self>
         ensures exact { SomeIff result (IsGln text.now) text.now }
         ensures value { result ≡ gln_of text.now }
@@ -34,7 +34,7 @@ impl Gln {
         Some(Gln { digits })
     }
 
-    /// The thirteen ASCII digits.
+    /// Returns the thirteen ASCII digits.
     pub fn digits(&self) -> &[u8; 13]
         ensures value { result.now ≡ self.now }
         ensures valid { IsGln self.now }

@@ -1,4 +1,4 @@
-//! Global Trade Item Numbers.
+//! Defines Global Trade Item Numbers (GTIN).
 ghost use Rattle.std.specs.Prelude.{◌≡◌, ◌<◌, ◌≤◌, ℕ, List, Some, length};
 ghost use Rattle.std.specs.Fmt.{styled_text};
 ghost use Rattle.std.specs.Option.{SomeIff};
@@ -26,7 +26,7 @@ impl Model for Gtin {
     ghost inverse = { λ xs. record { digits = xs } };
 }
 
-// The digits in a field of fourteen, after zeros.
+// Returns the digits in a field of fourteen, after zeros.
 fn in_fourteen(text: &[u8]) -> [u8; 14]
     requires { length text.now ≤ 14 }
     ensures { result ≡ in_fourteen text.now }
@@ -36,7 +36,7 @@ fn in_fourteen(text: &[u8]) -> [u8; 14]
     digits
 }
 
-// The digits of `text` in a field of fourteen, if it is a key of `N` digits.
+// Returns the digits of `text` in a field of fourteen, if it is a key of `N` digits.
 fn filled<const N: usize>(text: &[u8]) -> Option<[u8; 14]>
     requires least { 1 < N }
     requires most { N ≤ 14 }
@@ -46,8 +46,8 @@ fn filled<const N: usize>(text: &[u8]) -> Option<[u8; 14]>
     Some(in_fourteen(&digits))
 }
 
-// The digits of `text` in a field of fourteen, if it is a key of 8, 12, 13 or 14 digits. Each length is
-// a call of its own, so that the compiler knows how many digits it sums.
+// Returns the digits of `text` in a field of fourteen, if it is a key of 8, 12, 13 or 14 digits. Each length is a call
+// of its own, so that the compiler knows how many digits it sums.
 fn filled_gtin(text: &[u8]) -> Option<[u8; 14]>
     ensures { SomeIff result (IsGtin text.now) (in_fourteen text.now) }
 {
@@ -61,7 +61,7 @@ fn filled_gtin(text: &[u8]) -> Option<[u8; 14]>
 }
 
 impl Gtin {
-    /// The GTIN that `text` writes in 8, 12, 13 or 14 ASCII digits; `None` where it is no GTIN.
+    /// Returns the GTIN that `text` writes in 8, 12, 13 or 14 ASCII digits, or `None` if it is not a GTIN.
     pub fn parse(text: &[u8]) -> Option<Self>
         ensures exact { SomeIff result (IsGtin text.now) (in_fourteen text.now) }
         ensures value { result ≡ gtin_of text.now }
@@ -70,7 +70,7 @@ impl Gtin {
         Some(Gtin { digits })
     }
 
-    /// The fourteen ASCII digits.
+    /// Returns the fourteen ASCII digits.
     pub fn digits(&self) -> &[u8; 14]
         ensures value { result.now ≡ self.now }
         ensures valid { IsKey 14 self.now }

@@ -1,4 +1,4 @@
-//! GS1 identification keys: GLN, GTIN and SSCC with their check digit, and company prefixes.
+//! Defines GS1 identification keys: GLN, GTIN and SSCC with their check digit, and company prefixes.
 //!
 //! Each type holds its ASCII digits, and contracts see a value as the list of them. A value comes
 //! from `parse` alone, so its digits are always valid. Nothing here allocates.

@@ -1,4 +1,4 @@
-//! Prefixes that overlap.
+//! Finds prefixes that overlap.
 ghost use Rattle.std.specs.Prelude.{◌≡◌, ◌↔◌, false, [], ◌∷◌, length, map, position, IsNone, IfSome, IsTrue};
 ghost use Rattle.std.specs.List.{list_any, AllAdjacentBelow};
 ghost use Rattle.std.specs.List.Sorted.{IsPermutation};
@@ -9,17 +9,16 @@ ghost use Rattle.gs1_ids.specs.Prefix.{overlap};
 
 use crate::prefix::Prefix;
 
-// The place of the first of `others` that `prefix` overlaps.
+// Returns the place of the first of `others` that `prefix` overlaps.
 fn overlapped(prefix: &Prefix, others: &[Prefix]) -> Option<usize>
     ensures { result ≡ position (overlap prefix.now) others.now }
 {
     others.iter().position(|other| prefix.overlaps(other))
 }
 
-/// The first two places, from 0, whose prefixes overlap: where one begins the other, as equal ones
-/// do. The least first place, and with it the least second one; `None` where all prefixes are free
-/// of one another. It compares each prefix with each later one, so its cost grows with the square of
-/// their number.
+/// Returns the first two places, from 0, whose prefixes overlap: where one begins the other, as equal ones do. The
+/// least first place, and with it the least second one; `None` if all prefixes are free of one another. It compares
+/// each prefix with each later one, so its cost grows with the square of their number.
 pub fn first_overlap(prefixes: &[Prefix]) -> Option<(usize, usize)>
     ensures value { result ≡ first_overlap_of prefixes.now }
     ensures least { IfSome result (λ places. IsFirstOverlap prefixes.now places.0 places.1) }
@@ -45,8 +44,8 @@ fn are_free_of_the_next(prefixes: &[Prefix]) -> bool
     true
 }
 
-/// Whether no two of these prefixes overlap. It puts them in the order of their bytes, in which two neighbours overlap where
-/// any two do, so its cost grows little faster than their number.
+/// Whether no two of these prefixes overlap. It puts them in the order of their bytes, in which two neighbours overlap
+/// if any two do, so its cost grows little faster than their number.
 pub fn none_overlap(prefixes: &mut [Prefix]) -> bool
     ensures value { IsTrue result ↔ NoneOverlap prefixes.old }
     ensures same { IsPermutation prefixes.old prefixes.new }
@@ -82,8 +81,7 @@ pub fn prefixes_of_one_overlap()
     ensures { PrefixesOfOneOverlap }
 {}
 
-/// Where the prefixes of suppliers are free of one another, an SSCC is under those of one supplier at
-/// most.
+/// If the prefixes of suppliers are free of one another, an SSCC is under those of one supplier at most.
 pub fn sscc_has_one_supplier()
     ensures { SsccHasOneSupplier }
 {}

@@ -1,4 +1,4 @@
-//! Company prefixes.
+//! Defines company prefixes.
 ghost use Rattle.std.specs.Prelude.{◌≡◌, ◌↔◌, ◌-◌, ◌++◌, ◌≤◌, ℕ, List, Some, IsTrue, length, replicate, refl};
 ghost use Rattle.std.specs.Cmp.{partial_equiv_from_equiv};
 ghost use Rattle.std.specs.Cmp.Lexicographic.{slice_cmp, nat_list_eq_equiv, nat_list_cmp_total, texts_po, texts_ties, bytes_decides};
@@ -50,7 +50,7 @@ fn is_prefix(text: &[u8]) -> bool
     (4..=12).contains(&text.len()) && text.iter().all(|byte| byte.is_ascii_digit())
 }
 
-// The digits in a field, before zero bytes.
+// Returns the digits in a field, before zero bytes.
 fn in_field(text: &[u8]) -> [u8; 16]
     requires { length text.now ≤ 16 }
     ensures { result ≡ text.now ++ replicate (16 - length text.now) 0 }
@@ -61,7 +61,7 @@ fn in_field(text: &[u8]) -> [u8; 16]
 }
 
 impl Prefix {
-    /// The prefix that `text` writes in 4 to 12 ASCII digits; `None` where it is no prefix.
+    /// Returns the prefix that `text` writes in 4 to 12 ASCII digits, or `None` if it is not a prefix.
     pub fn parse(text: &[u8]) -> Option<Self>
         ensures exact { SomeIff result (IsPrefix text.now) text.now }
         ensures value { result ≡ prefix_of text.now }
@@ -75,7 +75,7 @@ impl Prefix {
         })
     }
 
-    /// The ASCII digits, four to twelve of them.
+    /// Returns the ASCII digits, four to twelve of them.
     pub fn digits(&self) -> &[u8]
         ensures value { result.now ≡ self.now }
         ensures valid { IsPrefix self.now }

@@ -1,4 +1,4 @@
-//! Serial Shipping Container Codes.
+//! Defines Serial Shipping Container Codes (SSCC).
 ghost use Rattle.std.specs.Prelude.{◌≡◌, ◌↔◌, ℕ, List, Some, IsTrue, drop};
 ghost use Rattle.std.specs.Fmt.{styled_text};
 ghost use Rattle.std.specs.Option.{SomeIff};
@@ -28,7 +28,7 @@ impl Model for Sscc {
 }
 
 impl Sscc {
-    /// The SSCC that `text` writes in ASCII digits; `None` where it is no SSCC.
+    /// Returns the SSCC that `text` writes in ASCII digits, or `None` if it is not an SSCC.
     pub fn parse(text: &[u8]) -> Option<Self>
         ensures exact { SomeIff result (IsSscc text.now) text.now }
         ensures value { result ≡ sscc_of text.now }
@@ -37,7 +37,7 @@ impl Sscc {
         Some(Sscc { digits })
     }
 
-    /// The eighteen ASCII digits.
+    /// Returns the eighteen ASCII digits.
     pub fn digits(&self) -> &[u8; 18]
         ensures value { result.now ≡ self.now }
         ensures valid { IsSscc self.now }

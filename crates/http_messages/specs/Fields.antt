@@ -5,7 +5,7 @@ use Rattle.std.specs.Char.{to_ascii_lowercase}
 use Rattle.http_messages.specs.declared.fields.Values.{Values}
 use Rattle.http_messages.specs.declared.fields.Values.TheVariants.{Absent, One, Several}
 
--- the same but for the case of ASCII letters
+-- equal but for the case of ASCII letters
 abbrev pub same_letters : List ℕ → List ℕ → Bool
 same_letters name other = bytes_eq (map to_ascii_lowercase name) (map to_ascii_lowercase other)
 

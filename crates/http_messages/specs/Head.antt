@@ -1,6 +1,6 @@
--- The head of a request: what the grammar of HTTP/1.x (RFC 9112, sections 2 to 5) says stands at the front of bytes,
--- within two limits. The grammar is that of the kit's `httparse`: lines end with CR LF or LF alone, empty lines may
--- stand before the request line (both section 2.2), and the version is HTTP/1.0 or HTTP/1.1 (section 2.3).
+-- The head of a request: what bytes begin with by the grammar of HTTP/1.x (RFC 9112, sections 2 to 5), within two
+-- limits. The grammar is that of the kit's `httparse`: lines end with CR LF or LF alone, empty lines may come before
+-- the request line (both section 2.2), and the version is HTTP/1.0 or HTTP/1.1 (section 2.3).
 use Rattle.std.specs.Prelude.{◌≡◌, ℕ, ◌≤◌, List, ◌++◌, length, take, drop, map, Option, Some, None, IsUtf8, ⊤}
 use Rattle.httparse.specs.Grammar.{RequestHead, ReadsRequest, print_request}
 use Rattle.httparse.specs.Spans.{IsRequestWithin, name_and_value, span_bytes, header_bytes}
@@ -15,7 +15,7 @@ longest_head = 8192
 abbrev pub most_fields : ℕ
 most_fields = 32
 
--- what a head says: its method, its target, the names and values of its fields in their order, and the bytes behind it
+-- what a head says: its method, its target, the names and values of its fields in their order, and the bytes after it
 pub record Heading : Type 0 where
   pub method : List ℕ
   pub target : List ℕ
@@ -37,13 +37,13 @@ heading_of head rest = record {
   rest = rest;
 }
 
--- what the head at the front of these bytes says; none where it is wrong, cut, too long, or has too many fields
+-- what the head at the front of these bytes says, or none if it is wrong, cut, too long, or has too many fields
 abbrev pub HeadIs : List ℕ → Option Heading → Type 0
 HeadIs bytes None = (head : RequestHead) (rest : List ℕ) → ¬ (Stands bytes head rest)
 HeadIs bytes (Some heading) =
     (head : RequestHead) × Stands bytes head heading.rest × (heading ≡ heading_of head heading.rest)
 
--- the same head with more bytes behind it
+-- a head with more bytes after it
 abbrev pub before : List ℕ → Heading → Heading
 before more heading = record heading { rest = heading.rest ++ more }
 

@@ -1,4 +1,4 @@
-//! The body of a request.
+//! Reads the body of a request.
 
 ghost use Rattle.std.specs.Prelude.{◌≡◌, ◌≢◌, ◌≤◌, ◌-◌, ◌++◌, true, length, take, Err, IfOk, IfSome};
 ghost use Rattle.edi_base.specs.Source.{TakesAtMost};
@@ -8,7 +8,7 @@ use crate::more::read_more;
 use edi_base::{Items, ReadFault, Source};
 use std::alloc::{AllocError, Global};
 
-// Reads behind the first `filled` bytes until there is no room. Answers where what was read ends, which is before the
+// Reads after the first `filled` bytes until there is no room. Returns where what was read ends, which is before the
 // end of the room only at the end of the source.
 fn fill<R: Source>(source: &mut R, bytes: &mut [u8], filled: usize) -> Result<usize, ReadFault>
     requires { filled ≤ length bytes.old }
@@ -34,7 +34,7 @@ fn fill<R: Source>(source: &mut R, bytes: &mut [u8], filled: usize) -> Result<us
     Ok(end)
 }
 
-// A vector of so many bytes that begins with the front; those behind it are not yet read.
+// Makes a vector of this many bytes that begins with the front; those after it are not yet read.
 fn begun(alloc: Global, front: &[u8], size: usize) -> Result<Vec<u8>, AllocError>
     requires { length front.now ≤ size }
     ensures len { IfOk result (λ bytes. length bytes.items ≡ size) }
@@ -47,8 +47,8 @@ fn begun(alloc: Global, front: &[u8], size: usize) -> Result<Vec<u8>, AllocError
 }
 
 /// Reads the body of `size` bytes whose front was read with the head, into one vector (RFC 9112, section 6.2). `None`
-/// where the source ended before; then all that it had was read. Nothing is read behind the body, and nothing at all
-/// where the front has all of it. `ReadFault::Read` where the source answered an error, and at no other time.
+/// if the source ends before; then all that it had was read. Nothing is read after the body, and nothing at all if the
+/// front has all of it. `ReadFault::Read` only if the source failed.
 pub fn read_body<R: Source>(
     alloc: Global,
     source: &mut R,

@@ -1,4 +1,4 @@
-//! Fields by their names.
+//! Finds fields by their names.
 
 ghost use Rattle.std.specs.Prelude.{◌≡◌, length, map, All};
 ghost use Rattle.http_messages.specs.Fields.{AreValues, values_of, same_letters};
@@ -9,7 +9,7 @@ use httparse::spans::HeaderSpan;
 /// The values of the fields of one name, without the blanks and tabs around them (RFC 9112, section 5.1).
 #[derive(Clone, Copy, Debug)]
 pub enum Values<'h> {
-    /// There is no such field.
+    /// The head has no such field.
     Absent,
     /// There is one, with this value, which may be empty.
     One(&'h [u8]),
@@ -24,7 +24,7 @@ fn is_named(name: &[u8], other: &[u8]) -> bool
     name.eq_ignore_ascii_case(other)
 }
 
-// The values of the fields of a name that spans of some bytes show.
+// Returns the values of the fields of a name that spans of some bytes show.
 pub(crate) fn values_in<'h>(bytes: &'h [u8], fields: &[HeaderSpan], name: &[u8]) -> Values<'h>
     requires { All (IsHeaderWithin (length bytes.now)) fields.now }
     ensures { AreValues result (values_of name.now (map (header_bytes bytes.now) fields.now)) }

@@ -1,4 +1,4 @@
-//! The head of a request.
+//! Reads the head of a request.
 
 ghost use Rattle.std.specs.Prelude.{◌≡◌, true, IfOk, OnOk, OnErr};
 ghost use Rattle.http_messages.specs.Head.{Heading, Finds, longest_head};
@@ -22,7 +22,7 @@ const FIELDS: usize = 32;
 #[derive(Clone, Copy, Debug, PartialEq, Eq)]
 pub struct HeadFault;
 
-/// The head of a request, with the bytes that were read behind it. Contracts see it as a `Heading`. It holds its own
+/// The head of a request, with the bytes that were read after it. Contracts see it as a `Heading`. It holds its own
 /// bytes, and takes no memory of an allocator.
 #[derive(Drop)]
 pub struct Head {
@@ -44,21 +44,21 @@ impl Model for Head {
 }
 
 impl Head {
-    /// The method, as it was sent: its letters have their case (RFC 9110, section 9.1).
+    /// Returns the method, as it was sent: its letters have their case (RFC 9110, section 9.1).
     pub fn method(&self) -> &[u8]
         ensures { result.now ≡ self.now.method }
     {
         self.spans.method.of(&self.bytes[..self.filled])
     }
 
-    /// The target, with its query where it has one (RFC 9112, section 3.2).
+    /// Returns the target, with its query if it has one (RFC 9112, section 3.2).
     pub fn target(&self) -> &str
         ensures { result.now ≡ self.now.target }
     {
         str::from_utf8(self.spans.path.of(&self.bytes[..self.filled])).unwrap()
     }
 
-    /// The bytes that were read behind the head: a front of the body, where there is one.
+    /// Returns the bytes that were read after the head: a prefix of the body, if there is one.
     pub fn rest(&self) -> &[u8]
         ensures { result.now ≡ self.now.rest }
     {
@@ -66,7 +66,7 @@ impl Head {
         &read[self.spans.len..]
     }
 
-    /// The values of the fields of a name, whose letters may be of either case (RFC 9110, section 5.1).
+    /// Returns the values of the fields of a name, whose letters may be of either case (RFC 9110, section 5.1).
     pub fn values(&self, name: &[u8]) -> Values<'_>
         ensures { AreValues result (values_of name.now self.now.fields) }
     {
@@ -78,9 +78,9 @@ impl Head {
     }
 }
 
-/// Reads the head of a request (RFC 9112, sections 2 to 5, as `httparse` accepts them: lines may end with LF alone,
-/// the version may be HTTP/1.0, and empty lines may stand before it). `None` where it is wrong, cut, longer than 8,192
-/// bytes, or has more than 32 fields. At most 8,192 bytes are read; those behind the head are its `rest`.
+/// Reads the head of a request (RFC 9112, sections 2 to 5, as `httparse` accepts them: lines may end with LF alone, the
+/// version may be HTTP/1.0, and empty lines may come before it). `None` if it is wrong, cut, longer than 8,192 bytes,
+/// or has more than 32 fields. At most 8,192 bytes are read; those after the head are its `rest`.
 pub fn read_head<R: Source>(source: &mut R) -> Result<Option<Head>, HeadFault>
     ensures head { IfOk result (Finds (R.remaining source.old) (R.remaining source.new)) }
 

@@ -1,5 +1,5 @@
-//! The messages of HTTP/1.1 (RFC 9112): the head of a request and the body behind it, read from a source, and a response,
-//! written to a sink.
+//! Reads and writes the messages of HTTP/1.1 (RFC 9112): the head of a request and its body, from a source, and a
+//! response, to a sink.
 #![tactic(auto)]
 
 mod body;

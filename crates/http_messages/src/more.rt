@@ -1,4 +1,4 @@
-//! One read behind bytes that are there.
+//! Reads once, after bytes that are there.
 
 ghost use Rattle.std.specs.Prelude.{◌≡◌, ◌≤◌, ◌+◌, ◌-◌, ◌||◌, IfOk, OnErr, is_err, length, take};
 ghost use Rattle.edi_base.specs.Source.{TakesPiece, TakesAtMost};
@@ -6,8 +6,8 @@ ghost use Rattle.edi_base.specs.Source.{TakesPiece, TakesAtMost};
 use edi_base::Source;
 use std::io;
 
-/// Reads once, behind the first `filled` bytes. Answers how many bytes came: none only at the end of the source, or
-/// where there is no room.
+/// Reads once, after the first `filled` bytes. Returns how many bytes came: none only at the end of the source, or if
+/// there is no room.
 pub(crate) fn read_more<R: Source>(
     source: &mut R,
     bytes: &mut [u8],

@@ -1,4 +1,4 @@
-//! The text of a response.
+//! Writes the text of a response.
 
 ghost use Rattle.std.specs.Prelude.{◌≡◌};
 ghost use Rattle.std.specs.List.{flat_map};
@@ -8,7 +8,7 @@ ghost use Rattle.http_messages.specs.Response.{http_text, head_text, phrase_of, 
 use edi_base::{Buffer, Sink, WriteFault};
 use http::StatusCode;
 
-// What stands between the status, its phrase, the length and the body.
+// What comes between the status, its phrase, the length and the body.
 const VERSION: &[u8] = b"HTTP/1.1 ";
 
 const BLANK: &[u8] = b" ";
@@ -17,7 +17,7 @@ const TYPE_AND_LENGTH: &[u8] = b"\r\nContent-Type: application/octet-stream\r\nC
 
 const END: &[u8] = b"\r\nConnection: close\r\n\r\n";
 
-// Puts pieces one behind another.
+// Puts pieces one after another.
 fn put_all<W: Sink>(out: &mut W, waiting: &mut Buffer, pieces: &[&[u8]]) -> Result<(), WriteFault>
     ensures bytes { Puts result (W.contents out.old) (W.contents out.new) waiting.old waiting.new
         (flat_map (λ piece. piece.now) pieces.now) }
@@ -29,7 +29,7 @@ fn put_all<W: Sink>(out: &mut W, waiting: &mut Buffer, pieces: &[&[u8]]) -> Resu
     Ok(())
 }
 
-// The phrase of a status, where it has one.
+// Returns the phrase of a status, if it has one.
 fn phrase(status: StatusCode) -> &'static str
     ensures { result.now ≡ phrase_of status }
 {
@@ -39,7 +39,7 @@ fn phrase(status: StatusCode) -> &'static str
     }
 }
 
-// Puts the head of a response with a body of so many bytes.
+// Puts the head of a response with a body of this many bytes.
 fn put_head<W: Sink>(
     out: &mut W,
     waiting: &mut Buffer,
@@ -59,9 +59,9 @@ fn put_head<W: Sink>(
     waiting.put(out, END)
 }
 
-/// Writes a response (RFC 9112, sections 2.1 and 4): `HTTP/1.1` with the status and its phrase, where it has one; the
-/// fields `Content-Type: application/octet-stream`, `Content-Length` with the bytes of the body, and
-/// `Connection: close`; an empty line; and the body. At `WriteFault` a front of that was written. Takes no memory.
+/// Writes a response (RFC 9112, sections 2.1 and 4): `HTTP/1.1` with the status and its phrase, if it has one; the
+/// fields `Content-Type: application/octet-stream`, `Content-Length` with the bytes of the body, and `Connection:
+/// close`; an empty line; and the body. At `WriteFault` a prefix of that was written. Takes no memory.
 pub fn write_response<W: Sink>(
     out: &mut W,
     status: StatusCode,

@@ -1,4 +1,4 @@
--- What `check` tells of the text of a register, and `init` of a founding.
+-- What `check` prints of the text of a register, and `init` of a founding.
 use Rattle.std.specs.Prelude.{ℕ, ◌≤◌, List, ◌++◌, length, codes, IsUtf8, Result, Ok, Err}
 use Rattle.std.specs.Fmt.{decimal}
 use Rattle.edi_base.specs.declared.source.ReadFault.{ReadFault}
@@ -38,7 +38,7 @@ abbrev pub told_read_fault : ReadFault → TextFault
 told_read_fault read.Read = File
 told_read_fault read.Memory = Memory
 
--- what is printed where a text was not read
+-- what is printed if a text was not read
 abbrev pub text_fault_line : TextFault → List ℕ
 text_fault_line File = codes "file"
 text_fault_line Memory = codes "memory"

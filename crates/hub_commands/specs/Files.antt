@@ -9,7 +9,7 @@ use Rattle.edi_envelope.specs.declared.interchange.Interchange.{Interchange}
 use Rattle.hub_commands.specs.declared.files.NextFile.{NextFile}
 use Rattle.hub_commands.specs.declared.files.NextFile.TheVariants.{Named, Unnamed}
 
--- there is a source, and where it is known what it will give, it is these bytes
+-- there is a source, and if it is known what it will give, it is these bytes
 abbrev pub Gave : {B : Type 0} → (B → Option (List ℕ)) → Result B ReadFault → List ℕ → Type 0
 Gave {B} remaining source bytes = (from : B) × (source ≡ Ok from) × IfSome (remaining from) (λ known. bytes ≡ known)
 
@@ -45,7 +45,7 @@ abbrev pub IsUnread : {B : Type 0} → (B → Type 0) → NextFile B → List �
 IsUnread broken (Named file) name = (string_bytes file.name ≡ name) × FaultComesOf broken file.source Read
 IsUnread broken Unnamed name = ⊥
 
--- a file is given as it is; its source is not where memory gives out for it
+-- a file is given as it is; its source is not if memory runs out for it
 abbrev pub GivenAs : {B : Type 0} → NextFile B → NextFile B → Type 0
 GivenAs (Named file) (Named given) =
     (string_bytes given.name ≡ string_bytes file.name)
@@ -54,8 +54,8 @@ GivenAs Unnamed Unnamed = ⊤
 GivenAs (Named file) Unnamed = ⊥
 GivenAs Unnamed (Named given) = ⊥
 
--- What is given of files that still come, where these are known: the first of them, or none at their end, and then none
--- come. Where memory gives out before a name is known, there is such a file, and it still comes.
+-- What is given of files that still come, if these are known: the first of them, or none at their end, and then none
+-- come. If memory runs out before a name is known, there is such a file, and it still comes.
 abbrev pub Gives : {B E : Type 0} → Option (List (NextFile B)) → Option (List (NextFile B))
     → Result (Option (NextFile B)) E → Type 0
 Gives {B} known rest (Ok (Some given)) =
@@ -66,7 +66,7 @@ Gives {B} known rest (Err fault) =
     (rest ≡ known)
     × IfSome known (λ files. (file : NextFile B) × (others : List (NextFile B)) × (files ≡ file ∷ others))
 
--- at most so many files still come, and fewer after each that is given
+-- at most this many files still come, and fewer after each that is given
 abbrev pub GoesDown : {B E : Type 0} → ℕ → ℕ → Result (Option (NextFile B)) E → Type 0
 GoesDown old new (Ok (Some given)) = new < old
 GoesDown old new (Ok None) = ⊤

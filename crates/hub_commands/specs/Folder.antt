@@ -9,7 +9,7 @@ use Rattle.hub_commands.specs.declared.files.NextFile.TheVariants.{Named, Unname
 abbrev pub Names : Type 0
 Names = List (String Global) × ℕ
 
--- a byte that is no control byte
+-- a byte that is not a control byte
 abbrev pub is_plain_byte : ℕ → Bool
 is_plain_byte b = nat_le 32 b && not (b == 127)
 
@@ -21,7 +21,7 @@ AreTold names = All (λ name. list_all is_plain_byte (string_bytes name) ≡ tru
 abbrev pub most_of : Names → ℕ
 most_of names = length names.0 + names.1
 
--- the next file has the first name, or, where there is none, one that cannot be printed; else there is no file
+-- the next file has the first name, or one that cannot be printed if there is none; otherwise there is no file
 abbrev pub GivesInOrder : {B E : Type 0} → Names → Names → Result (Option (NextFile B)) E → Type 0
 GivesInOrder old new (Ok (Some (Named file))) = (old.0 ≡ file.name ∷ new.0) × (new.1 ≡ old.1)
 GivesInOrder old new (Ok (Some Unnamed)) = (old.0 ≡ []) × (new.0 ≡ []) × (old.1 ≡ new.1 + 1)

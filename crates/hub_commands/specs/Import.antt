@@ -13,9 +13,9 @@ use Rattle.hub_commands.specs.Replies.{status_of}
 use Rattle.hub_commands.specs.declared.files.NextFile.{NextFile}
 use Rattle.hub_commands.specs.declared.files.NextFile.TheVariants as files
 
--- What comes of a file. Answered: it has this name and these bytes, which are those that its source was known to give,
--- where these are known, and this is the reply to their upload. Unread: it cannot be read. Unnamed: its name is no
--- UTF-8. NoMemory: memory gave out for its source, or before its name was known. Unprinted: its line could not be
+-- What becomes of a file. Answered: it has this name and these bytes, which are those that its source was known to
+-- give, if these are known, and this is the reply to their upload. Unread: it cannot be read. Unnamed: its name is not
+-- UTF-8. NoMemory: memory ran out for its source, or before its name was known. Unprinted: its line could not be
 -- written, and it was not uploaded.
 pub data Looked : Type 0 where
   Answered : List ℕ → List ℕ → Reply → Looked
@@ -49,8 +49,8 @@ WasGiven (NoMemory (Some name)) = ⊤
 WasGiven (NoMemory None) = ⊥
 WasGiven (Unprinted name) = ⊤
 
--- What still comes behind the last that was looked at: the rest of the files, and no others; and before these the last
--- itself, where memory gave out before its name was known.
+-- What still comes after the last that was looked at: the rest of the files, and no others; and before these the last
+-- itself, if memory ran out before its name was known.
 abbrev pub StillCome : {B : Type 0} → (B → Option (List ℕ)) → (B → Type 0) → List (NextFile B) → List Looked → Looked
     → List (NextFile B) → Option (List (NextFile B)) → Type 0
 StillCome remaining broken files earlier (Answered name bytes reply) rest left = left ≡ Some rest
@@ -77,7 +77,7 @@ Stops Unnamed = ⊥
 Stops (NoMemory name) = ⊤
 Stops (Unprinted name) = ⊥
 
--- what is asked of the hub, where an upload of some bytes is asked so
+-- what is asked of the hub, if an upload of some bytes is asked so
 abbrev pub upload_of : (List ℕ → Input) → Looked → List Input
 upload_of asked (Answered name bytes reply) = asked bytes ∷ []
 upload_of asked (Unread name) = []
@@ -96,7 +96,7 @@ reply_of (Unprinted name) = []
 abbrev pub file_line : List ℕ → List ℕ
 file_line name = codes "file " ++ (name ++ codes "\n")
 
--- in place of the reply, where there is nothing to upload
+-- in place of the reply, if there is nothing to upload
 abbrev pub unread_line : List ℕ
 unread_line = codes "fault\n"
 
@@ -127,7 +127,7 @@ file_status Unnamed = 3
 file_status (NoMemory name) = 3
 file_status (Unprinted name) = 3
 
--- the same of all that were looked at
+-- what all that were looked at have printed
 abbrev pub uploads : (List ℕ → Input) → List Looked → List Input
 uploads asked = flat_map (upload_of asked)
 
@@ -141,7 +141,7 @@ import_text = flat_map text_of
 abbrev pub greatest : List Looked → ℕ
 greatest looked = fold (λ status one. max status (file_status one)) 0 looked
 
--- some bytes were written, and then a front of a text, since a write failed
+-- some bytes were written, and then a prefix of a text, since a write failed
 pub record BrokenOff (old new : Option (List ℕ)) (after : Bool) (start text : List ℕ) : Type 0 where
   pub between : Option (List ℕ)
   pub written : Appends old between start
@@ -163,7 +163,7 @@ pub record Whole {B : Type 0} (NoneCome : Type 0) (old new : Option (List ℕ)) 
   pub written : Written old new failed after (import_text looked)
   pub status_is : status ≡ greatest looked
 
--- the import ended before, and these still come behind those that were looked at
+-- the import ended before, and these still come after those that were looked at
 pub record Early (Still : List Looked → Looked → Type 0) (old new : Option (List ℕ)) (failed after : Bool)
     (looked : List Looked) (status : ℕ) : Type 0 where
   pub earlier : List Looked

@@ -1,4 +1,4 @@
--- What `rekey` tells.
+-- What `rekey` prints.
 use Rattle.std.specs.Prelude.{ℕ, List, codes}
 use Rattle.hub_commands.specs.declared.key_change.KeyOutcome.{KeyOutcome}
 use Rattle.hub_commands.specs.declared.key_change.KeyOutcome.TheVariants.{Done, Unknown, NoKey}

@@ -11,7 +11,7 @@ use Rattle.hub_commands.specs.Output.{Written, Lost}
 use Rattle.hub_commands.specs.Replies.{status_of}
 use Rattle.hub_commands.specs.declared.files.NextFile.{NextFile}
 
--- what one file did to the hub: a step where it was uploaded, else nothing
+-- what one file did to the hub: a step if it was uploaded, else nothing
 abbrev pub Did : (List ℕ → Reply → Type 0) → Type 0 → Looked → Type 0
 Did Steps Stays (Answered name bytes reply) = Steps bytes reply
 Did Steps Stays (Unread name) = Stays
@@ -42,7 +42,7 @@ ReplyComes old new failed after reply (Ok status) =
 ReplyComes old new failed after reply (Err ended) =
     ((reply.outcome ≡ Stopped) × Written old new failed after reply.body) ⊎ Lost old new after reply.body
 
--- the status of a file that cannot be read, or the end of the import where memory gives out for its bytes
+-- the status of a file that cannot be read, or the end of the import if memory runs out for its bytes
 abbrev pub FaultComes : {E : Type 0} → Option (List ℕ) → Option (List ℕ) → Bool → Bool → ReadFault → Result ℕ E → Type 0
 FaultComes old new failed after Read (Ok status) = Written old new failed after unread_line × (status ≡ 3)
 FaultComes old new failed after Read (Err ended) = Lost old new after unread_line

@@ -4,7 +4,7 @@ use Rattle.hub_requests.specs.declared.reply.Outcome.{Outcome}
 use Rattle.hub_requests.specs.declared.reply.Outcome.TheVariants.{Done, Bad, Denied, Unknown, Stopped}
 use Rattle.hub_requests.specs.declared.reply.Reply.{Reply}
 
--- 0 where all was done and nothing refused, 3 where it was stopped, else 1
+-- 0 if all was done and nothing refused, 3 if it was stopped, else 1
 abbrev pub outcome_status : Outcome → Bool → ℕ
 outcome_status Done false = 0
 outcome_status Done true = 1

@@ -10,7 +10,7 @@ use Rattle.edi_relay.specs.Run.{read_limit}
 abbrev pub lines_shown : List ℕ → List ℕ
 lines_shown text = shown_lines (shown_of text)
 
--- the exit status of a text: 1 where anything is refused
+-- the exit status of a text: 1 if anything is refused
 abbrev pub status_of : List ℕ → ℕ
 status_of text = if is_refused (shown_of text) then 1 else 0
 
@@ -20,6 +20,6 @@ Shows known status old new =
     IfSome known (λ bytes. (status ≡ status_of (take read_limit bytes))
     × Appends old new (lines_shown (take read_limit bytes)))
 
--- a front of the lines of what was read was written
+-- a prefix of the lines of what was read was written
 abbrev pub ShowsFront : Option (List ℕ) → Option (List ℕ) → Option (List ℕ) → Type 0
 ShowsFront known old new = IfSome known (λ bytes. AppendsFront old new (lines_shown (take read_limit bytes)))

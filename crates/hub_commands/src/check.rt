@@ -1,4 +1,4 @@
-//! `edihub check`: what the text of a register is.
+//! Does what `edihub check` does: checks the text of a register.
 
 ghost use Rattle.std.specs.Prelude.{◌≡◌, ◌≢◌, ◌⊎◌, Ok, Err, true, codes, string_bytes, IfOk, IfSome};
 ghost use Rattle.std.specs.Io.KnownBytes.{Appends, Keeps};
@@ -20,7 +20,7 @@ use std::fmt;
 /// Why the text of a register was not read.
 #[derive(Clone, Copy, Debug)]
 pub enum TextFault {
-    /// The source failed, is longer than 1,048,576 bytes, or is no UTF-8.
+    /// The source failed, is longer than 1,048,576 bytes, or is not UTF-8.
     File,
     /// Out of memory.
     Memory,
@@ -56,8 +56,8 @@ impl From<ReadFault> for TextFault {
     }
 }
 
-/// The text of a register: all that a source holds, where that is UTF-8 of at most 1,048,576 bytes. At most one byte
-/// more is read.
+/// Returns the text of a register: all that a source holds, if that is UTF-8 of at most 1,048,576 bytes. At most one
+/// byte more is read.
 pub fn read_register_text<R: Source>(alloc: Global, input: &mut R) -> Result<String, TextFault>
     ensures taken { TakesAtMost (R.remaining input.old) (R.remaining input.new) read_limit }
     ensures text { IfOk result (λ text. IsRegisterText (string_bytes text)) }
@@ -77,7 +77,7 @@ pub fn read_register_text<R: Source>(alloc: Global, input: &mut R) -> Result<Str
     }
 }
 
-/// What is told of a register or of a founding: a line, and the exit status.
+/// What is printed of a register or of a founding: a line, with the exit status.
 #[derive(Debug, Drop)]
 pub struct Verdict {
     /// The line, with its line end.
@@ -122,7 +122,7 @@ impl Verdict {
     }
 }
 
-// What the text of a register is.
+// Returns what the text of a register is.
 fn verdict_of(alloc: Global, text: &str) -> Result<Verdict, MemoryFault>
     ensures line { IfOk result (λ verdict. string_bytes verdict.line ≡ verdict_line (register_of text.now)) }
     ensures status { IfOk result (λ verdict. verdict.status ≡ verdict_status (register_of text.now)) }
@@ -134,7 +134,7 @@ fn verdict_of(alloc: Global, text: &str) -> Result<Verdict, MemoryFault>
     }
 }
 
-/// Writes a verdict to `out`. Answers its exit status; or 3 where the write failed, with the line `file` on `err`.
+/// Writes a verdict to `out`. Returns its exit status; or 3 if the write failed, with the line `file` on `err`.
 pub fn print_verdict<W: Sink, E: Sink>(verdict: &Verdict, out: &mut W, err: &mut E) -> u8
     ensures told { ((result ≡ verdict.now.status)
         × (W.failed out.new ≡ W.failed out.old)
@@ -152,8 +152,8 @@ pub fn print_verdict<W: Sink, E: Sink>(verdict: &Verdict, out: &mut W, err: &mut
     FAILED
 }
 
-/// Checks the text of a register and writes one line to `out`: `ok N suppliers`, or `fault` and the fault. Answers the
-/// exit status: 0 for a register; 1 for a fault; 3 where the write failed, with the line `file` on `err`, or memory ran
+/// Checks the text of a register and writes one line to `out`: `ok N suppliers`, or `fault` and the fault. Returns the
+/// exit status: 0 for a register; 1 for a fault; 3 if the write failed, with the line `file` on `err`, or memory ran
 /// out, with the line `memory`.
 pub fn check_run<W: Sink, E: Sink>(alloc: Global, text: &str, out: &mut W, err: &mut E) -> u8
     ensures checked { result ≢ 3 →

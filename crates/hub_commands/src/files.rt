@@ -1,4 +1,4 @@
-//! Files that come one after another.
+//! Gives files one after another.
 use edi_base::{MemoryFault, ReadFault, Source};
 use std::alloc::Global;
 
@@ -16,7 +16,7 @@ pub struct NamedFile<B> {
 pub enum NextFile<B> {
     /// A file with its name.
     Named(NamedFile<B>),
-    /// A file whose name is no UTF-8.
+    /// A file whose name is not UTF-8.
     Unnamed,
 }
 
@@ -30,14 +30,14 @@ pub trait Files {
     /// What the bytes of a file are read from.
     type Bytes: Source + Drop;
 
-    // The files that still come, where they are known.
+    // The files that still come, if they are known.
     ghost remaining: { Self → Option (List (NextFile Self.Bytes)) } = { λ _. None };
 
     // How many still come at most.
     ghost most: { Self → ℕ };
 
-    /// The next file, if one still comes. Memory can give out while it is opened, which `NamedFile` says, or before its
-    /// name is known, and then nothing has changed.
+    /// Returns the next file, if one still comes. Memory can run out while it is opened, which `NamedFile` says, or
+    /// before its name is known, and then nothing has changed.
     fn next(&mut self, alloc: Global) -> Result<Option<NextFile<Self::Bytes>>, MemoryFault>
         ensures gives { Gives (remaining self.old) (remaining self.new) result }
         ensures goes_down { GoesDown (most self.old) (most self.new) result };

@@ -1,4 +1,4 @@
-//! The plain files of a folder.
+//! Lists the plain files of a folder.
 ghost use Rattle.std.specs.Prelude.{◌≡◌, ◌≢◌, ◌↔◌, false, IfOk, IsErr, IsOk, IsTrue, OnErr, IsSorted, string_cmp};
 ghost use Rattle.std.specs.Fs.{IsFile, file_type};
 ghost use Rattle.std.specs.List.{list_all};
@@ -41,7 +41,7 @@ impl<'a, R> Model for Folder<'a, R> {
     ghost view = { λ folder. (folder.names.in_order.items, folder.names.unnamed) };
 }
 
-// Why something was not read, where the system says this.
+// Why something was not read, if the system says this.
 fn fault_of_kind(kind: ErrorKind) -> ReadFault
     ensures memory { kind ≡ ErrorKind.OutOfMemory → result ≡ ReadFault.Memory }
     ensures other { kind ≢ ErrorKind.OutOfMemory → result ≡ ReadFault.Read }
@@ -65,8 +65,8 @@ fn is_told(name: &str) -> bool
     name.bytes().all(|byte| byte >= 0x20 && byte != 0x7f)
 }
 
-// Whether an entry of this kind is a plain file. One of which that cannot be read is taken for one, so that it is told as
-// a fault.
+// Whether an entry of this kind is a plain file. If its kind cannot be read it is taken for one, so that it is reported
+// as a fault.
 fn is_plain(kind: io::Result<FileType>) -> bool
     ensures known { IfOk kind (λ kind. IsTrue result ↔ IsFile kind) }
     ensures unknown { OnErr kind (IsTrue result) }
@@ -77,7 +77,7 @@ fn is_plain(kind: io::Result<FileType>) -> bool
     }
 }
 
-// Whether what stands under a name now, behind the listing, is a plain file; or why it is not read.
+// Whether what has this name now, after the listing, is a plain file; or why it is not read.
 fn still_plain(found: io::Result<Metadata>) -> Result<(), ReadFault>
     ensures known { IfOk found (λ found. IsOk result ↔ IsFile (file_type found)) }
     ensures unknown { OnErr found (IsErr result) }
@@ -90,7 +90,7 @@ fn still_plain(found: io::Result<Metadata>) -> Result<(), ReadFault>
     }
 }
 
-// The names of the plain files of a folder. Of an entry whose name is no UTF-8 nothing else is known.
+// Returns the names of the plain files of a folder. Nothing else is known of an entry whose name is not UTF-8.
 fn names_of<R: FileSystem + AllocGlobal + Clone + Drop>(system: &R, path: &str) -> io::Result<Names>
     ensures sorted { IfOk result (λ names. IsSorted string_cmp names.in_order.items) }
     ensures told { IfOk result (λ names. AreTold names.in_order.items) }
@@ -124,8 +124,8 @@ fn names_of<R: FileSystem + AllocGlobal + Clone + Drop>(system: &R, path: &str) 
 }
 
 impl<'a, R: FileSystem + AllocGlobal + Clone + Drop> Folder<'a, R> {
-    /// The folder at a path. Its plain files alone are taken, and not what lies in folders in it, nor links, pipes or
-    /// devices; but whatever has a name that is no UTF-8 is. Their names are read now, and are all in memory.
+    /// Opens the folder at a path. Only its plain files are taken, and not what is in folders in it, nor links, pipes
+    /// or devices; but anything is whose name is not UTF-8. Their names are read now, and are all in memory.
     pub fn open(system: &'a R, path: &str) -> Result<Self, ReadFault>
         ensures sorted { IfOk result (λ folder. IsSorted string_cmp folder.0) }
         ensures told { IfOk result (λ folder. AreTold folder.0) }

@@ -1,4 +1,4 @@
-//! An import of files.
+//! Imports files.
 ghost use Rattle.std.specs.Prelude.{◌≡◌, ◌≢◌, Err, IfOk, IfErr};
 ghost use Rattle.hub_core.specs.Steps.{SoundWith, Stepped, Ran, input_of};
 ghost use Rattle.hub_commands.specs.Files.{OpensSource, FaultComesOf, HasFailed};
@@ -61,7 +61,7 @@ fn print_fault<W: Sink>(fault: ReadFault, out: &mut W) -> Result<u8, Ended>
     }
 }
 
-// What was opened, unless a read had failed.
+// Returns what was opened, unless a read had failed.
 fn unless_unread(
     upload: Result<Interchange, OpenFault>,
 ) -> Result<Result<Interchange, OpenFault>, ReadFault>
@@ -92,7 +92,7 @@ fn opened_from<B: Source + Drop>(
     unless_unread(upload)
 }
 
-// Uploads a file, and prints what comes of it. Answers its exit status.
+// Uploads a file, and prints what comes of it. Returns its exit status.
 fn import_file<S: Store, B: Source + Drop, W: Sink>(
     alloc: Global,
     hub: &mut Hub<S>,
@@ -129,14 +129,14 @@ fn import_file<S: Store, B: Source + Drop, W: Sink>(
     }
 }
 
-/// Uploads files one after another, each in the name of whoever has this GLN and this key, and prints of each the line
-/// `file NAME` before it is read, and then the reply. A file is opened as it is read, one segment at a time, and no more
-/// than 1,048,577 of its bytes are. One that cannot be read has the line `fault` in place of the reply, and one whose
-/// name is no UTF-8 this line alone; the next file follows. A reply that is stopped ends the import, and so does want of
-/// memory, with the line `stopped`, and a failed write; the files behind the last still come then. What was accepted
-/// stays accepted.
+/// Uploads files one after another, each as the caller with this GLN and this key, and prints for each the line `file
+/// NAME` before it is read, and then the reply. A file is opened as it is read, one segment at a time, and no more than
+/// 1,048,577 of its bytes are. For one that cannot be read the line `fault` comes in place of the reply, and for one
+/// whose name is not UTF-8 this line alone; the next file follows. A reply that is stopped ends the import, and so
+/// does running out of memory, with the line `stopped`, or a failed write; the files after the last one then still come.
+/// What was accepted stays accepted.
 ///
-/// Answers the exit status, the greatest of all files: of a reply 0, 1 or 3, as `reply_run` has it; 3 for a file that
+/// Returns the exit status, the greatest of all files: of a reply 0, 1 or 3, as `reply_run` has it; 3 for a file that
 /// cannot be read or has no name, for want of memory, and for a failed write.
 pub fn import_run<S: Store, F: Files, W: Sink>(
     alloc: Global,

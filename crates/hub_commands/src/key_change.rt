@@ -1,4 +1,4 @@
-//! Tells what became of a key that was to be changed.
+//! Prints what became of a key that was to be changed.
 ghost use Rattle.std.specs.Prelude.{◌≡◌};
 ghost use Rattle.hub_commands.specs.KeyChange.{change_line, change_status};
 ghost use Rattle.hub_commands.specs.Output.{Prints};
@@ -10,7 +10,7 @@ use edi_base::exit::{DONE, FAILED, REFUSED};
 /// What became of a key that was to be changed.
 #[derive(Clone, Copy, Debug, PartialEq, Eq)]
 pub enum KeyOutcome {
-    /// It is changed.
+    /// The key is changed.
     Done,
     /// The hub has no such supplier.
     Unknown,
@@ -19,7 +19,7 @@ pub enum KeyOutcome {
 }
 
 impl KeyOutcome {
-    // The line that tells it.
+    // Returns the line that says so.
     fn line(self) -> &'static [u8]
         ensures { result.now ≡ change_line self }
     {
@@ -30,7 +30,7 @@ impl KeyOutcome {
         }
     }
 
-    // The exit status: 0 where it is changed, else 1.
+    // Returns the exit status: 0 if it is changed, else 1.
     fn status(self) -> u8
         ensures { result ≡ change_status self }
     {
@@ -41,8 +41,8 @@ impl KeyOutcome {
     }
 }
 
-/// Prints what became of a key that was to be changed: `ok`, `unknown` or `fault key`. Answers the exit status: 0 where it
-/// is changed; 3 where a write failed, and then a front of the line was written; else 1.
+/// Prints what became of a key that was to be changed: `ok`, `unknown` or `fault key`. Returns the exit status: 0 if it
+/// is changed; 3 if a write failed, and then a prefix of the line was written; or else 1.
 pub fn key_change_run<W: Sink>(change: KeyOutcome, out: &mut W) -> u8
     ensures { Prints (W.contents out.old) (W.contents out.new)
         (W.failed out.old) (W.failed out.new) (change_line change)

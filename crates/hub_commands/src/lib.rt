@@ -1,5 +1,5 @@
-//! What the commands of the program do: the check of a register, the lines of an interchange, an import of files, the key
-//! in a file, and the printing of one reply and of what became of a key.
+//! Does what the commands of the program do: checks a register, prints the lines of an interchange, imports files,
+//! reads the key in a file, and prints one reply and what became of a key.
 #![tactic(auto)]
 
 mod check;

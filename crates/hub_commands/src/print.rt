@@ -1,4 +1,4 @@
-//! Texts on their way to a sink.
+//! Prints texts to a sink.
 ghost use Rattle.std.specs.Prelude.{OnOk, OnErr};
 ghost use Rattle.hub_commands.specs.Import.{file_line};
 ghost use Rattle.hub_commands.specs.Output.{Written, Lost};

@@ -1,4 +1,4 @@
-//! One reply.
+//! Prints one reply.
 ghost use Rattle.std.specs.Prelude.{◌≡◌};
 ghost use Rattle.hub_commands.specs.Output.{Prints};
 ghost use Rattle.hub_commands.specs.Replies as spec;
@@ -8,7 +8,7 @@ use edi_base::Sink;
 use edi_base::exit::{DONE, FAILED, REFUSED};
 use hub_core::{Outcome, Reply};
 
-// The exit status of a reply.
+// Returns the exit status of a reply.
 fn status_of(reply: &Reply) -> u8
     ensures { result ≡ spec.status_of reply.now }
 {
@@ -19,8 +19,8 @@ fn status_of(reply: &Reply) -> u8
     }
 }
 
-/// Prints the body of a reply. Answers the exit status: 0 where it is done and nothing was refused; 3 where it was
-/// stopped, or a write failed, and then a front of the body was written; else 1.
+/// Prints the body of a reply. Returns the exit status: 0 if it is done and nothing was refused; 3 if it was stopped,
+/// or a write failed, and then a prefix of the body was written; or else 1.
 pub fn reply_run<W: Sink>(reply: &Reply, out: &mut W) -> u8
     ensures { Prints (W.contents out.old) (W.contents out.new)
         (W.failed out.old) (W.failed out.new) reply.now.body

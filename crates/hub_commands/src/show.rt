@@ -1,4 +1,4 @@
-//! A run of `show` between a reader and two writers.
+//! Runs `show` between a reader and two writers.
 
 ghost use Rattle.std.specs.Prelude.{◌≡◌, ◌≢◌, ◌⊎◌, true, take, codes, IfOk, IfSome};
 ghost use Rattle.std.specs.Io.KnownBytes.{Consumes, Keeps};
@@ -20,7 +20,7 @@ struct Report {
     status: u8,
 }
 
-// The lines and the exit status of a text.
+// Returns the lines and the exit status of a text.
 fn report_of(alloc: Global, text: &[u8]) -> Result<Report, MemoryFault>
     ensures lines { IfOk result (λ report. report.lines.items ≡ lines_shown text.now) }
     ensures status { IfOk result (λ report. report.status ≡ status_of text.now) }
@@ -31,9 +31,9 @@ fn report_of(alloc: Global, text: &[u8]) -> Result<Report, MemoryFault>
     Ok(Report { lines, status })
 }
 
-/// Reads an interchange, at most 1,048,577 bytes, and writes what it says to `out`, in lines. Answers the exit status: 0
-/// where nothing is refused; 1 where the text, the interchange or a message is refused, which the lines say; 3 where a
-/// read or write failed, with the line `file` on `err`, or memory ran out, with the line `memory`.
+/// Reads an interchange, at most 1,048,577 bytes, and writes what it says to `out`, in lines. Returns the exit status:
+/// 0 if nothing is refused; 1 if the text, the interchange or a message is refused, which the lines say; 3 if a read or
+/// write failed, with the line `file` on `err`, or memory ran out, with the line `memory`.
 pub fn show_run<R: Source, W: Sink, E: Sink>(
     alloc: Global,
     input: &mut R,
