@@ -2,6 +2,7 @@ use hub_app::{
     HubTask, HubWords, JoinByFile, KeyWord, RekeyWords, Words, WordsFault, file_key_refused,
     read_words,
 };
+use hub_commands::Request;
 use hub_parties::SupplierRow;
 use std::alloc::{AllocError, Global};
 use std::test::Fail;
@@ -203,20 +204,27 @@ fn join_by_file_told(alloc: Global, join: &JoinByFile<'_>) -> Result<String, All
     Ok(told)
 }
 
+fn request_told(alloc: Global, request: &Request) -> Result<String, AllocError> {
+    match request {
+        Request::Upload(_) => String::from_str(alloc, "upload"),
+        Request::Status => String::from_str(alloc, "status"),
+        Request::StatusOf(supplier) => format!(in alloc; "status of {supplier}"),
+        Request::MailAfter(number) => format!(in alloc; "after {number}"),
+        Request::MailItem(number) => format!(in alloc; "item {number}"),
+        Request::MailTaken(number) => format!(in alloc; "taken {number}"),
+        Request::Cancel(cancel) => format!(in alloc;
+            "cancel of {} line {} quantity {}",
+            cancel.supplier, cancel.line, cancel.quantity
+        ),
+        Request::Join(join) => join_told(alloc, join.row()),
+    }
+}
+
 // Writes the task of a hub.
 fn task_told(alloc: Global, task: &HubTask<'_>) -> Result<String, AllocError> {
     match task {
         HubTask::Import(folder) => format!(in alloc; "import {folder}"),
-        HubTask::Status(None) => String::from_str(alloc, "status"),
-        HubTask::Status(Some(supplier)) => format!(in alloc; "status of {supplier}"),
-        HubTask::MailAfter(number) => format!(in alloc; "after {number}"),
-        HubTask::MailItem(number) => format!(in alloc; "item {number}"),
-        HubTask::MailTaken(number) => format!(in alloc; "taken {number}"),
-        HubTask::Cancel(cancel) => format!(in alloc;
-            "cancel of {} line {} quantity {}",
-            cancel.supplier, cancel.line, cancel.quantity
-        ),
-        HubTask::Join(join) => join_told(alloc, join.row()),
+        HubTask::Ask(request) => request_told(alloc, request),
         HubTask::JoinByFile(join) => join_by_file_told(alloc, join),
     }
 }

@@ -56,18 +56,14 @@ fn join_of(rt: &HostRuntime, words: &JoinByFile<'_>) -> Result<Request, KeyFault
 
 // What a command does, with the key of a supplier that joins.
 fn task_of<'a>(rt: &HostRuntime, task: HubTask<'a>) -> Result<Task<'a>, KeyFault> {
-    let request = match task {
-        HubTask::Import(folder) => return Ok(Task::Import(folder)),
-        HubTask::Status(None) => Request::Status,
-        HubTask::Status(Some(supplier)) => Request::StatusOf(supplier),
-        HubTask::MailAfter(number) => Request::MailAfter(number),
-        HubTask::MailItem(number) => Request::MailItem(number),
-        HubTask::MailTaken(number) => Request::MailTaken(number),
-        HubTask::Cancel(cancel) => Request::Cancel(cancel),
-        HubTask::Join(join) => Request::Join(join),
-        HubTask::JoinByFile(words) => join_of(rt, &words)?,
-    };
-    Ok(Task::Ask(request))
+    match task {
+        HubTask::Import(folder) => Ok(Task::Import(folder)),
+        HubTask::Ask(request) => Ok(Task::Ask(request)),
+        HubTask::JoinByFile(words) => {
+            let request = join_of(rt, &words)?;
+            Ok(Task::Ask(request))
+        }
+    }
 }
 
 /// What the words of a command ask, with the keys that are in files. The caller's key is read first.

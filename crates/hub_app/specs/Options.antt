@@ -1,4 +1,4 @@
--- The values of options.
+-- Reads the values of options.
 use Rattle.std.specs.Prelude.{ℕ, Bool, false, codes, ◌++◌, ◌&&◌, if◌then◌else◌, nat_eq, nat_le, List, [], ◌∷◌}
 use Rattle.std.specs.Prelude.{Option, Some, None, option_map, option_and_then}
 use Rattle.std.specs.List.{list_all, slice_split}
@@ -44,11 +44,6 @@ abbrev pub values_given : List Text → List Row → Option (List Text)
 values_given [] rows = Some []
 values_given (name ∷ names) rows =
     option_and_then (λ value. option_map (λ values. value ∷ values) (values_given names rows)) (first_of name rows)
-
--- texts in lines, each ended by LF
-abbrev pub in_lines : List Text → Text
-in_lines [] = []
-in_lines (text ∷ texts) = text ++ 0x0A ∷ in_lines texts
 
 -- the parts of a text between its commas
 abbrev pub parts_of : Text → List Text

@@ -5,10 +5,8 @@ use Rattle.clap.specs.Words.{Row, Text, first_of, kind_of, subcommand_of, takes}
 use Rattle.clap.specs.declared.error.kind.ErrorKind.TheVariants.{ValueValidation}
 use Rattle.gs1_ids.specs.Gln.{gln_of}
 use Rattle.hub_app.specs.declared.words.HubOptions.{HubOptions}
-use Rattle.hub_app.specs.declared.words.CancelLines.{CancelLines}
 use Rattle.hub_app.specs.declared.words.HubTask.{HubTask}
-use Rattle.hub_app.specs.declared.words.HubTask.TheVariants.{Import, Status, MailAfter, MailItem, MailTaken, Cancel, Join}
-use Rattle.hub_app.specs.declared.words.HubTask.TheVariants.{JoinByFile}
+use Rattle.hub_app.specs.declared.words.HubTask.TheVariants.{Import, Ask, JoinByFile}
 use Rattle.hub_app.specs.declared.words.HubWords.{HubWords}
 use Rattle.hub_app.specs.declared.words.InitWords.{InitWords}
 use Rattle.hub_app.specs.declared.words.JoinByFile.{JoinByFile as FileJoin}
@@ -23,14 +21,17 @@ use Rattle.hub_app.specs.declared.words.WordsFault.{WordsFault}
 use Rattle.hub_app.specs.declared.words.WordsFault.TheVariants.{Told, Memory}
 use Rattle.edi_relay.specs.declared.relay.RelayWords.{RelayWords}
 use Rattle.hub_app.specs.Options.{moment_of, port_of, connections_of, is_set, prefixes_of, if_given, unless_given, values_given}
-use Rattle.hub_app.specs.Options.{in_lines}
 use Rattle.hub_app.specs.Program.{edihub}
 use Rattle.edi_relay.specs.Relay.{AreRelayWords, relay_words_of}
 use Rattle.hub_parties.specs.Prefixes.{company_prefixes_of}
 use Rattle.hub_parties.specs.declared.row.SupplierRow.{SupplierRow}
 use Rattle.hub_rules.specs.JoinRules.{join_of}
 use Rattle.hub_rules.specs.declared.cancel.Cancel.{Cancel as Cancellation}
-use Rattle.hub_texts.specs.Cancel.{cancel_of}
+use Rattle.hub_requests.specs.declared.request.Request.{Request}
+use Rattle.hub_requests.specs.declared.request.Request.TheVariants.{Upload, Status, StatusOf, MailAfter, MailItem, MailTaken}
+use Rattle.hub_requests.specs.declared.request.Request.TheVariants.{Cancel, Join}
+use Rattle.hub_texts.specs.declared.cancel.CancelFields.{CancelFields}
+use Rattle.hub_texts.specs.Cancel.{cancel_with, positive}
 use Rattle.hub_texts.specs.Number.{number_in}
 
 -- the options of `relay`
@@ -46,17 +47,23 @@ pub record IsMail (word : Text) (n : ℕ) (rows : List Row) : Type 0 where
   pub what : first_of (codes "do") rows ≡ Some word
   pub number : option_and_then number_in (first_of (codes "n") rows) ≡ Some n
 
--- the options whose values are the five lines of a cancellation
+-- the options whose values are the five texts of a cancellation
 abbrev pub cancel_options : List Text
 cancel_options =
     codes "supplier" ∷ codes "reference" ∷ codes "order" ∷ codes "line" ∷ codes "quantity" ∷ []
 
-abbrev pub texts_of : CancelLines → List Text
-texts_of lines = lines.supplier.now ∷ lines.reference.now ∷ lines.order.now ∷ lines.line.now ∷ lines.quantity.now ∷ []
+abbrev pub texts_of : CancelFields → List Text
+texts_of texts = texts.supplier.now ∷ texts.reference.now ∷ texts.order.now ∷ texts.line.now ∷ texts.quantity.now ∷ []
 
--- the cancellation whose body has these lines
+-- the cancellation of five texts, which is the one that the body of their lines says
+abbrev pub cancel_by : List Text → Option Cancellation
+cancel_by (supplier ∷ reference ∷ order ∷ line ∷ quantity ∷ []) =
+    cancel_with supplier reference order (positive 6 line) (positive 9 quantity)
+cancel_by texts = None
+
+-- the cancellation that is given by its options
 abbrev pub cancellation_given : List Row → Option Cancellation
-cancellation_given rows = option_and_then (λ lines. cancel_of (in_lines lines)) (values_given cancel_options rows)
+cancellation_given rows = option_and_then cancel_by (values_given cancel_options rows)
 
 -- how a key is given: by itself, or by the path of the file that has it
 pub data KeyGiven : Type 0 where
@@ -70,7 +77,7 @@ key_by None (Some path) = Some (InFile path)
 key_by (Some key) (Some path) = None
 key_by None None = None
 
--- the same by the names of the two options
+-- by the names of the two options
 abbrev pub key_given : Text → Text → List Row → Option KeyGiven
 key_given key file rows = key_by (first_of key rows) (first_of file rows)
 
@@ -117,22 +124,28 @@ join_by_file_in (supplier ∷ file ∷ listed ∷ []) =
     (option_and_then joining_prefixes (prefixes_of listed))) (gln_of supplier)
 join_by_file_in texts = None
 
--- the same that is given by its options
+-- the join that is given by its options, with its key in a file
 abbrev pub join_by_file_given : List Row → Option JoinParts
 join_by_file_given rows =
     option_and_then join_by_file_in (join_values (codes "supplier-key-file") (codes "supplier-key") rows)
+
+-- the request that a command over a hub makes; none uploads by one
+abbrev pub IsRequest : Text → List Row → Request → Type 0
+IsRequest command rows (Upload bytes) = ⊥
+IsRequest command rows Status = (command ≡ codes "status") × (if_given gln_of (first_of (codes "of") rows) ≡ Some None)
+IsRequest command rows (StatusOf supplier) =
+    (command ≡ codes "status") × (if_given gln_of (first_of (codes "of") rows) ≡ Some (Some supplier))
+IsRequest command rows (MailAfter number) = (command ≡ codes "mail") × IsMail (codes "after") number rows
+IsRequest command rows (MailItem number) = (command ≡ codes "mail") × IsMail (codes "item") number rows
+IsRequest command rows (MailTaken number) = (command ≡ codes "mail") × IsMail (codes "taken") number rows
+IsRequest command rows (Cancel cancellation) = (command ≡ codes "cancel") × (cancellation_given rows ≡ Some cancellation)
+IsRequest command rows (Join join) = (command ≡ codes "join") × (join_given rows ≡ Some join)
 
 -- what a command over a hub asks
 abbrev pub IsTask : Text → List Row → HubTask → Type 0
 IsTask command rows (Import folder) =
     (command ≡ codes "import") × (first_of (codes "folder") rows ≡ Some folder.now)
-IsTask command rows (Status supplier) =
-    (command ≡ codes "status") × (if_given gln_of (first_of (codes "of") rows) ≡ Some supplier)
-IsTask command rows (MailAfter number) = (command ≡ codes "mail") × IsMail (codes "after") number rows
-IsTask command rows (MailItem number) = (command ≡ codes "mail") × IsMail (codes "item") number rows
-IsTask command rows (MailTaken number) = (command ≡ codes "mail") × IsMail (codes "taken") number rows
-IsTask command rows (Cancel cancellation) = (command ≡ codes "cancel") × (cancellation_given rows ≡ Some cancellation)
-IsTask command rows (Join join) = (command ≡ codes "join") × (join_given rows ≡ Some join)
+IsTask command rows (Ask request) = IsRequest command rows request
 IsTask command rows (JoinByFile join) = (command ≡ codes "join") × (join_by_file_given rows ≡ Some (parts_of_join join))
 
 -- the options of every command over a hub
@@ -191,7 +204,7 @@ Asks command rows (Rekey words) = (command ≡ codes "rekey") × IsRekey rows wo
 Asks command rows (Hub words) = IsTask command rows words.task × AreHubWords rows words
 Asks command rows (Serve words) = (command ≡ codes "serve") × IsServe rows words
 
--- the same of a command over a hub alone
+-- what a command over a hub asks for
 abbrev pub IsOverHub : Text → List Row → Words → Type 0
 IsOverHub command rows (Hub words) = IsTask command rows words.task × AreHubWords rows words
 IsOverHub command rows _ = ⊥
@@ -209,7 +222,7 @@ Say texts words = Names (subcommand_of edihub texts) words
 abbrev pub Refuses : List Text → WordsFault → Type 0
 Refuses texts fault = takes edihub texts ≡ true → (fault ≡ Memory) ⊎ ((words : Words) → Say texts words → ⊥)
 
--- it is reported as an option against its limits, unless memory ran out
+-- the words are reported as an option outside its limits, unless memory ran out
 abbrev pub IsUsageError : WordsFault → Type 0
 IsUsageError (Told error) = kind_of error ≡ ValueValidation
 IsUsageError Memory = Unit {0}

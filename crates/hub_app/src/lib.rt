@@ -1,4 +1,4 @@
-//! The words of the program `edihub`: its commands, their options, and what a command line says.
+//! Reads the command line of the program `edihub`: its commands, their options, and what the words say.
 #![tactic(auto)]
 
 mod options;

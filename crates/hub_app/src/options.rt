@@ -1,4 +1,4 @@
-//! The values of options.
+//! Reads the values of options.
 
 ghost use Rattle.std.specs.Prelude.{◌≡◌, map, option_map, if◌then◌else◌, IfOk, Some, None};
 ghost use Rattle.std.specs.List.{list_all};
@@ -107,16 +107,4 @@ pub(crate) fn prefixes(alloc: Global, text: &str) -> Result<Option<Vec<Prefix>>,
 {
     let parts = parts(alloc, text)?;
     prefixes_in(alloc, parts.as_slice())
-}
-
-/// Texts in lines, each ended by a line feed.
-pub(crate) fn in_lines(alloc: Global, texts: &[&str]) -> Result<Vec<u8>, AllocError>
-    ensures { IfOk result (λ lines. lines.items ≡ spec.in_lines (map (λ text. text.now) texts.now)) }
-{
-    let mut lines = Vec::new(alloc);
-    for text in texts {
-        lines.extend_from_slice(text.as_bytes())?;
-        lines.push(b'\n')?;
-    }
-    Ok(lines)
 }

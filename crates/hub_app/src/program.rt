@@ -1,4 +1,4 @@
-//! The commands of the program, with their options and help texts.
+//! Describes the commands of the program, with their options and help texts.
 
 ghost use Rattle.std.specs.Prelude.{◌≡◌, [], false, IfOk};
 ghost use Rattle.clap.specs.Words.{App, Shape, app_of, rule_of, with_subcommand};
@@ -87,7 +87,7 @@ fn choosing<'a>(
 }
 
 const RELAY: &str =
-    "Reads an ORDERS interchange on standard input, prints the supplier's mail texts";
+    "Reads an interchange on standard input, prints the mail text of each of its messages";
 
 const STATUS: &str =
     "Exit status: 0 done; 1 refused, the code stands on standard error; 2 usage error; 3 a failed read or write, or out of memory";

@@ -1,19 +1,17 @@
-//! The words of the command line.
+//! Reads the words of the command line.
 
 ghost use Rattle.std.specs.Prelude.{◌≡◌, map, option_map, codes, IfOk, IfErr, IfSome};
 ghost use Rattle.clap.specs.Words.{app_of, first_of, found_of, rows_of, subcommand_rows_of};
-ghost use Rattle.hub_app.specs.Options as spec;
 ghost use Rattle.hub_app.specs.Options.{Finds, if_given, moment_of, values_given};
 ghost use Rattle.edi_relay.specs.Relay.{AreRelayWords};
-ghost use Rattle.hub_texts.specs.Cancel as body;
 ghost use Rattle.hub_app.specs.Words.{cancel_options, texts_of, AreWords, Asks, AreHubOptions, AreHubWords, IsOverHub};
-ghost use Rattle.hub_app.specs.Words.{IsInit, IsRekey, IsRelay, IsServe, IsTask, owner_given};
+ghost use Rattle.hub_app.specs.Words.{IsInit, IsRekey, IsRelay, IsRequest, IsServe, IsTask, owner_given};
 ghost use Rattle.hub_app.specs.Words.{IsUsageError, Names, Refuses, Say, join_in, texts_of_join};
 ghost use Rattle.hub_app.specs.Words.{join_by_file_given, join_by_file_in, join_given, join_values, key_given, given_as, parts_of_join};
 ghost use Rattle.hub_rules.specs.JoinRules as rules;
 ghost use Rattle.hub_app.specs.Program.{edihub};
 
-use crate::options::{count, gln, in_lines, is_set, moment, number, port, prefixes, text};
+use crate::options::{count, gln, is_set, moment, number, port, prefixes, text};
 use crate::program::program;
 use clap::error::ErrorKind;
 use clap::{ArgMatches, Command, Error};
@@ -21,8 +19,9 @@ use edi_envelope::Moment;
 use edi_relay::RelayWords;
 use gs1_ids::{Gln, Prefix};
 use hub_parties::CompanyPrefixes;
-use hub_rules::{Cancel, Join};
-use hub_texts::read_cancel;
+use hub_requests::Request;
+use hub_rules::Join;
+use hub_texts::{CancelFields, cancel_with};
 use std::alloc::{AllocError, Global};
 use std::convert::AsStr;
 use std::fmt;
@@ -81,23 +80,13 @@ impl JoinByFile<'_> {
     }
 }
 
-/// What is asked of a hub. Numbers of mailbox entries have at most 14 digits.
+/// What is asked of a hub.
 #[derive(Debug, Drop)]
 pub enum HubTask<'a> {
     /// To upload the interchanges in this folder.
     Import(&'a str),
-    /// To report the lines and pallets of this supplier; of the caller where there is none.
-    Status(Option<Gln>),
-    /// To list the mailbox entries above this number that are not taken.
-    MailAfter(u64),
-    /// To give the mailbox entry of this number.
-    MailItem(u64),
-    /// To mark the mailbox entry of this number as taken.
-    MailTaken(u64),
-    /// To cancel a quantity of an order line.
-    Cancel(Cancel),
-    /// To register a supplier.
-    Join(Join),
+    /// To answer this request. Numbers of mailbox entries have at most 14 digits.
+    Ask(Request),
     /// To register a supplier whose key is in a file.
     JoinByFile(JoinByFile<'a>),
 }
@@ -207,87 +196,73 @@ fn relay_words(options: &ArgMatches<'_>) -> Option<RelayWords>
     RelayWords::new(hub, owner, moment, first)
 }
 
-// What `import` asks.
 fn import_task<'a>(options: &ArgMatches<'a>) -> Option<HubTask<'a>>
     ensures { Finds (IsTask (codes "import") (rows_of (found_of options.now))) result }
 {
     Some(HubTask::Import(text(options, "folder")?))
 }
 
-// What `status` asks.
-fn status_task<'a>(options: &ArgMatches<'a>) -> Option<HubTask<'a>>
-    ensures { Finds (IsTask (codes "status") (rows_of (found_of options.now))) result }
+fn status_request(options: &ArgMatches<'_>) -> Option<Request>
+    ensures { Finds (IsRequest (codes "status") (rows_of (found_of options.now))) result }
 {
     match text(options, "of") {
-        Some(digits) => Some(HubTask::Status(Some(gln(digits)?))),
-        None => Some(HubTask::Status(None)),
+        Some(digits) => Some(Request::StatusOf(gln(digits)?)),
+        None => Some(Request::Status),
     }
 }
 
-// What `mail` asks.
-fn mail_task<'a>(options: &ArgMatches<'a>) -> Option<HubTask<'a>>
-    ensures { Finds (IsTask (codes "mail") (rows_of (found_of options.now))) result }
+fn mail_request(options: &ArgMatches<'_>) -> Option<Request>
+    ensures { Finds (IsRequest (codes "mail") (rows_of (found_of options.now))) result }
 {
     let what = text(options, "do")?;
     let n = number(text(options, "n")?)?;
     match what {
-        "after" => Some(HubTask::MailAfter(n)),
-        "item" => Some(HubTask::MailItem(n)),
-        "taken" => Some(HubTask::MailTaken(n)),
+        "after" => Some(Request::MailAfter(n)),
+        "item" => Some(Request::MailItem(n)),
+        "taken" => Some(Request::MailTaken(n)),
         _ => None,
     }
 }
 
-// The five lines of a cancellation.
-#[derive(Drop)]
-struct CancelLines<'a> {
-    supplier: &'a str,
-    reference: &'a str,
-    order: &'a str,
-    line: &'a str,
-    quantity: &'a str,
-}
-
-fn cancel_lines<'a>(options: &ArgMatches<'a>) -> Option<CancelLines<'a>>
+// The values of the options of a cancellation, if all are given.
+fn cancel_fields<'a>(options: &ArgMatches<'a>) -> Option<CancelFields<'a>>
     ensures { option_map texts_of result ≡ values_given cancel_options (rows_of (found_of options.now)) }
 {
-    Some(CancelLines {
-        supplier: text(options, "supplier")?,
-        reference: text(options, "reference")?,
-        order: text(options, "order")?,
-        line: text(options, "line")?,
-        quantity: text(options, "quantity")?,
+    Some(CancelFields {
+        supplier: text(options, "supplier")?.as_bytes(),
+        reference: text(options, "reference")?.as_bytes(),
+        order: text(options, "order")?.as_bytes(),
+        line: text(options, "line")?.as_bytes(),
+        quantity: text(options, "quantity")?.as_bytes(),
     })
 }
 
-// The cancellation whose body has these lines.
-fn cancel_of(alloc: Global, lines: &CancelLines<'_>) -> Result<Option<Cancel>, AllocError>
-    ensures { IfOk result (λ found. found ≡ body.cancel_of (spec.in_lines (texts_of lines.now))) }
+fn cancel_request(alloc: Global, options: &ArgMatches<'_>) -> Result<Option<Request>, AllocError>
+    ensures { IfOk result (Finds (IsRequest (codes "cancel") (rows_of (found_of options.now)))) }
 {
-    let texts = [
-        lines.supplier,
-        lines.reference,
-        lines.order,
-        lines.line,
-        lines.quantity,
-    ];
-    let body = in_lines(alloc, &texts)?;
-    read_cancel(alloc, body.as_slice())
-}
-
-// What `cancel` asks.
-fn cancel_task<'a>(
-    alloc: Global,
-    options: &ArgMatches<'_>,
-) -> Result<Option<HubTask<'a>>, AllocError>
-    ensures { IfOk result (Finds (IsTask (codes "cancel") (rows_of (found_of options.now)))) }
-{
-    let Some(lines) = cancel_lines(options) else {
+    let Some(fields) = cancel_fields(options) else {
         return Ok(None);
     };
-    match cancel_of(alloc, &lines)? {
-        Some(cancel) => Ok(Some(HubTask::Cancel(cancel))),
+    match cancel_with(alloc, &fields)? {
+        Some(cancel) => Ok(Some(Request::Cancel(cancel))),
         None => Ok(None),
+    }
+}
+
+// Returns the request of a command that makes one.
+fn request(
+    alloc: Global,
+    command: &str,
+    options: &ArgMatches<'_>,
+) -> Result<Option<Request>, AllocError>
+    requires { command.now ≡ codes "join" → ⊥ }
+    ensures { IfOk result (Finds (IsRequest command.now (rows_of (found_of options.now)))) }
+{
+    match command {
+        "status" => Ok(status_request(options)),
+        "mail" => Ok(mail_request(options)),
+        "cancel" => cancel_request(alloc, options),
+        _ => Ok(None),
     }
 }
 
@@ -313,7 +288,7 @@ fn join_texts<'a>(options: &ArgMatches<'a>, key: &str, other: &str) -> Option<Jo
     })
 }
 
-// The join that has these texts.
+// Returns the join that has these texts.
 fn join_of(alloc: Global, texts: &JoinTexts<'_>) -> Result<Option<Join>, AllocError>
     ensures { IfOk result (λ found. found ≡ join_in (texts_of_join texts.now)) }
 {
@@ -326,7 +301,7 @@ fn join_of(alloc: Global, texts: &JoinTexts<'_>) -> Result<Option<Join>, AllocEr
     }
 }
 
-// The join that has these texts, and its key in a file.
+// Returns the join that has these texts, with its key in a file.
 fn join_by_file_of<'a>(
     alloc: Global,
     texts: &JoinTexts<'a>,
@@ -350,7 +325,7 @@ fn join_by_file_of<'a>(
     }))
 }
 
-// The join whose key is on the command line.
+// Returns the join whose key is on the command line.
 fn given_join(alloc: Global, options: &ArgMatches<'_>) -> Result<Option<Join>, AllocError>
     ensures { IfOk result (λ found. found ≡ join_given (rows_of (found_of options.now))) }
 {
@@ -360,7 +335,7 @@ fn given_join(alloc: Global, options: &ArgMatches<'_>) -> Result<Option<Join>, A
     }
 }
 
-// The join whose key is in a file.
+// Returns the join whose key is in a file.
 fn join_by_file<'a>(
     alloc: Global,
     options: &ArgMatches<'a>,
@@ -374,12 +349,11 @@ fn join_by_file<'a>(
     }
 }
 
-// What `join` asks.
 fn join_task<'a>(alloc: Global, options: &ArgMatches<'a>) -> Result<Option<HubTask<'a>>, AllocError>
     ensures { IfOk result (Finds (IsTask (codes "join") (rows_of (found_of options.now)))) }
 {
     if let Some(join) = given_join(alloc, options)? {
-        return Ok(Some(HubTask::Join(join)));
+        return Ok(Some(HubTask::Ask(Request::Join(join))));
     }
     match join_by_file(alloc, options)? {
         Some(join) => Ok(Some(HubTask::JoinByFile(join))),
@@ -387,7 +361,7 @@ fn join_task<'a>(alloc: Global, options: &ArgMatches<'a>) -> Result<Option<HubTa
     }
 }
 
-// What a command over a hub asks.
+// Returns what a command over a hub asks.
 fn task<'a>(
     alloc: Global,
     command: &str,
@@ -397,15 +371,15 @@ fn task<'a>(
 {
     match command {
         "import" => Ok(import_task(options)),
-        "status" => Ok(status_task(options)),
-        "mail" => Ok(mail_task(options)),
-        "cancel" => cancel_task(alloc, options),
         "join" => join_task(alloc, options),
-        _ => Ok(None),
+        _ => match request(alloc, command, options)? {
+            Some(request) => Ok(Some(HubTask::Ask(request))),
+            None => Ok(None),
+        },
     }
 }
 
-// The moment, if one is named.
+// Returns the moment, or `None` if none is named.
 fn named_moment(options: &ArgMatches<'_>) -> Option<Option<Moment>>
     ensures { result ≡ if_given moment_of (first_of (codes "moment") (rows_of (found_of options.now))) }
 {

@@ -1,13 +1,14 @@
 -- Shows that the body of a cancellation has five lines, and that the text of a cancellation is read back as the same
 -- one.
-use Rattle.std.proofs.Common.{◌≡◌, ℕ, true, false, cond, not, ◌&&◌, ◌==◌, List, [], ◌∷◌, ◌++◌, length, Option, Some, None}
+use Rattle.std.proofs.Common.{◌≡◌, ℕ, ◌+◌, true, false, cond, not, ◌&&◌, ◌==◌, List, [], ◌∷◌, ◌++◌, length, Option, Some, None}
 use Rattle.std.proofs.Common.{refl, sym, ap, ap₂, ◌∙◌, append_assoc, arith}
 use Rattle.std.specs.Char.{is_ascii_digit}
 use Rattle.std.specs.Fmt.{decimal}
-use Rattle.std.specs.List.{AllByRecursion, list_all, slice_split, join_with_byte}
+use Rattle.std.specs.List.{AllByRecursion, count_by, list_all, slice_split, join_with_byte}
 use Rattle.std.proofs.lemmas.Bool.{and_parts}
 use Rattle.std.proofs.lemmas.Bool.Decides.{nat_tests}
-use Rattle.std.proofs.lemmas.List.Splits.{join_with_byte-slice_split}
+use Rattle.std.proofs.lemmas.List.Splits.{join_with_byte-slice_split, length-slice_split}
+use Rattle.std.proofs.lemmas.List.Sums.{sum_by-append}
 use Rattle.std.proofs.lemmas.Option.{cond_some, same_Some}
 use Rattle.edi_base.specs.Limits.{has_length, is_printable, is_digit, are_digits, number_of}
 use Rattle.edi_envelope.specs.Limits.{is_reference}
@@ -160,3 +161,72 @@ pub one_text : (first second : List ℕ) (c d : Cancel)
     → cancel_text c ≡ cancel_text d
     → c ≡ d
 one_text first second c d h g e = same_Some c d (sym (written_back first c h) ∙ ap cancel_of e ∙ written_back second d g)
+
+-- how many lines end in a text
+abbrev ends : List ℕ → ℕ
+ends text = count_by is_end text
+
+ends_more : (b : ℕ) (bs : List ℕ) → ends (b ∷ bs) ≡ 0 + cond (is_end b) 1 0 + ends bs
+ends_more b bs = sum_by-append (λ (x : ℕ). cond (is_end x) 1 0) (b ∷ []) bs
+
+one_line : (field : List ℕ) → ends field ≡ 0 → OneLine field
+one_line [] h = tt
+one_line (b ∷ bs) h =
+    elim (is_end b) as (λ v. 0 + cond v 1 0 + ends bs ≡ 0 → (v ≡ false) × OneLine bs) [
+      | true ↦ λ e. absurd (omega (arith, e))
+      | false ↦ λ e. (refl, one_line bs (omega (arith, e)))
+    ] (sym (ends_more b bs) ∙ h)
+
+ends_line : (field rest : List ℕ) → ends (line (field ∷ []) ++ rest) ≡ ends field + 1 + ends rest
+ends_line field rest =
+    let one = λ (b : ℕ). cond (is_end b) 1 0 in
+    sum_by-append one (line (field ∷ [])) rest ∙ ap (λ (n : ℕ). n + ends rest) (sum_by-append one field (0x0A ∷ []))
+
+-- a cancellation is said by five lines, the last of them ended
+six_parts : (parts : List (List ℕ)) (c : Cancel) → cancel_in parts ≡ Some c → length parts ≡ 6
+six_parts [] c h = absurd (cc)
+six_parts (s ∷ []) c h = absurd (cc)
+six_parts (s ∷ r ∷ []) c h = absurd (cc)
+six_parts (s ∷ r ∷ o ∷ []) c h = absurd (cc)
+six_parts (s ∷ r ∷ o ∷ l ∷ []) c h = absurd (cc)
+six_parts (s ∷ r ∷ o ∷ l ∷ q ∷ []) c h = absurd (cc)
+six_parts (s ∷ r ∷ o ∷ l ∷ q ∷ (b ∷ bs) ∷ parts) c h = absurd (cc)
+six_parts (s ∷ r ∷ o ∷ l ∷ q ∷ [] ∷ part ∷ parts) c h = absurd (cc)
+six_parts (s ∷ r ∷ o ∷ l ∷ q ∷ [] ∷ []) c h = refl
+
+same_options : (x y : Option Cancel) → ((c : Cancel) → x ≡ Some c → y ≡ Some c) → ((c : Cancel) → y ≡ Some c → x ≡ Some c) → x ≡ y
+same_options None None to from = refl
+same_options (Some c) y to from = sym (to c refl)
+same_options None (Some c) to from = from c refl
+
+-- five texts say what the body of their lines says
+pub given_by_texts : (s r o l q : List ℕ) → cancel_of (five_lines s r o l q) ≡ cancel_with s r o (positive 6 l) (positive 9 q)
+given_by_texts s r o l q = same_options (cancel_of (five_lines s r o l q)) (cancel_with s r o (positive 6 l) (positive 9 q)) back taken
+  where
+    taken : (c : Cancel) → cancel_with s r o (positive 6 l) (positive 9 q) ≡ Some c → cancel_of (five_lines s r o l q) ≡ Some c
+    taken c h =
+        let given = given_with s r o l q (positive 6 l) (positive 9 q) c refl refl h in
+        ap cancel_in (five_cut s r o l q (gln_inside s given.right.0) (reference_inside r given.right.1)
+        (order_inside o given.right.2) (positive_inside 6 l c.line given.numbers.0) (positive_inside 9 q c.quantity given.numbers.1)) ∙ h
+
+    back : (c : Cancel) → cancel_of (five_lines s r o l q) ≡ Some c → cancel_with s r o (positive 6 l) (positive 9 q) ≡ Some c
+    back c h =
+        let end = λ (field : List ℕ). line (field ∷ []) in
+        let body = five_lines s r o l q in
+        let parts : length (slice_split is_end body) ≡ 6 = six_parts (slice_split is_end body) c h in
+        let counted : length (slice_split is_end body) ≡ ends body + 1 = length-slice_split is_end body in
+        let in_s : ends body ≡ ends s + 1 + ends (end r ++ (end o ++ (end l ++ (end q ++ [])))) =
+        ends_line s (end r ++ (end o ++ (end l ++ (end q ++ [])))) in
+        let in_r : ends (end r ++ (end o ++ (end l ++ (end q ++ [])))) ≡ ends r + 1 + ends (end o ++ (end l ++ (end q ++ []))) =
+        ends_line r (end o ++ (end l ++ (end q ++ []))) in
+        let in_o : ends (end o ++ (end l ++ (end q ++ []))) ≡ ends o + 1 + ends (end l ++ (end q ++ [])) =
+        ends_line o (end l ++ (end q ++ [])) in
+        let in_l : ends (end l ++ (end q ++ [])) ≡ ends l + 1 + ends (end q ++ []) = ends_line l (end q ++ []) in
+        let in_q : ends (end q ++ []) ≡ ends q + 1 + 0 = ends_line q [] in
+        let none_s : ends s ≡ 0 = omega (arith, parts, counted, in_s, in_r, in_o, in_l, in_q) in
+        let none_r : ends r ≡ 0 = omega (arith, parts, counted, in_s, in_r, in_o, in_l, in_q) in
+        let none_o : ends o ≡ 0 = omega (arith, parts, counted, in_s, in_r, in_o, in_l, in_q) in
+        let none_l : ends l ≡ 0 = omega (arith, parts, counted, in_s, in_r, in_o, in_l, in_q) in
+        let none_q : ends q ≡ 0 = omega (arith, parts, counted, in_s, in_r, in_o, in_l, in_q) in
+        sym (ap cancel_in (five_cut s r o l q (one_line s none_s) (one_line r none_r) (one_line o none_o) (one_line l none_l)
+        (one_line q none_q))) ∙ h

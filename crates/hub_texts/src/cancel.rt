@@ -66,18 +66,23 @@ fn first_line(text: &[u8]) -> Option<(&[u8], &[u8])>
     }
 }
 
-// The five lines of a body.
+/// The five texts of a cancellation, such as the lines of a body.
 #[derive(Drop)]
-struct Fields<'a> {
-    supplier: &'a [u8],
-    reference: &'a [u8],
-    order: &'a [u8],
-    line: &'a [u8],
-    quantity: &'a [u8],
+pub struct CancelFields<'a> {
+    /// The supplier's GLN.
+    pub supplier: &'a [u8],
+    /// The cancellation's own reference.
+    pub reference: &'a [u8],
+    /// The order number.
+    pub order: &'a [u8],
+    /// The line number, in digits.
+    pub line: &'a [u8],
+    /// The quantity, in digits.
+    pub quantity: &'a [u8],
 }
 
 // Returns the five lines of a body; `None` if it has fewer or more, or anything after the last line end.
-fn fields_of(body: &[u8]) -> Option<Fields<'_>>
+fn fields_of(body: &[u8]) -> Option<CancelFields<'_>>
     ensures some { IfSome result (λ fields.
         slice_split is_end body.now ≡ fields.supplier.now ∷ fields.reference.now
         ∷ fields.order.now ∷ fields.line.now ∷ fields.quantity.now ∷ [] ∷ []) }
@@ -91,7 +96,7 @@ fn fields_of(body: &[u8]) -> Option<Fields<'_>>
     if !rest.is_empty() {
         return None;
     }
-    Some(Fields {
+    Some(CancelFields {
         supplier,
         reference,
         order,
@@ -126,8 +131,8 @@ fn is_document_number(bytes: &[u8]) -> bool
     has_length(1, 35, bytes) && all_printable(bytes)
 }
 
-// Makes the cancellation of five lines; `None` if one of them breaks its limits.
-fn cancel_with(alloc: Global, fields: &Fields<'_>) -> Result<Option<Cancel>, MemoryFault>
+/// Returns the cancellation of these texts, or `None` if one of them is against its limits. That takes no memory.
+pub fn cancel_with(alloc: Global, fields: &CancelFields<'_>) -> Result<Option<Cancel>, MemoryFault>
     ensures value { IfOk result (λ found.
         found ≡ spec.cancel_with fields.now.supplier.now fields.now.reference.now fields.now.order.now
         (spec.positive 6 fields.now.line.now) (spec.positive 9 fields.now.quantity.now)) }

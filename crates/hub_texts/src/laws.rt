@@ -9,14 +9,21 @@ ghost use Rattle.hub_order_lines.specs.Book.{place_cmp};
 ghost use Rattle.hub_law.specs.HubRules.Sound.{Balanced, Sound};
 ghost use Rattle.hub_law.specs.CancelText.{cancel_text};
 ghost use Rattle.hub_law.specs.HubRules.declared.cancel.Cancel.{Cancel};
-ghost use Rattle.hub_texts.specs.Cancel.{cancel_of};
-ghost use Rattle.hub_texts.specs.CancelLaw.{Says};
+ghost use Rattle.hub_texts.specs.Cancel.{cancel_of, cancel_with, positive};
+ghost use Rattle.hub_texts.specs.CancelLaw.{Says, five_lines};
 
 /// A body is read as a cancellation exactly if it is five lines within their limits that give the cancellation's
 /// fields, with or without leading zeros in the numbers.
 pub fn cancel_is_five_lines()
     ensures read { (body : List ℕ) (c : Cancel) → Says body c → cancel_of body ≡ Some c }
     ensures said { (body : List ℕ) (c : Cancel) → cancel_of body ≡ Some c → Says body c }
+{}
+
+/// The cancellation of five texts is the one that the body of their lines says.
+pub fn cancel_is_given_by_its_texts()
+    ensures { (supplier reference order number quantity : List ℕ) →
+        cancel_of (five_lines supplier reference order number quantity)
+        ≡ cancel_with supplier reference order (positive 6 number) (positive 9 quantity) }
 {}
 
 /// The text of a cancellation that was read from a body is read as the same cancellation. So two bodies have the same

@@ -15,11 +15,14 @@ mod pallets;
 mod replies;
 mod totals;
 
-pub use cancel::{cancel_text, read_cancel};
+pub use cancel::{CancelFields, cancel_text, cancel_with, read_cancel};
 pub use decision::Decision;
 pub use fault::TextFault;
 pub use hub_law::{Cancel, Code, Join, Outcome, Reply};
-pub use laws::{cancel_is_five_lines, cancel_is_written_back, status_is_given_what_it_asks};
+pub use laws::{
+    cancel_is_five_lines, cancel_is_given_by_its_texts, cancel_is_written_back,
+    status_is_given_what_it_asks,
+};
 pub use lines::with_lines;
 pub use mail::{LIST_LIMIT, entry_text, list_text};
 pub use number::number_of;
