@@ -19,8 +19,8 @@ use Rattle.hub_tables.proofs.Back.{fit_uncleared}
 use Rattle.hub_tables.proofs.Enrolling.{key_found}
 use Rattle.hub_tables.proofs.Lists.{none_if_not_found, same_if}
 use Rattle.hub_store.specs.Calls.{Commits, Looks}
-use Rattle.hub_store.specs.declared.fault.LastingFault.{LastingFault}
 use Rattle.hub_store.specs.declared.fault.StoreFault.{StoreFault}
+use Rattle.hub_store.specs.declared.store.Store.{Ghosts}
 use Rattle.hub_law.specs.HubRules.Laws.{SoundHub}
 use Rattle.hub_law.proofs.Agreeing.{sound_rises}
 use Rattle.hub_rekey.specs.KeyChange.{Rekeys, change_of, is_party, rekeyed, with_retailers}
@@ -96,21 +96,20 @@ module _ (key : List ℕ) (t : Tables) (here : SoundHub t) where
       (subst Rising (sym so.makes) (sound_rises (rekeyed owner key t) (rekeyed_sound owner key t right here)))
 
 -- The call.
-module _ {S : Type 0} (content : S → Tables) (honest : S → Type 0) (left : S → Tables → Type 0)
-    (broken : S → Option LastingFault) (old middle : S) (owner : KeyOwner) (key : List ℕ) (register : RegisterRows)
-    (here : honest old → SoundHub (content old))
-    (looked : Looks content honest left broken old middle (register_of (content old)) (Ok register)) where
-  of_tables : (found : Option Change) → change_of register owner key ≡ found → honest middle
-      → change_of (register_of (content old)) owner key ≡ found
+module _ {S : Type 0} (g : Ghosts S) (old middle : S) (owner : KeyOwner) (key : List ℕ) (register : RegisterRows)
+    (here : g.honest old → SoundHub (g.content old))
+    (looked : Looks g.content g.honest g.left g.broken old middle (register_of (g.content old)) (Ok register)) where
+  of_tables : (found : Option Change) → change_of register owner key ≡ found → g.honest middle
+      → change_of (register_of (g.content old)) owner key ≡ found
   of_tables found is h = ap (λ r. change_of r owner key) (sym (looked.answers h)) ∙ is
 
   -- no such party
-  pub unknown : change_of register owner key ≡ None → Rekeys content honest left old middle owner key (Ok Unknown)
+  pub unknown : change_of register owner key ≡ None → Rekeys g old middle owner key (Ok Unknown)
   unknown none = record {
     done = λ h e. absurd (cc (e));
     durable = λ h e. absurd (cc (e));
     unknown = λ h e. (
-      no_party key (content old) (here (looked.was_honest h)) owner (of_tables None none h),
+      no_party key (g.content old) (here (looked.was_honest h)) owner (of_tables None none h),
       looked.content_stays h,
     );
     same = λ h. tt;
@@ -119,30 +118,30 @@ module _ {S : Type 0} (content : S → Tables) (honest : S → Type 0) (left : S
   }
 
   module _ (new : S) (change : Change) (right : is_party_key key ≡ true) (is : change_of register owner key ≡ Some change)
-      {X : Type 0} (result : Result X StoreFault) (told : Commits content honest left broken middle new (change ∷ []) result) where
-    abbrev at_first : honest new → honest old
+      {X : Type 0} (result : Result X StoreFault) (told : Commits g.content g.honest g.left g.broken middle new (change ∷ []) result) where
+    abbrev at_first : g.honest new → g.honest old
     at_first h = looked.was_honest (told.was_honest h)
 
-    abbrev so : honest new → Changes owner key (content old) change
-    so h = changes_so key (content old) (here (at_first h)) owner change (of_tables (Some change) is (told.was_honest h))
+    abbrev so : g.honest new → Changes owner key (g.content old) change
+    so h = changes_so key (g.content old) (here (at_first h)) owner change (of_tables (Some change) is (told.was_honest h))
 
-    abbrev stayed : honest new → content middle ≡ content old
+    abbrev stayed : g.honest new → g.content middle ≡ g.content old
     stayed h = looked.content_stays (told.was_honest h)
 
-    fit : honest new → Fit (change ∷ []) (content middle)
-    fit h = subst (Fit (change ∷ [])) (sym (stayed h)) (fits key (content old) (here (at_first h)) right owner change (so h))
+    fit : g.honest new → Fit (change ∷ []) (g.content middle)
+    fit h = subst (Fit (change ∷ [])) (sym (stayed h)) (fits key (g.content old) (here (at_first h)) right owner change (so h))
 
-    made : honest new → apply change (content middle) ≡ rekeyed owner key (content old)
+    made : g.honest new → apply change (g.content middle) ≡ rekeyed owner key (g.content old)
     made h = ap (apply change) (stayed h) ∙ (so h).makes
 
   module _ (new : S) (change : Change) (right : is_party_key key ≡ true) (is : change_of register owner key ≡ Some change) where
     -- the store did not take it
     pub failed : {X : Type 0} (fault : StoreFault) (result : Result Rekeyed StoreFault) → result ≡ Err fault
         → (other : StoreFault)
-        → Commits {X = X} content honest left broken middle new (change ∷ []) (Err other)
-        → Rekeys content honest left old new owner key result
+        → Commits {X = X} g.content g.honest g.left g.broken middle new (change ∷ []) (Err other)
+        → Rekeys g old new owner key result
     failed fault result is_failed other told =
-        subst (λ (r : Result Rekeyed StoreFault). Rekeys content honest left old new owner key r) (sym is_failed) (record {
+        subst (λ (r : Result Rekeyed StoreFault). Rekeys g old new owner key r) (sym is_failed) (record {
           done = λ h e. absurd (cc (e));
           durable = λ h e. absurd (cc (e));
           unknown = λ h e. absurd (cc (e));
@@ -155,10 +154,10 @@ module _ {S : Type 0} (content : S → Tables) (honest : S → Type 0) (left : S
         })
 
     -- it did
-    pub done : {X : Type 0} (x : X) → Commits content honest left broken middle new (change ∷ []) (Ok x)
-        → Rekeys content honest left old new owner key (Ok Done)
+    pub done : {X : Type 0} (x : X) → Commits g.content g.honest g.left g.broken middle new (change ∷ []) (Ok x)
+        → Rekeys g old new owner key (Ok Done)
     done x told =
-        let becomes : (h : honest new) → content new ≡ rekeyed owner key (content old) =
+        let becomes : (h : g.honest new) → g.content new ≡ rekeyed owner key (g.content old) =
         λ h. told.done h (fit new change right is (Ok x) told h) ∙ made new change right is (Ok x) told h in
         record {
           done = λ h e. ((so new change right is (Ok x) told h).party, becomes h);

@@ -9,6 +9,7 @@ use Rattle.hub_tables.specs.declared.change.Change.TheVariants.{SetHub, SetKey}
 use Rattle.hub_tables.specs.declared.rows.HubRow.{HubRow}
 use Rattle.hub_tables.specs.declared.rows.KeyRow.{KeyRow}
 use Rattle.hub_store.specs.declared.fault.StoreFault.{StoreFault}
+use Rattle.hub_store.specs.declared.store.Store.{Ghosts}
 use Rattle.hub_rekey.specs.declared.key_change.KeyOwner.{KeyOwner}
 use Rattle.hub_rekey.specs.declared.key_change.KeyOwner.TheVariants.{Retailer, Supplier}
 use Rattle.hub_rekey.specs.declared.key_change.Rekeyed.{Rekeyed}
@@ -40,13 +41,13 @@ change_of register (Supplier gln) key =
 
 -- The key is changed, or there is no such party and the content stays; after a fault it stays too. A crash leaves the old
 -- key or the new one, and once the key is changed the new one alone.
-pub record Rekeys {S : Type 0} (content : S → Tables) (honest : S → Type 0) (left : S → Tables → Type 0)
-    (old new : S) (owner : KeyOwner) (key : List ℕ) (result : Result Rekeyed StoreFault) : Type 0 where
-  pub done : honest new → result ≡ Ok Done →
-      (is_party owner (content old) ≡ true) × (content new ≡ rekeyed owner key (content old))
-  pub durable : honest new → result ≡ Ok Done → (t : Tables) → left new t → t ≡ content new
-  pub unknown : honest new → result ≡ Ok Unknown →
-      (is_party owner (content old) ≡ false) × (content new ≡ content old)
-  pub same : honest new → OnErr result (content new ≡ content old)
-  pub crash : honest new → (t : Tables) → left new t → left old t ⊎ (t ≡ rekeyed owner key (content old))
-  pub was_honest : honest new → honest old
+pub record Rekeys {S : Type 0} (g : Ghosts S) (old new : S) (owner : KeyOwner) (key : List ℕ)
+    (result : Result Rekeyed StoreFault) : Type 0 where
+  pub done : g.honest new → result ≡ Ok Done →
+      (is_party owner (g.content old) ≡ true) × (g.content new ≡ rekeyed owner key (g.content old))
+  pub durable : g.honest new → result ≡ Ok Done → (t : Tables) → g.left new t → t ≡ g.content new
+  pub unknown : g.honest new → result ≡ Ok Unknown →
+      (is_party owner (g.content old) ≡ false) × (g.content new ≡ g.content old)
+  pub same : g.honest new → OnErr result (g.content new ≡ g.content old)
+  pub crash : g.honest new → (t : Tables) → g.left new t → g.left old t ⊎ (t ≡ rekeyed owner key (g.content old))
+  pub was_honest : g.honest new → g.honest old

@@ -60,7 +60,7 @@ fn change_of(register: &Register, owner: &KeyOwner, key: Key) -> Option<Change>
 /// Those of the store. The store then answers as before, but once it is opened again it may have either key.
 pub fn rekey<S: Store>(store: &mut S, owner: &KeyOwner, key: Key) -> Result<Rekeyed, StoreFault>
     ensures rekeys { (S.honest store.old → SoundHub (S.content store.old)) →
-        Rekeys S.content S.honest S.left store.old store.new owner.now key result }
+        Rekeys S.Store store.old store.new owner.now key result }
     ensures fails { (S.honest store.old → SoundHub (S.content store.old)) →
         Fails S.plain (S.broken store.old) (S.broken store.new) result }
 {
