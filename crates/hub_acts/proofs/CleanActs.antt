@@ -1,12 +1,11 @@
 -- Calls that look, judge and commit answer no `Unclean` of clean rows, and leave them clean.
 use Rattle.std.proofs.Common.{◌≡◌, ◌≢◌, inl, inr, ℕ, ◌==◌, Bool, true, false, cond, List, [], ◌∷◌}
-use Rattle.std.proofs.Common.{Option, Some, None, Result, Ok, Err, OnOk, OnErr}
+use Rattle.std.proofs.Common.{Some, None, Result, Ok, Err, OnOk, OnErr}
 use Rattle.std.proofs.Common.{refl, sym, subst, ap, ◌∙◌}
 use Rattle.std.specs.List.{AllByRecursion}
 use Rattle.std.proofs.lemmas.Bool.{true≢false}
 use Rattle.hub_tables.specs.Cases.{truth_number}
 use Rattle.hub_tables.specs.Change.{apply_all}
-use Rattle.hub_tables.specs.Rows.{same}
 use Rattle.hub_tables.specs.Sets.{Fit, Rising, clears}
 use Rattle.hub_tables.specs.State.{entry_at, is_taken}
 use Rattle.hub_tables.specs.Tables.{Tables, view}
@@ -16,9 +15,9 @@ use Rattle.hub_tables.specs.declared.rows.MailRow.{MailRow}
 use Rattle.hub_tables.proofs.Back.{fit_uncleared}
 use Rattle.hub_store.specs.Calls.{Commits, have_places}
 use Rattle.hub_store.specs.Clean.{are_clean}
-use Rattle.hub_store.specs.declared.fault.LastingFault.{LastingFault}
 use Rattle.hub_store.specs.declared.fault.StoreFault.{StoreFault}
 use Rattle.hub_store.specs.declared.fault.StoreFault.TheVariants.{Unclean}
+use Rattle.hub_store.specs.declared.store.Store.{Ghosts}
 use Rattle.hub_clean.specs.HubLaw.Requests.{taking}
 use Rattle.hub_acts.specs.Acts.{Stays}
 use Rattle.hub_acts.specs.StaysClean.{StaysClean}
@@ -33,69 +32,67 @@ fault_again : {X Y : Type 0} (a b : StoreFault)
 fault_again a b h = let e : a ≡ b = cc in ap (λ fault. Err fault) e
 
 -- a look-up that answers `Unclean` for a cause that there is not
-module _ {S X : Type 0} (content : S → Tables) (honest : S → Type 0) (broken : S → Option LastingFault) (old new : S)
+module _ {S X : Type 0} (g : Ghosts S) (old new : S)
     (cause : Type 0) (none_such : cause → ⊥) (fault : StoreFault)
-    (unclean : honest new → broken old ≡ None → are_clean (content old) ≡ true
+    (unclean : g.honest new → g.broken old ≡ None → are_clean (g.content old) ≡ true
     → ◌≡◌ {A = Result X StoreFault} (Err fault) (Err Unclean) → cause) where
   pub never_so : {Y : Type 0} (result : Result Y StoreFault)
       → result ≡ Err fault
-      → honest new
-      → broken old ≡ None
-      → are_clean (content old) ≡ true
+      → g.honest new
+      → g.broken old ≡ None
+      → are_clean (g.content old) ≡ true
       → result ≢ Err Unclean
   never_so result is h none clean e = none_such (unclean h none clean (fault_again fault Unclean (sym is ∙ e)))
 
   pub failed_stays : {Y : Type 0} (result : Result Y StoreFault)
       → result ≡ Err fault
-      → (honest new → content new ≡ content old)
-      → StaysClean content honest broken old new result
+      → (g.honest new → g.content new ≡ g.content old)
+      → StaysClean g old new result
   failed_stays result is stays = record { never = never_so result is; rows = λ h clean. ap are_clean (stays h) ∙ clean }
 
 -- what was judged is carried out
-module _ {S X : Type 0} (content : S → Tables) (honest : S → Type 0) (left : S → Tables → Type 0)
-    (broken : S → Option LastingFault) (old middle new : S) (stays : Stays content honest left old middle)
-    (was : honest new → honest middle) (whole : broken middle ≡ broken old) (fits cleans : Tables → Type 0)
-    (fit : honest middle → fits (content old))
-    (fine : honest middle → are_clean (content old) ≡ true → cleans (content old)) where
+module _ {S X : Type 0} (g : Ghosts S) (old middle new : S) (stays : Stays g old middle)
+    (was : g.honest new → g.honest middle) (whole : g.broken middle ≡ g.broken old) (fits cleans : Tables → Type 0)
+    (fit : g.honest middle → fits (g.content old))
+    (fine : g.honest middle → are_clean (g.content old) ≡ true → cleans (g.content old)) where
   pub clean_after_looking : (result : Result X StoreFault)
-      → (fits (content middle) → cleans (content middle) → StaysClean content honest broken middle new result)
-      → StaysClean content honest broken old new result
+      → (fits (g.content middle) → cleans (g.content middle) → StaysClean g middle new result)
+      → StaysClean g old new result
   clean_after_looking result then = record {
     never = λ h none clean. (both h clean).never h (whole ∙ none) (ap are_clean (same h) ∙ clean);
     rows = λ h clean. (both h clean).rows h (ap are_clean (same h) ∙ clean);
   }
     where
-      same : honest new → content middle ≡ content old
+      same : g.honest new → g.content middle ≡ g.content old
       same h = stays.content_stays (was h)
 
-      both : honest new → are_clean (content old) ≡ true → StaysClean content honest broken middle new result
+      both : g.honest new → are_clean (g.content old) ≡ true → StaysClean g middle new result
       both h clean = then (subst fits (sym (same h)) (fit (was h))) (subst cleans (sym (same h)) (fine (was h) clean))
 
 -- what is committed
 
-clean_by : {S X : Type 0} (content : S → Tables) (old new : S) (result : Result X StoreFault) (after : Tables)
-    → OnOk result (content new ≡ after)
-    → OnErr result (content new ≡ content old)
-    → are_clean (content old) ≡ true
+clean_by : {S X : Type 0} (g : Ghosts S) (old new : S) (result : Result X StoreFault) (after : Tables)
+    → OnOk result (g.content new ≡ after)
+    → OnErr result (g.content new ≡ g.content old)
+    → are_clean (g.content old) ≡ true
     → are_clean after ≡ true
-    → are_clean (content new) ≡ true
-clean_by content old new (Ok x) after done kept before fine = ap are_clean done ∙ fine
-clean_by content old new (Err fault) after done kept before fine = ap are_clean kept ∙ before
+    → are_clean (g.content new) ≡ true
+clean_by g old new (Ok x) after done kept before fine = ap are_clean done ∙ fine
+clean_by g old new (Err fault) after done kept before fine = ap are_clean kept ∙ before
 
-commits_clean : {S X : Type 0} (content : S → Tables) (honest : S → Type 0) (left : S → Tables → Type 0)
-    (broken : S → Option LastingFault) (old new : S) (changes : List Change) (result : Result X StoreFault)
-    → Commits content honest left broken old new changes result
-    → Fit changes (content old)
-    → have_places changes (content old) ≡ true
-    → are_clean (apply_all changes (content old)) ≡ true
-    → StaysClean content honest broken old new result
-commits_clean content honest left broken old new changes result commits fit places fine = record {
+commits_clean : {S X : Type 0} (g : Ghosts S) (old new : S) (changes : List Change) (result : Result X StoreFault)
+    → Commits g.content g.honest g.left g.broken old new changes result
+    → Fit changes (g.content old)
+    → have_places changes (g.content old) ≡ true
+    → are_clean (apply_all changes (g.content old)) ≡ true
+    → StaysClean g old new result
+commits_clean g old new changes result commits fit places fine = record {
   never = λ h none clean is. elim (commits.unclean h none is fit places) [
     | inl e ↦ true≢false (sym clean ∙ e)
     | inr e ↦ true≢false (sym fine ∙ e)
   ];
   rows = λ h clean.
-      clean_by content old new result (apply_all changes (content old)) (commits.done h fit) (commits.kept h) clean fine;
+      clean_by g old new result (apply_all changes (g.content old)) (commits.done h fit) (commits.kept h) clean fine;
 }
 
 -- Taken marks.
@@ -118,36 +115,35 @@ taking_is entry is number changes column not_yet mark e =
     e ∙ ap (λ n. SetMail (record entry { taken = n }) ∷ []) mark
     ∙ sym (ap (λ v. cond v [] (SetMail (record entry { taken = truth_number true }) ∷ [])) untaken)
 
-pub mark_clean : {S X : Type 0} (content : S → Tables) (honest : S → Type 0) (left : S → Tables → Type 0)
-    (broken : S → Option LastingFault) (old middle new : S)
-    → Stays content honest left old middle
-    → broken middle ≡ broken old
+pub mark_clean : {S X : Type 0} (g : Ghosts S) (old middle new : S)
+    → Stays g old middle
+    → g.broken middle ≡ g.broken old
     → (gln : List ℕ) (number : ℕ) (entry : MailRow)
-    → (honest middle → entry_at (view gln (content old)) number ≡ Some entry)
-    → (honest middle → Rising (apply_all (taking entry) (content old)))
+    → (g.honest middle → entry_at (view gln (g.content old)) number ≡ Some entry)
+    → (g.honest middle → Rising (apply_all (taking entry) (g.content old)))
     → (changes : List Change)
     → changes ≡ taking entry
     → (result : Result X StoreFault)
-    → Commits content honest left broken middle new changes result
-    → StaysClean content honest broken old new result
-mark_clean content honest left broken old middle new stays whole gln number entry found rises changes is result commits =
-    let t = content old in
-    clean_after_looking content honest left broken old middle new stays commits.was_honest whole
+    → Commits g.content g.honest g.left g.broken middle new changes result
+    → StaysClean g old new result
+mark_clean g old middle new stays whole gln number entry found rises changes is result commits =
+    let t = g.content old in
+    clean_after_looking g old middle new stays commits.was_honest whole
     (Fit (taking entry)) (λ t. (have_places (taking entry) t ≡ true) × (are_clean (apply_all (taking entry) t) ≡ true))
     (λ h. fit_uncleared (taking entry) t (uncleared entry) (rises h))
     (λ h clean. (taking_there gln number t entry (found h), cleaned_taken gln number t entry clean (found h)))
     result
-    (λ fit fine. commits_clean content honest left broken middle new (taking entry) result
-    (subst (λ changes. Commits content honest left broken middle new changes result) is commits) fit fine.0 fine.1)
+    (λ fit fine. commits_clean g middle new (taking entry) result
+    (subst (λ changes. Commits g.content g.honest g.left g.broken middle new changes result) is commits) fit fine.0 fine.1)
 
 -- the same fault of another call
-pub stays_at : {S X Y : Type 0} (content : S → Tables) (honest : S → Type 0) (broken : S → Option LastingFault) (old new : S)
+pub stays_at : {S X Y : Type 0} (g : Ghosts S) (old new : S)
     (fault : StoreFault)
-    → StaysClean {X = X} content honest broken old new (Err fault)
+    → StaysClean {X = X} g old new (Err fault)
     → (result : Result Y StoreFault)
     → result ≡ Err fault
-    → StaysClean content honest broken old new result
-stays_at content honest broken old new fault stays result is = record {
+    → StaysClean g old new result
+stays_at g old new fault stays result is = record {
   never = λ h none clean e. stays.never h none clean (fault_again fault Unclean (sym is ∙ e));
   rows = stays.rows;
 }

@@ -30,6 +30,7 @@ use Rattle.hub_texts.specs.HubRules.declared.verdict.Verdict.{Verdict}
 use Rattle.hub_texts.specs.HubRules.declared.verdict.Verdict.TheVariants.{Accept, Refuse}
 use Rattle.hub_store.specs.declared.fault.LastingFault.{LastingFault}
 use Rattle.hub_store.specs.declared.fault.StoreFault.{StoreFault}
+use Rattle.hub_store.specs.declared.store.Store.{Ghosts}
 use Rattle.hub_texts.proofs.HubRules.Joining as joining
 use Rattle.hub_texts.proofs.HubRules.Joining.{founded_sound}
 use Rattle.hub_tables.specs.Sets.{Fit, clears}
@@ -160,36 +161,36 @@ joined_as register row verdict is may t =
 abbrev Seen : Type 0
 Seen = Unit {0}
 
-module _ {S : Type 0} (content : S → Tables) (honest : S → Type 0) (left : S → Tables → Type 0) (old new : S)
+module _ {S : Type 0} (g : Ghosts S) (old new : S)
     (register : RegisterRows) (row : SupplierRow) (may : is_join row ≡ true) where
   -- one that is refused
   pub refused_carried : (verdict : Verdict) (reply : Reply)
       → judge_join register row ≡ verdict
       → ((t : Tables) → (act verdict t).1 ≡ t)
       → reply ≡ act_reply (told verdict)
-      → Carried content honest left old old (joined register Whole row) as_told (Ok reply)
+      → Carried g old old (joined register Whole row) as_told (Ok reply)
   refused_carried verdict reply is stays says = record {
-    done = λ h. joined_as register row verdict is may (content old) ∙ (λ i. (sym says i, stays (content old) i));
+    done = λ h. joined_as register row verdict is may (g.content old) ∙ (λ i. (sym says i, stays (g.content old) i));
     durable = λ h t l. inr (refl, l);
     crash = λ h. tt;
   }
 
   module _ (changes : List Change) (accepted : judge_join register row ≡ Accept changes)
-      (here : SoundHub (content old)) (of_tables : register ≡ register_of (content old)) where
-    pub fits : Fit changes (content old)
+      (here : SoundHub (g.content old)) (of_tables : register ≡ register_of (g.content old)) where
+    pub fits : Fit changes (g.content old)
     fits =
-        fit_uncleared changes (content old)
+        fit_uncleared changes (g.content old)
         (subst (AllByRecursion (λ change. clears change ≡ false)) (sym (changes_are register row changes accepted))
         (refl, prefixes_clear_none row.gln row.prefixes))
-        (sound_rises (apply_all changes (content old)) (sound_with register row changes accepted may (content old) here of_tables))
+        (sound_rises (apply_all changes (g.content old)) (sound_with register row changes accepted may (g.content old) here of_tables))
 
     -- one that is let in
     pub let_in_carried : (reply : Reply) (done : Seen)
         → reply ≡ act_reply (told (Accept changes))
-        → (Fit changes (content old) → Carried content honest left old new (act (Accept changes)) (λ _. Accepted) (Ok done))
-        → Carried content honest left old new (joined register Whole row) as_told (Ok reply)
+        → (Fit changes (g.content old) → Carried g old new (act (Accept changes)) (λ _. Accepted) (Ok done))
+        → Carried g old new (joined register Whole row) as_told (Ok reply)
     let_in_carried reply done says then = record {
-      done = λ h. joined_as register row (Accept changes) accepted may (content old)
+      done = λ h. joined_as register row (Accept changes) accepted may (g.content old)
           ∙ (λ i. (sym says i, ((then fits).done h i).1));
       durable = (then fits).durable;
       crash = λ h. tt;
@@ -198,28 +199,28 @@ module _ {S : Type 0} (content : S → Tables) (honest : S → Type 0) (left : S
     -- one that the store did not take
     pub let_in_failed : (fault other : StoreFault) (result : Result Reply StoreFault)
         → result ≡ Err other
-        → (Fit changes (content old)
-        → Carried {X = Seen} content honest left old new (act (Accept changes)) (λ _. Accepted) (Err fault))
-        → Carried content honest left old new (joined register Whole row) as_told result
+        → (Fit changes (g.content old)
+        → Carried {X = Seen} g old new (act (Accept changes)) (λ _. Accepted) (Err fault))
+        → Carried g old new (joined register Whole row) as_told result
     let_in_failed fault other result is then =
-        subst (λ (r : Result Reply StoreFault). Carried content honest left old new (joined register Whole row) as_told r)
+        subst (λ (r : Result Reply StoreFault). Carried g old new (joined register Whole row) as_told r)
         (sym is) (record {
           done = λ h. tt;
           durable = λ h. tt;
           crash = λ h t l. elim ((then fits).crash h t l) [
             | inl e ↦ inl e
             | inr e ↦ inr (e ∙ sym
-                (ap (λ (after : Reply × Tables). after.1) (joined_as register row (Accept changes) accepted may (content old))))
+                (ap (λ (after : Reply × Tables). after.1) (joined_as register row (Accept changes) accepted may (g.content old))))
           ];
         })
 
     -- the register is that of the tables again
     pub let_in_same : (done : Seen)
-        → (Fit changes (content old) → Carried content honest left old new (act (Accept changes)) (λ _. Accepted) (Ok done))
-        → honest new
-        → joined_by row register ≡ register_of (content new)
+        → (Fit changes (g.content old) → Carried g old new (act (Accept changes)) (λ _. Accepted) (Ok done))
+        → g.honest new
+        → joined_by row register ≡ register_of (g.content new)
     let_in_same done then h =
-        of_tables_with register row changes accepted may (content old) here of_tables
+        of_tables_with register row changes accepted may (g.content old) here of_tables
         ∙ ap register_of (λ i. ((then fits).done h i).1)
 
 -- How it fails.

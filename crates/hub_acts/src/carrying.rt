@@ -8,7 +8,7 @@ ghost use Rattle.hub_store.specs.Clean.{are_clean};
 ghost use Rattle.hub_texts.specs.HubRules.declared.verdict.Verdict.TheVariants.{Accept};
 ghost use Rattle.hub_clean.specs.HubLaw.Replies.{act_reply};
 ghost use Rattle.hub_clean.specs.HubLaw.Told.{act, told};
-ghost use Rattle.hub_acts.specs.Acts.{Carried, FailsWith, NoCause, Unharmed, any_answer};
+ghost use Rattle.hub_acts.specs.Acts.{Carried, FailsOver, NoCause, Unharmed, any_answer};
 ghost use Rattle.hub_acts.specs.Verdicts.{VerdictFits};
 ghost use Rattle.hub_clean.specs.Clean.{VerdictClean};
 ghost use Rattle.hub_acts.specs.StaysClean.{StaysClean};
@@ -61,11 +61,11 @@ fn make<S: Store>(store: &mut S, changes: &[Change]) -> Result<(), StoreFault>
         (t ≡ S.content store.new) ⊎ ((S.content store.new ≡ S.content store.old) × S.left store.old t)) }
     ensures crash { S.honest store.new → OnErr result ((t : Tables) → S.left store.new t →
         S.left store.old t ⊎ (t ≡ apply_all changes.now (S.content store.old))) }
-    ensures fails { FailsWith S.plain NoCause any_answer (S.broken store.old) (S.broken store.new) result }
-    ensures unharmed { Unharmed S.content S.honest store.old store.new result }
+    ensures fails { FailsOver S.Store NoCause any_answer store.old store.new result }
+    ensures unharmed { Unharmed S.Store store.old store.new result }
     ensures clean { Fit changes.now (S.content store.old) → have_places changes.now (S.content store.old) ≡ true →
         are_clean (apply_all changes.now (S.content store.old)) ≡ true →
-        StaysClean S.content S.honest S.broken store.old store.new result }
+        StaysClean S.Store store.old store.new result }
 {
     if changes.is_empty() {
         return Ok(());
@@ -76,12 +76,12 @@ fn make<S: Store>(store: &mut S, changes: &[Change]) -> Result<(), StoreFault>
 /// Carries out what the rules say.
 pub fn carry_out<S: Store>(store: &mut S, verdict: &Verdict) -> Result<Decision, StoreFault>
     ensures carried { VerdictFits verdict.now (S.content store.old) →
-        Carried S.content S.honest S.left store.old store.new (act verdict.now) told_of result }
+        Carried S.Store store.old store.new (act verdict.now) told_of result }
     ensures told { IfOk result (λ seen. told verdict.now ≡ told_of seen) }
-    ensures fails { FailsWith S.plain NoCause any_answer (S.broken store.old) (S.broken store.new) result }
-    ensures unharmed { Unharmed S.content S.honest store.old store.new result }
+    ensures fails { FailsOver S.Store NoCause any_answer store.old store.new result }
+    ensures unharmed { Unharmed S.Store store.old store.new result }
     ensures clean { VerdictFits verdict.now (S.content store.old) → VerdictClean verdict.now (S.content store.old) →
-        StaysClean S.content S.honest S.broken store.old store.new result }
+        StaysClean S.Store store.old store.new result }
 {
     match verdict {
         Verdict::Refuse(code) => Ok(Decision::Refused(*code)),

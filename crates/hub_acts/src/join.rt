@@ -15,7 +15,7 @@ ghost use Rattle.hub_clean.specs.HubLaw.Mark.{Whole};
 ghost use Rattle.hub_clean.specs.HubLaw.Replies.{act_reply};
 ghost use Rattle.hub_clean.specs.HubLaw.Requests.{joined};
 ghost use Rattle.hub_clean.specs.HubLaw.Told.{Accepted, act, told};
-ghost use Rattle.hub_acts.specs.Acts.{Carried, FailsWith, NoCause, OfAny, Unharmed, as_told, no_answer};
+ghost use Rattle.hub_acts.specs.Acts.{Carried, FailsOver, NoCause, OfAny, Unharmed, as_told, no_answer};
 ghost use Rattle.hub_acts.specs.Joins.{MovesBy, after_join};
 ghost use Rattle.hub_acts.specs.StaysClean.{StaysClean};
 
@@ -42,14 +42,14 @@ fn let_in<S: Store>(
     requires takes { IsRegister (joined_by row.now register.old) }
     requires goes { left_by row.now.gln (joined_by row.now register.old) ≡ register.old }
     ensures carried { Fit changes.now (S.content store.old) →
-        Carried S.content S.honest S.left store.old store.new (act (Accept changes.now))
+        Carried S.Store store.old store.new (act (Accept changes.now))
         (λ _. Accepted) result }
     ensures taken { OnOk result (register.new ≡ joined_by row.now register.old) }
     ensures register_stays { OnErr result (register.new ≡ register.old) }
-    ensures fails { FailsWith S.plain NoCause no_answer (S.broken store.old) (S.broken store.new) result }
-    ensures unharmed { Unharmed S.content S.honest store.old store.new result }
+    ensures fails { FailsOver S.Store NoCause no_answer store.old store.new result }
+    ensures unharmed { Unharmed S.Store store.old store.new result }
     ensures clean { Fit changes.now (S.content store.old) → are_clean (apply_all changes.now (S.content store.old)) ≡ true →
-        StaysClean S.content S.honest S.broken store.old store.new result }
+        StaysClean S.Store store.old store.new result }
 {
     let copy = row.copy(alloc)?;
     register.join(copy)?;
@@ -84,7 +84,7 @@ fn carry_out_join<S: Store>(
     ensures refused { joins register.old join.now ≡ false →
         (result ≡ Ok reply) × (register.new ≡ register.old) × (store.new ≡ store.old) }
     ensures carried { SoundHub (S.content store.old) → register.old ≡ register_of (S.content store.old) →
-        Carried S.content S.honest S.left store.old store.new (joined register.old Whole join.now) as_told result }
+        Carried S.Store store.old store.new (joined register.old Whole join.now) as_told result }
     ensures same { S.honest store.new → SoundHub (S.content store.old) →
         register.old ≡ register_of (S.content store.old) →
         register.new ≡ register_of (S.content store.new) }
@@ -93,11 +93,11 @@ fn carry_out_join<S: Store>(
     ensures taken { OnOk result (register.new ≡ after_join join.now register.old) }
     ensures register_stays { OnErr result (register.new ≡ register.old) }
     ensures broken { IfSome (S.broken store.old) (λ _. register.new ≡ register.old) }
-    ensures fails { FailsWith S.plain NoCause (OfAny (joined register.old Whole join.now) as_told)
-        (S.broken store.old) (S.broken store.new) result }
-    ensures unharmed { Unharmed S.content S.honest store.old store.new result }
+    ensures fails { FailsOver S.Store NoCause (OfAny (joined register.old Whole join.now) as_told)
+        store.old store.new result }
+    ensures unharmed { Unharmed S.Store store.old store.new result }
     ensures clean { SoundHub (S.content store.old) → register.old ≡ register_of (S.content store.old) →
-        StaysClean S.content S.honest S.broken store.old store.new result }
+        StaysClean S.Store store.old store.new result }
 {
     let row = join.row();
     let changes = match verdict {
@@ -118,7 +118,7 @@ pub fn take_join<S: Store>(
     join: &Join,
 ) -> Result<Reply, StoreFault>
     ensures carried { SoundHub (S.content store.old) → register.old ≡ register_of (S.content store.old) →
-        Carried S.content S.honest S.left store.old store.new (joined register.old Whole join.now) as_told result }
+        Carried S.Store store.old store.new (joined register.old Whole join.now) as_told result }
     ensures same { S.honest store.new → SoundHub (S.content store.old) →
         register.old ≡ register_of (S.content store.old) →
         register.new ≡ register_of (S.content store.new) }
@@ -128,11 +128,11 @@ pub fn take_join<S: Store>(
     ensures register_stays { OnErr result (register.new ≡ register.old) }
     ensures broken { IfSome (S.broken store.old) (λ _. register.new ≡ register.old) }
     ensures refused { joins register.old join.now ≡ false → store.new ≡ store.old }
-    ensures fails { FailsWith S.plain NoCause (OfAny (joined register.old Whole join.now) as_told)
-        (S.broken store.old) (S.broken store.new) result }
-    ensures unharmed { Unharmed S.content S.honest store.old store.new result }
+    ensures fails { FailsOver S.Store NoCause (OfAny (joined register.old Whole join.now) as_told)
+        store.old store.new result }
+    ensures unharmed { Unharmed S.Store store.old store.new result }
     ensures clean { SoundHub (S.content store.old) → register.old ≡ register_of (S.content store.old) →
-        StaysClean S.content S.honest S.broken store.old store.new result }
+        StaysClean S.Store store.old store.new result }
 {
     is_register(register);
     let verdict = judge_join(alloc, register, join)?;

@@ -13,4 +13,4 @@ pub use hub_clean::{
 pub use hub_texts as texts;
 pub use hub_texts::{Join, Reply};
 pub use join::take_join;
-pub use mailbox::{done_reply, mailbox_entry, mailbox_list, take_entry};
+pub use mailbox::{done_reply, mailbox_entry, mailbox_list, take_entry, unknown_reply};

@@ -9,7 +9,7 @@ ghost use Rattle.hub_clean.specs.HubLaw.MailText.{list_text};
 ghost use Rattle.hub_clean.specs.HubLaw.Mark.{Whole};
 ghost use Rattle.hub_clean.specs.HubLaw.Replies.{unknown, done, entry_reply};
 ghost use Rattle.hub_clean.specs.HubLaw.Requests.{taken};
-ghost use Rattle.hub_acts.specs.Acts.{Carried, FailsWith, NoCause, Unharmed, Stays, as_told, no_answer};
+ghost use Rattle.hub_acts.specs.Acts.{Carried, FailsOver, NoCause, Unharmed, Stays, as_told, no_answer};
 ghost use Rattle.hub_acts.specs.StaysClean.{StaysClean};
 
 use edi_base::{Items, MemoryFault, copied};
@@ -34,8 +34,8 @@ pub fn done_reply(body: Items<u8>) -> Reply
     }
 }
 
-// A reply that there is no such thing.
-fn unknown_reply(alloc: Global) -> Result<Reply, MemoryFault>
+/// A reply that there is no such thing.
+pub fn unknown_reply(alloc: Global) -> Result<Reply, MemoryFault>
     ensures { IfOk result (λ reply. reply ≡ unknown) }
 {
     Ok(Reply {
@@ -55,8 +55,8 @@ pub fn mailbox_list<S: Store>(
     ensures reply { S.honest store.new →
         IfOk result (λ reply.
         reply ≡ done (list_text (untaken_after (view supplier.now (S.content store.old)) number))) }
-    ensures fails { FailsWith S.plain NoCause no_answer (S.broken store.old) (S.broken store.new) result }
-    ensures stays { Stays S.content S.honest S.left store.old store.new }
+    ensures fails { FailsOver S.Store NoCause no_answer store.old store.new result }
+    ensures stays { Stays S.Store store.old store.new }
 {
     let heads = store.mail_after(supplier, number, LISTED_AND_ONE)?;
     let text = list_text(alloc, heads.as_slice())?;
@@ -74,8 +74,8 @@ pub fn mailbox_entry<S: Store>(
     ensures reply { S.honest store.new →
         IfOk result (λ reply. reply ≡ entry_reply hub.now
         (entry_at (view supplier.now (S.content store.old)) number)) }
-    ensures fails { FailsWith S.plain NoCause no_answer (S.broken store.old) (S.broken store.new) result }
-    ensures stays { Stays S.content S.honest S.left store.old store.new }
+    ensures fails { FailsOver S.Store NoCause no_answer store.old store.new result }
+    ensures stays { Stays S.Store store.old store.new }
 {
     let Some(entry) = store.mail_item(supplier, number)? else {
         return Ok(unknown_reply(alloc)?);
@@ -103,13 +103,13 @@ pub fn take_entry<S: Store>(
 ) -> Result<Reply, StoreFault>
     ensures carried { (register : RegisterRows) (s : SupplierRow) → s.gln ≡ supplier.now →
         Registered register.suppliers s (S.content store.old) → PartiesRise (S.content store.old) →
-        Carried S.content S.honest S.left store.old store.new (λ t.
+        Carried S.Store store.old store.new (λ t.
         taken Whole (entry_at (view supplier.now t) number) t) as_told result }
-    ensures fails { FailsWith S.plain NoCause no_answer (S.broken store.old) (S.broken store.new) result }
-    ensures unharmed { Unharmed S.content S.honest store.old store.new result }
+    ensures fails { FailsOver S.Store NoCause no_answer store.old store.new result }
+    ensures unharmed { Unharmed S.Store store.old store.new result }
     ensures clean { (register : RegisterRows) (s : SupplierRow) → s.gln ≡ supplier.now →
         Registered register.suppliers s (S.content store.old) → PartiesRise (S.content store.old) →
-        StaysClean S.content S.honest S.broken store.old store.new result }
+        StaysClean S.Store store.old store.new result }
 {
     acts_stay_sound();
     let Some(mut entry) = store.mail_item(supplier, number)? else {

@@ -1,6 +1,7 @@
 //! Imports files.
 ghost use Rattle.std.specs.Prelude.{◌≡◌, ◌≢◌, Err, IfOk, IfErr};
-ghost use Rattle.hub_core.specs.Steps.{SoundWith, Stepped, Ran, input_of};
+ghost use Rattle.hub_core.specs.Hub.{RunsFrom, StaysSound, StepsFrom};
+ghost use Rattle.hub_core.specs.Steps.{input_of};
 ghost use Rattle.hub_commands.specs.Files.{OpensSource, FaultComesOf, HasFailed};
 ghost use Rattle.hub_commands.specs.Import.{Imported};
 ghost use Rattle.hub_commands.specs.OneFile.{FaultComes, LooksAt, ReplyComes};
@@ -103,14 +104,11 @@ fn import_file<S: Store, B: Source + Drop, W: Sink>(
     out: &mut W,
 ) -> Result<u8, Ended>
     ensures looks_at { LooksAt B.remaining (HasFailed B.origin B.failed)
-        (λ bytes reply. S.honest hub.new.1 → SoundWith hub.old.0 (S.content hub.old.1) →
-        Stepped (S.content hub.old.1) (S.content hub.new.1) (S.left hub.old.1) (S.left hub.new.1)
-        (input_of moment caller.now key.now (Upload bytes)) reply)
+        (λ bytes. StepsFrom S.Store hub.old hub.new (input_of moment caller.now key.now (Upload bytes)))
         (hub.new ≡ hub.old) file (W.contents out.old) (W.contents out.new)
         (W.failed out.old) (W.failed out.new)
         result }
-    ensures held { S.honest hub.new.1 → SoundWith hub.old.0 (S.content hub.old.1) →
-        SoundWith hub.new.0 (S.content hub.new.1) }
+    ensures held { StaysSound S.Store hub.old hub.new }
     ensures register { hub.new.0 ≡ hub.old.0 }
     ensures was_honest { S.honest hub.new.1 → S.honest hub.old.1 }
 {
@@ -148,12 +146,9 @@ pub fn import_run<S: Store, F: Files, W: Sink>(
     out: &mut W,
 ) -> u8
     ensures imported { Imported F.Bytes.remaining (HasFailed F.Bytes.origin F.Bytes.failed)
-        (λ inputs replies. S.honest hub.new.1 → SoundWith hub.old.0 (S.content hub.old.1) →
-        Ran (S.content hub.old.1) (S.content hub.new.1) (S.left hub.old.1) (S.left hub.new.1) inputs replies)
-        (λ bytes. input_of moment caller.now key.now (Upload bytes)) (F.remaining files.old)
+        (RunsFrom S.Store hub.old hub.new) (λ bytes. input_of moment caller.now key.now (Upload bytes)) (F.remaining files.old)
         (F.remaining files.new) (W.contents out.old) (W.contents out.new) (W.failed out.old) (W.failed out.new) result }
-    ensures held { S.honest hub.new.1 → SoundWith hub.old.0 (S.content hub.old.1) →
-        SoundWith hub.new.0 (S.content hub.new.1) }
+    ensures held { StaysSound S.Store hub.old hub.new }
     ensures register { hub.new.0 ≡ hub.old.0 }
     ensures was_honest { S.honest hub.new.1 → S.honest hub.old.1 }
 {

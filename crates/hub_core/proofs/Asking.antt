@@ -8,6 +8,7 @@ use Rattle.edi_envelope.specs.declared.interchange.RawMessage.{RawMessage}
 use Rattle.hub_parties.specs.declared.row.SupplierRow.{SupplierRow}
 use Rattle.hub_tables.specs.Tables.{Tables}
 use Rattle.hub_store.specs.declared.fault.StoreFault.{StoreFault}
+use Rattle.hub_store.specs.declared.store.Store.{Ghosts}
 use Rattle.hub_rules.specs.declared.incoming.IncomingMessage.{IncomingMessage}
 use Rattle.hub_law.specs.Mark.{Whole, StoppedBare}
 use Rattle.hub_law.specs.Opening.{Opened}
@@ -20,13 +21,13 @@ use Rattle.hub_requests.specs.declared.reply.Reply.{Reply}
 use Rattle.hub_transactions.specs.Acts.{Stays, Carried, Unharmed, as_told}
 use Rattle.hub_core.specs.Steps.{Does, OneMore, Answered, Asked, acts_of}
 
-module _ {S : Type 0} (content : S → Tables) (honest : S → Type 0) (left : S → Tables → Type 0) (old new : S) (count : ℕ)
+module _ {S : Type 0} (g : Ghosts S) (old new : S) (count : ℕ)
     (does : Does) where
-  still : honest new
-      → Stays content honest left old new
+  still : g.honest new
+      → Stays g old new
       → (reply : Reply)
-      → does Whole (content old) ≡ (reply, content old)
-      → Answered content left old new count does reply
+      → does Whole (g.content old) ≡ (reply, g.content old)
+      → Answered g old new count does reply
   still h stays reply is = record {
     mark = Whole;
     is = is ∙ ap (λ t. (reply, t)) (sym (stays.content_stays h));
@@ -34,12 +35,12 @@ module _ {S : Type 0} (content : S → Tables) (honest : S → Type 0) (left : S
   }
 
   pub by_look : (result : Result Reply StoreFault) (reply : Reply)
-      → Stays content honest left old new
-      → (honest new → IfOk result (λ given. given ≡ reply))
-      → does Whole (content old) ≡ (reply, content old) → Asked content honest left old new count does result
+      → Stays g old new
+      → (g.honest new → IfOk result (λ given. given ≡ reply))
+      → does Whole (g.content old) ≡ (reply, g.content old) → Asked g old new count does result
   by_look (Ok given) reply stays says is =
       record {
-        answered = λ h. still h stays given (is ∙ ap (λ reply. (reply, content old)) (sym (says h)));
+        answered = λ h. still h stays given (is ∙ ap (λ reply. (reply, g.content old)) (sym (says h)));
         undone = λ h. tt;
       }
   by_look (Err fault) reply stays says is = record {
@@ -48,13 +49,13 @@ module _ {S : Type 0} (content : S → Tables) (honest : S → Type 0) (left : S
   }
 
   pub by_act : (act : Tables → Reply × Tables) (result : Result Reply StoreFault) → count ≡ 1 → ((t : Tables) → does Whole t ≡ act t)
-      → Carried content honest left old new act as_told result
-      → Unharmed content honest old new result
-      → Asked content honest left old new count does result
+      → Carried g old new act as_told result
+      → Unharmed g old new result
+      → Asked g old new count does result
   by_act act (Ok reply) one is carried unharmed = record {
     answered = λ h. record {
       mark = Whole;
-      is = is (content old) ∙ carried.done h;
+      is = is (g.content old) ∙ carried.done h;
       leaves = λ u l. elim (carried.durable h u l) [
         | inl e ↦ inl e
         | inr e ↦ inr (inl e)
@@ -68,21 +69,21 @@ module _ {S : Type 0} (content : S → Tables) (honest : S → Type 0) (left : S
       same = unharmed.same h;
       leaves = λ u l. elim (carried.crash h u l) [
         | inl e ↦ inl e
-        | inr e ↦ inr (let more : OneMore count does (content old) StoppedBare u = record {
+        | inr e ↦ inr (let more : OneMore count does (g.content old) StoppedBare u = record {
           more = Whole;
           one = one;
-          is = ap (λ (r : Reply × Tables). r.1) (is (content old)) ∙ sym e;
+          is = ap (λ (r : Reply × Tables). r.1) (is (g.content old)) ∙ sym e;
         } in more)
       ];
     };
   }
 
 -- an upload
-module _ {S : Type 0} (content : S → Tables) (honest : S → Type 0) (left : S → Tables → Type 0)
+module _ {S : Type 0} (g : Ghosts S)
     (deliver : RawMessage × IncomingMessage → Act) (moment : ℕ) where
   abbrev pub AskedOf : S → S → Opened → Reply → Type 0
   AskedOf old new opened reply =
-      Asked content honest left old new (acts_of (opened_for deliver opened))
+      Asked g old new (acts_of (opened_for deliver opened))
       (λ mark t. uploaded deliver moment mark opened t) (Ok reply)
 
   pub upload_refused : (store : S) (opened : Opened) (code : List ℕ) (reply : Reply)
@@ -91,12 +92,12 @@ module _ {S : Type 0} (content : S → Tables) (honest : S → Type 0) (left : S
       → AskedOf store store opened reply
   upload_refused store opened code reply is says =
       subst (λ opened. AskedOf store store opened reply) (sym is)
-      (by_look content honest left store store 1 (λ mark t. uploaded deliver moment mark (Err code) t) (Ok reply) (refused_reply code)
+      (by_look g store store 1 (λ mark t. uploaded deliver moment mark (Err code) t) (Ok reply) (refused_reply code)
       (record { content_stays = λ h. refl; left_stays = λ h u l. l; was_honest = λ h. h }) (λ h. says) refl)
 
   pub upload_taken : (old new : S) (opened : Opened) (interchange : Interchange) (reply : Reply) → opened ≡ Ok interchange
-      → (honest new
-      → Answered content left old new (length interchange.messages)
+      → (g.honest new
+      → Answered g old new (length interchange.messages)
       (λ mark t. uploaded deliver moment mark (Ok interchange) t) reply)
       → AskedOf old new opened reply
   upload_taken old new opened interchange reply is answered =

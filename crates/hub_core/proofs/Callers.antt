@@ -7,6 +7,7 @@ use Rattle.hub_rules.specs.Laws.{SoundUnder, PartiesRise}
 use Rattle.hub_tables.specs.Register.{register_of}
 use Rattle.hub_tables.specs.Tables.{Tables, view}
 use Rattle.hub_store.specs.declared.fault.StoreFault.{StoreFault}
+use Rattle.hub_store.specs.declared.store.Store.{Ghosts}
 use Rattle.hub_tables.specs.Sets.{Rising}
 use Rattle.hub_law.proofs.Agreeing.{sound_rises}
 use Rattle.hub_law.specs.Machine.{step_under, step_as}
@@ -26,15 +27,15 @@ use Rattle.hub_core.specs.declared.caller.Caller.TheVariants.{Retailer, Supplier
 
 -- what a message leaves is such that its caller may send another
 pub holds_after :
-    {S X Y : Type 0} (holds : Tables → Type 0) (content : S → Tables) (honest : S → Type 0) (left : S → Tables → Type 0)
+    {S X Y : Type 0} (holds : Tables → Type 0) (g : Ghosts S)
     (old new : S)
     (act : Tables → Y × Tables) (seen : X → Y) (result : Result X StoreFault)
-    → Carried content honest left old new act seen result
-    → Unharmed content honest old new result
-    → honest new → holds (content old) → holds (act (content old)).1 → holds (content new)
-holds_after holds content honest left old new act seen (Ok x) carried unharmed h before after =
+    → Carried g old new act seen result
+    → Unharmed g old new result
+    → g.honest new → holds (g.content old) → holds (act (g.content old)).1 → holds (g.content new)
+holds_after holds g old new act seen (Ok x) carried unharmed h before after =
     subst holds (ap (λ r. r.1) (carried.done h)) after
-holds_after holds content honest left old new act seen (Err fault) carried unharmed h before after =
+holds_after holds g old new act seen (Err fault) carried unharmed h before after =
     subst holds (sym (unharmed.same h)) before
 
 -- at first no order is kept
@@ -43,20 +44,20 @@ none_kept_for Retailer t = tt
 none_kept_for (Supplier s) t = none_kept (view s.now.gln t)
 
 -- an upload of bytes, by what they are
-pub opened_asked : {S : Type 0} (content : S → Tables) (honest : S → Type 0) (left : S → Tables → Type 0) (old new : S)
+pub opened_asked : {S : Type 0} (g : Ghosts S) (old new : S)
     (register : RegisterRows) (caller : Caller) (moment : ℕ) (bytes : List ℕ) (upload : Opened) (result : Result Reply StoreFault)
     → interchange_in bytes ≡ upload
-    → (MayDeliver register caller (content old)
-    → Asked content honest left old new (acts_of (opened_for (delivered register caller) (addressed_by register caller upload)))
+    → (MayDeliver register caller (g.content old)
+    → Asked g old new (acts_of (opened_for (delivered register caller) (addressed_by register caller upload)))
     (λ mark t. uploaded (delivered register caller) moment mark (addressed_by register caller upload) t) result)
-    → MayDeliver register caller (content old)
-    → Asked content honest left old new (acts_by register caller (Upload bytes)) (request_of register caller moment (Upload bytes)) result
-opened_asked content honest left old new register Retailer moment bytes upload result is asked may =
-    subst (λ (opened : Opened). Asked content honest left old new
+    → MayDeliver register caller (g.content old)
+    → Asked g old new (acts_by register caller (Upload bytes)) (request_of register caller moment (Upload bytes)) result
+opened_asked g old new register Retailer moment bytes upload result is asked may =
+    subst (λ (opened : Opened). Asked g old new
     (acts_of (opened_for (delivered register Retailer) (addressed_by register Retailer opened)))
     (λ mark t. uploaded (delivered register Retailer) moment mark (addressed_by register Retailer opened) t) result) (sym is) (asked may)
-opened_asked content honest left old new register (Supplier s) moment bytes upload result is asked may =
-    subst (λ (opened : Opened). Asked content honest left old new
+opened_asked g old new register (Supplier s) moment bytes upload result is asked may =
+    subst (λ (opened : Opened). Asked g old new
     (acts_of (opened_for (delivered register (Supplier s)) (addressed_by register (Supplier s) opened)))
     (λ mark t. uploaded (delivered register (Supplier s)) moment mark (addressed_by register (Supplier s) opened) t) result) (sym is)
     (asked may)
@@ -104,18 +105,18 @@ module _ (register : RegisterRows) (input : Input) where
       sym (ap (λ role. acts_of (upload_by register role (row_of register input.caller) input.request)) known.0
       ∙ ap (λ row. acts_of (upload_by register (Some roles.Supplier) row input.request)) known.1)
 
-  pub asked_as : {S : Type 0} (content : S → Tables) (honest : S → Type 0) (left : S → Tables → Type 0) (old new : S)
+  pub asked_as : {S : Type 0} (g : Ghosts S) (old new : S)
       (caller : Caller) (result : Result Reply StoreFault)
       → Known caller
-      → (MayDeliver register caller (content old)
-      → Asked content honest left old new (acts_by register caller input.request)
+      → (MayDeliver register caller (g.content old)
+      → Asked g old new (acts_by register caller input.request)
       (request_of register caller input.moment input.request) result)
-      → SoundWith register (content old)
-      → Asked content honest left old new (acts_of (upload_of register input))
+      → SoundWith register (g.content old)
+      → Asked g old new (acts_of (upload_of register input))
       (λ mark t. step_under register t input mark) result
-  asked_as content honest left old new caller result known asked hub =
-      subst (λ (does : Does). Asked content honest left old new (acts_of (upload_of register input)) does result)
+  asked_as g old new caller result known asked hub =
+      subst (λ (does : Does). Asked g old new (acts_of (upload_of register input)) does result)
       (λ i mark t. step_is caller known mark t i)
       (subst
-      (λ count. Asked content honest left old new count (request_of register caller input.moment input.request) result)
-      (acts_are caller known) (asked (may (content old) caller known hub)))
+      (λ count. Asked g old new count (request_of register caller input.moment input.request) result)
+      (acts_are caller known) (asked (may (g.content old) caller known hub)))

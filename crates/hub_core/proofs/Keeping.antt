@@ -6,6 +6,7 @@ use Rattle.hub_parties.specs.declared.row.SupplierRow.{SupplierRow}
 use Rattle.hub_tables.specs.Register.{register_of, suppliers_of}
 use Rattle.hub_tables.specs.Tables.{Tables}
 use Rattle.hub_store.specs.declared.fault.StoreFault.{StoreFault}
+use Rattle.hub_store.specs.declared.store.Store.{Ghosts}
 use Rattle.hub_rules.specs.Laws.{SoundHub, PartiesStay}
 use Rattle.hub_rules.proofs.Prefixes.{gln_found}
 use Rattle.hub_law.specs.Machine.{shared_step}
@@ -89,16 +90,16 @@ join_or_none (requests.Cancel c) = inr (λ row e. cc)
 join_or_none (requests.Join row) = inl (row, refl)
 
 -- what changes nothing whatever the tables
-pub content_kept : {S : Type 0} (content : S → Tables) (honest : S → Type 0) (left : S → Tables → Type 0) (old new : S) (count : ℕ)
+pub content_kept : {S : Type 0} (g : Ghosts S) (old new : S) (count : ℕ)
     (does : Does) (result : Result Reply StoreFault)
     → ((mark : Mark) (t : Tables) → (does mark t).1 ≡ t)
-    → Asked content honest left old new count does result
-    → honest new
-    → content new ≡ content old
-content_kept content honest left old new count does (Ok reply) idle asked h =
+    → Asked g old new count does result
+    → g.honest new
+    → g.content new ≡ g.content old
+content_kept g old new count does (Ok reply) idle asked h =
     let a = asked.answered h in
-    sym (ap (λ (r : Reply × Tables). r.1) a.is) ∙ idle a.mark (content old)
-content_kept content honest left old new count does (Err fault) idle asked h = (asked.undone h).same
+    sym (ap (λ (r : Reply × Tables). r.1) a.is) ∙ idle a.mark (g.content old)
+content_kept g old new count does (Err fault) idle asked h = (asked.undone h).same
 
 -- A join that is not accepted leaves the register.
 other_outcome : (reply : Reply) → reply.outcome ≢ Done → reply ≢ act_reply Accepted
@@ -124,7 +125,7 @@ module _ (row : SupplierRow) (register : RegisterRows) (does : Does) (reply : Re
     );
   }
 
--- the same of what does the same
+-- a join, as another says it that does the same
 pub join_as : (row : SupplierRow) (old new : RegisterRows) (does same : Does) (result : Result Reply StoreFault)
     → ((t : Tables) → does Whole t ≡ same Whole t)
     → IfOk result (JoinAnswered row old new does)

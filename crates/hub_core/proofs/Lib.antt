@@ -8,3 +8,4 @@ pub mod Keeping
 pub mod Openings
 pub mod SoFar
 pub mod Steps
+pub mod Stopping

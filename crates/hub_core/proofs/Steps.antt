@@ -10,6 +10,7 @@ use Rattle.hub_parties.specs.Rows.{RegisterRows}
 use Rattle.hub_tables.specs.Register.{register_of, parties_in}
 use Rattle.hub_tables.specs.Tables.{Tables, view}
 use Rattle.hub_store.specs.declared.fault.StoreFault.{StoreFault}
+use Rattle.hub_store.specs.declared.store.Store.{Ghosts}
 use Rattle.hub_rules.specs.Laws.{SoundHub}
 use Rattle.hub_law.specs.Laws.{StepIsOwn, RunIsOwn, IsOther, own_report}
 use Rattle.hub_law.specs.Machine.{Inputs, step_under, shared_step, shared_run, replies_to}
@@ -36,20 +37,20 @@ module _ (count : ℕ) (does same : Does) (t : Tables) (agree : (mark : Mark) �
     is = sym (ap (λ (r : Reply × Tables). r.1) (agree more.more)) ∙ more.is;
   }))
 
-pub asked_same : {S : Type 0} (content : S → Tables) (honest : S → Type 0) (left : S → Tables → Type 0) (old new : S) (count : ℕ)
+pub asked_same : {S : Type 0} (g : Ghosts S) (old new : S) (count : ℕ)
     (does same : Does) (result : Result Reply StoreFault)
-    → ((mark : Mark) → does mark (content old) ≡ same mark (content old))
-    → Asked content honest left old new count does result
-    → Asked content honest left old new count same result
-asked_same content honest left old new count does same (Ok answer) agree asked = record {
+    → ((mark : Mark) → does mark (g.content old) ≡ same mark (g.content old))
+    → Asked g old new count does result
+    → Asked g old new count same result
+asked_same g old new count does same (Ok answer) agree asked = record {
   answered = λ h. let a = asked.answered h in record {
     mark = a.mark;
     is = sym (agree a.mark) ∙ a.is;
-    leaves = λ u l. leaves_as count does same (content old) agree a.mark (content new) (left old) u (a.leaves u l);
+    leaves = λ u l. leaves_as count does same (g.content old) agree a.mark (g.content new) (g.left old) u (a.leaves u l);
   };
   undone = λ h. tt;
 }
-asked_same content honest left old new count does same (Err fault) agree asked = record {
+asked_same g old new count does same (Err fault) agree asked = record {
   answered = λ h. tt;
   undone = λ h. let a = asked.undone h in record {
     same = a.same;
@@ -65,17 +66,17 @@ asked_same content honest left old new count does same (Err fault) agree asked =
 }
 
 -- under the register that the tables hold
-pub asked_with : {S : Type 0} (content : S → Tables) (honest : S → Type 0) (left : S → Tables → Type 0) (old new : S)
+pub asked_with : {S : Type 0} (g : Ghosts S) (old new : S)
     (register : RegisterRows) (input : Input) (result : Result Reply StoreFault)
-    → SoundWith register (content old)
-    → Asked content honest left old new (acts_of (upload_of register input)) (λ mark t. step_under register t input mark) result
-    → Asked content honest left old new (acts_of (upload_of (register_of (content old)) input)) (λ mark t. shared_step t input mark) result
-asked_with content honest left old new register input result here asked =
-    subst (λ (r : RegisterRows). Asked content honest left old new
+    → SoundWith register (g.content old)
+    → Asked g old new (acts_of (upload_of register input)) (λ mark t. step_under register t input mark) result
+    → Asked g old new (acts_of (upload_of (register_of (g.content old)) input)) (λ mark t. shared_step t input mark) result
+asked_with g old new register input result here asked =
+    subst (λ (r : RegisterRows). Asked g old new
     (acts_of (upload_of r input)) (λ mark t. shared_step t input mark) result)
     here.held
-    (asked_same content honest left old new (acts_of (upload_of register input)) (λ mark t. step_under register t input mark)
-    (λ mark t. shared_step t input mark) result (λ mark. ap (λ (r : RegisterRows). step_under r (content old) input mark) here.held) asked)
+    (asked_same g old new (acts_of (upload_of register input)) (λ mark t. step_under register t input mark)
+    (λ mark t. shared_step t input mark) result (λ mark. ap (λ (r : RegisterRows). step_under r (g.content old) input mark) here.held) asked)
 
 module _ (laws : OfTheMachine) where
   -- what a crash leaves after an input is sound
@@ -88,20 +89,20 @@ module _ (laws : OfTheMachine) where
   leaves_sound t after before left input mark hub sound were u (inr (inl e)) = were u e.1
   leaves_sound t after before left input mark hub sound were u (inr (inr more)) = subst SoundHub more.is (laws.sound t input more.more hub)
 
-  pub stepped : {S : Type 0} (content : S → Tables) (left : S → Tables → Type 0) (old new : S) (input : Input) (reply : Reply)
-      → SoundHub (content old)
-      → Answered content left old new (acts_of (upload_of (register_of (content old)) input)) (λ mark t. shared_step t input mark) reply
-      → Stepped (content old) (content new) (left old) (left new) input reply
-  stepped content left old new input reply hub a =
-      let t = content old in
-      let sound : SoundHub (content new) = subst (λ (x : Reply × Tables). SoundHub x.1) a.is (laws.sound t input a.mark hub) in
+  pub stepped : {S : Type 0} (g : Ghosts S) (old new : S) (input : Input) (reply : Reply)
+      → SoundHub (g.content old)
+      → Answered g old new (acts_of (upload_of (register_of (g.content old)) input)) (λ mark t. shared_step t input mark) reply
+      → Stepped (g.content old) (g.content new) (g.left old) (g.left new) input reply
+  stepped g old new input reply hub a =
+      let t = g.content old in
+      let sound : SoundHub (g.content new) = subst (λ (x : Reply × Tables). SoundHub x.1) a.is (laws.sound t input a.mark hub) in
       record {
         mark = a.mark;
         is = a.is;
         stop = subst (λ (x : Reply × Tables). (x.0.outcome ≡ Stopped) ↔ (a.mark ≢ Whole)) a.is (laws.outcome t input a.mark);
         sound = sound;
         parties = sym (ap (λ (x : Reply × Tables). parties_in x.1) a.is) ∙ laws.parties t ((input, a.mark) ∷ []) hub;
-        balance = laws.balance (content new) sound;
+        balance = laws.balance (g.content new) sound;
         alone =
             λ gln other. let law : StepIsOwn gln t input a.mark = laws.step_own gln t input a.mark hub other in record {
               seen = sym (ap (λ (x : Reply × Tables). view gln x.1) a.is) ∙ law.seen;
@@ -112,28 +113,28 @@ module _ (laws : OfTheMachine) where
                   sym (ap (λ (x : Reply × Tables). x.0) a.is) ∙ ap (λ mark. (shared_step t input mark).0) whole ∙ one;
             };
         leaves = a.leaves;
-        leaves_sound = λ were u l. leaves_sound t (content new) (left old) (left new) input a.mark hub sound were u (a.leaves u l);
+        leaves_sound = λ were u l. leaves_sound t (g.content new) (g.left old) (g.left new) input a.mark hub sound were u (a.leaves u l);
       }
 
   -- the reply to what was asked: that it was stopped, where memory or the store gave out
-  pub replied : {S : Type 0} (content : S → Tables) (honest : S → Type 0) (left : S → Tables → Type 0) (old new : S)
+  pub replied : {S : Type 0} (g : Ghosts S) (old new : S)
       (input : Input) (answered : Result Reply StoreFault) (body : List ℕ) (given : Reply)
       → body ≡ stopped_line
       → IfOk answered (λ reply. given ≡ reply)
       → OnErr answered (given ≡ reply Stopped body)
-      → honest new
-      → SoundHub (content old)
-      → Asked content honest left old new (acts_of (upload_of (register_of (content old)) input))
+      → g.honest new
+      → SoundHub (g.content old)
+      → Asked g old new (acts_of (upload_of (register_of (g.content old)) input))
       (λ mark t. shared_step t input mark) answered
-      → Stepped (content old) (content new) (left old) (left new) input given
-  replied content honest left old new input (Ok answer) body given says ok err h hub asked =
-      subst (λ (given : Reply). Stepped (content old) (content new) (left old) (left new) input given) (sym ok)
-      (stepped content left old new input answer hub (asked.answered h))
-  replied content honest left old new input (Err fault) body given says ok err h hub asked =
+      → Stepped (g.content old) (g.content new) (g.left old) (g.left new) input given
+  replied g old new input (Ok answer) body given says ok err h hub asked =
+      subst (λ (given : Reply). Stepped (g.content old) (g.content new) (g.left old) (g.left new) input given) (sym ok)
+      (stepped g old new input answer hub (asked.answered h))
+  replied g old new input (Err fault) body given says ok err h hub asked =
       let undone = asked.undone h in
-      stepped content left old new input given hub (record {
+      stepped g old new input given hub (record {
         mark = StoppedBare;
-        is = laws.bare (content old) input ∙ (λ i. (sym (err ∙ ap (λ body. reply Stopped body) says) i, sym undone.same i));
+        is = laws.bare (g.content old) input ∙ (λ i. (sym (err ∙ ap (λ body. reply Stopped body) says) i, sym undone.same i));
         leaves = λ u l. elim (undone.leaves u l) [
           | inl e ↦ inr (inl (undone.same, e))
           | inr e ↦ inr (inr e)
@@ -141,13 +142,13 @@ module _ (laws : OfTheMachine) where
       })
 
   -- the empty reply, where there is no memory to say so
-  pub unanswered : {S : Type 0} (content : S → Tables) (left : S → Tables → Type 0) (store : S) (input : Input) (given : Reply)
+  pub unanswered : {S : Type 0} (g : Ghosts S) (store : S) (input : Input) (given : Reply)
       → given ≡ reply Stopped []
-      → SoundHub (content store)
-      → Stepped (content store) (content store) (left store) (left store) input given
-  unanswered content left store input given is hub = stepped content left store store input given hub (record {
+      → SoundHub (g.content store)
+      → Stepped (g.content store) (g.content store) (g.left store) (g.left store) input given
+  unanswered g store input given is hub = stepped g store store input given hub (record {
     mark = StoppedEmpty;
-    is = laws.empty (content store) input ∙ ap (λ (reply : Reply). (reply, content store)) (sym is);
+    is = laws.empty (g.content store) input ∙ ap (λ (reply : Reply). (reply, g.content store)) (sym is);
     leaves = λ u l. inr (inl (refl, l));
   })
 

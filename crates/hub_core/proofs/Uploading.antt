@@ -6,6 +6,7 @@ use Rattle.hub_parties.specs.declared.row.SupplierRow.{SupplierRow}
 use Rattle.hub_tables.specs.Register.{suppliers_of}
 use Rattle.hub_tables.specs.Tables.{Tables, view}
 use Rattle.hub_store.specs.declared.fault.StoreFault.{StoreFault}
+use Rattle.hub_store.specs.declared.store.Store.{Ghosts}
 use Rattle.hub_rules.specs.Laws.{SoundUnder, Registered, PartiesRise, PartiesStay}
 use Rattle.hub_rules.specs.Sound.{Sound}
 use Rattle.hub_rules.specs.declared.incoming.IncomingMessage.{IncomingMessage}
@@ -96,15 +97,15 @@ module _ (laws : ActsStay) (register : RegisterRows) (start : Tables) where
       (acts_go caller (looked_at moment mark upload) start (record { may = may; parties = parties_same start }))
 
 -- so it is after the call, answered or not
-pub opened_sound : {S : Type 0} (content : S → Tables) (honest : S → Type 0) (left : S → Tables → Type 0) (old new : S)
+pub opened_sound : {S : Type 0} (g : Ghosts S) (old new : S)
     → ActsStay → (register : RegisterRows) (caller : Caller) (moment : ℕ) (upload : Opened) (count : ℕ)
     (result : Result Reply StoreFault)
-    → MayDeliver register caller (content old)
-    → Asked content honest left old new count (λ mark t. uploaded (delivered register caller) moment mark upload t) result
-    → honest new → SoundWith register (content old) → SoundWith register (content new)
-opened_sound content honest left old new laws register caller moment upload count (Ok reply) may asked clean here =
+    → MayDeliver register caller (g.content old)
+    → Asked g old new count (λ mark t. uploaded (delivered register caller) moment mark upload t) result
+    → g.honest new → SoundWith register (g.content old) → SoundWith register (g.content new)
+opened_sound g old new laws register caller moment upload count (Ok reply) may asked clean here =
     let answered = asked.answered clean in
     subst (SoundWith register) (ap (λ (x : Reply × Tables). x.1) answered.is)
-    (upload_sound laws register (content old) caller moment answered.mark upload may here)
-opened_sound content honest left old new laws register caller moment upload count (Err fault) may asked clean here =
+    (upload_sound laws register (g.content old) caller moment answered.mark upload may here)
+opened_sound g old new laws register caller moment upload count (Err fault) may asked clean here =
     subst (SoundWith register) (sym (asked.undone clean).same) here

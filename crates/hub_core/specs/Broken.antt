@@ -5,6 +5,7 @@ use Rattle.hub_parties.specs.Rows.{RegisterRows}
 use Rattle.hub_tables.specs.Tables.{Tables}
 use Rattle.hub_store.specs.declared.fault.LastingFault.{LastingFault}
 use Rattle.hub_store.specs.declared.fault.StoreFault.{StoreFault}
+use Rattle.hub_store.specs.declared.store.Store.{Ghosts}
 use Rattle.hub_law.specs.Machine.{step_under}
 use Rattle.hub_law.specs.Mark.{Whole}
 use Rattle.hub_requests.specs.declared.reply.Outcome.TheVariants.{Stopped}
@@ -27,11 +28,19 @@ pub record Breaks (plain : Bool) (does : Does) (old new : Option LastingFault) (
   pub again : IfSome old (λ _. StoppedUnless does reply)
   pub over_plain : IsTrue plain → new ≡ old
 
--- the same where a fault makes the reply a stop
+-- What a request leaves of its store's fault if a fault makes the reply a stop.
 abbrev pub BreaksAsked : Bool → Does → Option LastingFault → Option LastingFault → Result Reply StoreFault → Type 0
 BreaksAsked plain does old new result =
     MatchResult result (Breaks plain does old new)
     (λ _. ((new ≡ old) ⊎ (old ≡ None)) × (IsTrue plain → new ≡ old))
+
+-- likewise of a store, before a request and after it
+module _ {S : Type 0} (g : Ghosts S) (does : Does) (old new : S) where
+  abbrev pub BreaksOver : Reply → Type 0
+  BreaksOver reply = Breaks g.plain does (g.broken old) (g.broken new) reply
+
+  abbrev pub BreaksAskedOver : Result Reply StoreFault → Type 0
+  BreaksAskedOver result = BreaksAsked g.plain does (g.broken old) (g.broken new) result
 
 -- An input, as the shared machine answers it under a register. It is that of the hub, and not of the tables: what a
 -- broken store answers is said of all tables.

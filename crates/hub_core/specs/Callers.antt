@@ -1,20 +1,23 @@
 -- Who asks, what becomes of its messages, and what it is answered.
-use Rattle.std.specs.Prelude.{◌≡◌, ⊤, ℕ, List, [], ◌∷◌, Some}
+use Rattle.std.specs.Prelude.{◌≡◌, ⊤, ℕ, List, [], ◌∷◌, Some, Result}
 use Rattle.edi_envelope.specs.declared.interchange.RawMessage.{RawMessage}
 use Rattle.hub_parties.specs.Rows.{RegisterRows, parties_of, role_of, row_of}
 use Rattle.hub_parties.specs.declared.role.Role.TheVariants as roles
 use Rattle.hub_tables.specs.Tables.{Tables, view}
+use Rattle.hub_store.specs.declared.fault.StoreFault.{StoreFault}
+use Rattle.hub_store.specs.declared.store.Store.{Ghosts}
 use Rattle.hub_transactions.specs.HubOrderLines.Book.{Orders}
 use Rattle.hub_rules.specs.Laws.{SoundUnder, Registered, PartiesRise}
 use Rattle.hub_rules.specs.declared.incoming.IncomingMessage.{IncomingMessage}
 use Rattle.hub_law.specs.Messages.{deliver_suppliers}
 use Rattle.hub_law.specs.Opening.{Opened, addressed, interchange_in}
-use Rattle.hub_law.specs.Requests.{deliver_named, retailer_request, supplier_request}
-use Rattle.hub_law.specs.Stops.{upload_from}
+use Rattle.hub_law.specs.Requests.{deliver_named, retailer_request, supplier_request, uploaded}
+use Rattle.hub_law.specs.Stops.{opened_for, upload_from}
 use Rattle.hub_law.specs.Told.{Act}
+use Rattle.hub_requests.specs.declared.reply.Reply.{Reply}
 use Rattle.hub_requests.specs.declared.request.Request.{Request}
 use Rattle.hub_transactions.specs.Orders.{KeepsOrders}
-use Rattle.hub_core.specs.Steps.{Does, acts_of}
+use Rattle.hub_core.specs.Steps.{Asked, Does, acts_of}
 use Rattle.hub_core.specs.declared.caller.Caller.{Caller}
 use Rattle.hub_core.specs.declared.caller.Caller.TheVariants.{Retailer, Supplier}
 
@@ -34,7 +37,7 @@ abbrev pub KeepsFor : Caller → Orders → Tables → Type 0
 KeepsFor Retailer orders t = ⊤
 KeepsFor (Supplier s) orders t = KeepsOrders orders (view s.now.gln t)
 
--- it is known so, by a GLN and a key
+-- a GLN and a key show this caller
 abbrev pub IsCaller : RegisterRows → List ℕ → List ℕ → Caller → Type 0
 IsCaller register gln key Retailer = role_of register gln key ≡ Some roles.Retailer
 IsCaller register gln key (Supplier s) =
@@ -48,6 +51,15 @@ addressed_by register (Supplier s) = addressed s.now.gln (register.hub ∷ regis
 -- what the bytes of an upload are
 abbrev pub opening_of : RegisterRows → Caller → List ℕ → Opened
 opening_of register caller bytes = addressed_by register caller (interchange_in bytes)
+
+-- what an upload does that was opened as this, with each mark
+abbrev pub does_opened : RegisterRows → Caller → ℕ → Opened → Does
+does_opened register caller moment opened mark t = uploaded (delivered register caller) moment mark opened t
+
+-- it was asked of a store, as one act for each of its messages
+abbrev pub OpenedAsked : {S : Type 0} → Ghosts S → RegisterRows → Caller → ℕ → Opened → S → S → Result Reply StoreFault → Type 0
+OpenedAsked g register caller moment opened old new result =
+    Asked g old new (acts_of (opened_for (delivered register caller) opened)) (does_opened register caller moment opened) result
 
 -- how many acts a request is
 abbrev pub acts_by : RegisterRows → Caller → Request → ℕ

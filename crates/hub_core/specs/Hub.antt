@@ -1,37 +1,71 @@
 -- What the calls of a hub do, to its register and its store.
-use Rattle.std.specs.Prelude.{◌≡◌, true, Bool, Option}
+use Rattle.std.specs.Prelude.{◌≡◌, true, List, Result}
+use Rattle.std.specs.Option.{IfSome}
 use Rattle.hub_parties.specs.Rows.{RegisterRows}
 use Rattle.hub_parties.specs.declared.row.SupplierRow.{SupplierRow}
-use Rattle.hub_tables.specs.Tables.{Tables}
 use Rattle.hub_store.specs.Clean.{are_clean}
-use Rattle.hub_store.specs.declared.fault.LastingFault.{LastingFault}
+use Rattle.hub_store.specs.declared.fault.StoreFault.{StoreFault}
+use Rattle.hub_store.specs.declared.store.Store.{Ghosts}
+use Rattle.hub_law.specs.Stops.{upload_of}
 use Rattle.hub_requests.specs.declared.reply.Reply.{Reply}
 use Rattle.hub_requests.specs.declared.request.Input.{Input}
 use Rattle.hub_requests.specs.declared.request.Request.TheVariants.{Join}
 use Rattle.hub_transactions.specs.Clean.{WithinInput}
-use Rattle.hub_core.specs.Broken.{Breaks, does_input}
-use Rattle.hub_core.specs.Steps.{SoundWith, Stepped, JoinAnswered}
+use Rattle.hub_transactions.specs.Joins.{KeepsRows}
+use Rattle.hub_core.specs.Broken.{Breaks, RunBreaks, does_input}
+use Rattle.hub_core.specs.Steps.{Asked, IsNoJoin, JoinAnswered, Ran, SoundWith, Stepped, acts_of}
 
-module _ {S : Type 0} (content : S → Tables) (honest : S → Type 0) where
-  -- from a sound start, what an input does is a step
-  abbrev pub StepsFrom : (S → Tables → Type 0) → RegisterRows × S → RegisterRows × S → Input → Reply → Type 0
-  StepsFrom left old new input reply =
-      honest new.1 → SoundWith old.0 (content old.1) → Stepped (content old.1) (content new.1) (left old.1) (left new.1) input reply
+-- if the input is a join, the register takes the supplier exactly if the reply says so
+abbrev pub JoinsBy : RegisterRows → RegisterRows → Input → Reply → Type 0
+JoinsBy old new input reply = (row : SupplierRow) → input.request ≡ Join row → JoinAnswered row old new (does_input old input) reply
+
+module _ {S : Type 0} (g : Ghosts S) where
+  -- a step from the one store to the other, and a run
+  abbrev pub SteppedOver : S → S → Input → Reply → Type 0
+  SteppedOver old new input reply = Stepped (g.content old) (g.content new) (g.left old) (g.left new) input reply
+
+  abbrev pub RanOver : S → S → List Input → List Reply → Type 0
+  RanOver old new inputs replies = Ran (g.content old) (g.content new) (g.left old) (g.left new) inputs replies
+
+  -- an input was asked under a register
+  abbrev pub InputAsked : RegisterRows → Input → S → S → Result Reply StoreFault → Type 0
+  InputAsked register input old new result = Asked g old new (acts_of (upload_of register input)) (does_input register input) result
+
+  -- from a sound start, what an input does is a step, and what inputs do one after another is a run
+  abbrev pub StepsFrom : RegisterRows × S → RegisterRows × S → Input → Reply → Type 0
+  StepsFrom old new input reply = g.honest new.1 → SoundWith old.0 (g.content old.1) → SteppedOver old.1 new.1 input reply
+
+  abbrev pub RunsFrom : RegisterRows × S → RegisterRows × S → List Input → List Reply → Type 0
+  RunsFrom old new inputs replies = g.honest new.1 → SoundWith old.0 (g.content old.1) → RanOver old.1 new.1 inputs replies
 
   -- a sound start stays one
   abbrev pub StaysSound : RegisterRows × S → RegisterRows × S → Type 0
-  StaysSound old new = honest new.1 → SoundWith old.0 (content old.1) → SoundWith new.0 (content new.1)
+  StaysSound old new = g.honest new.1 → SoundWith old.0 (g.content old.1) → SoundWith new.0 (g.content new.1)
 
   -- a sound start of clean rows has clean rows after an input within its limits
   abbrev pub KeepsClean : RegisterRows × S → RegisterRows × S → Input → Type 0
   KeepsClean old new input =
-      honest new.1 → SoundWith old.0 (content old.1) → are_clean (content old.1) ≡ true → WithinInput input →
-      are_clean (content new.1) ≡ true
+      g.honest new.1 → SoundWith old.0 (g.content old.1) → are_clean (g.content old.1) ≡ true → WithinInput input →
+      are_clean (g.content new.1) ≡ true
 
--- what an input leaves of the store's fault, under the register that it found
-abbrev pub BreaksFrom : {S : Type 0} → Bool → (S → Option LastingFault) → RegisterRows × S → RegisterRows × S → Input → Reply → Type 0
-BreaksFrom plain broken old new input reply = Breaks plain (does_input old.0 input) (broken old.1) (broken new.1) reply
+  -- what an input leaves of the store's fault, under the register that it found, and what a run leaves of it, under the
+  -- register after it
+  abbrev pub BreaksFrom : RegisterRows × S → RegisterRows × S → Input → Reply → Type 0
+  BreaksFrom old new input reply = Breaks g.plain (does_input old.0 input) (g.broken old.1) (g.broken new.1) reply
 
--- where the input is a join, the register takes the supplier exactly where the reply says so
-abbrev pub JoinsBy : RegisterRows → RegisterRows → Input → Reply → Type 0
-JoinsBy old new input reply = (row : SupplierRow) → input.request ≡ Join row → JoinAnswered row old new (does_input old input) reply
+  abbrev pub RunBreaksFrom : RegisterRows × S → RegisterRows × S → List Input → List Reply → Type 0
+  RunBreaksFrom old new inputs replies = RunBreaks g.plain new.0 (g.broken old.1) (g.broken new.1) inputs replies
+
+  -- What one input does to a hub, whatever its rows, and what it is replied. From a sound start it is a step. A join alone
+  -- changes the register, and none where the store is broken; whoever was registered keeps its row.
+  pub record AnswersInput (old new : RegisterRows × S) (input : Input) (reply : Reply) : Type 0 where
+    pub stepped : StepsFrom old new input reply
+    pub held : StaysSound old new
+    pub clean : KeepsClean old new input
+    pub breaks : BreaksFrom old new input reply
+    pub joined : JoinsBy old.0 new.0 input reply
+    pub keeps : KeepsRows old.0 new.0
+    pub register : IsNoJoin input.request → new.0 ≡ old.0
+    pub broken : IfSome (g.broken old.1) (λ _. new.0 ≡ old.0)
+    -- what is below the store has been honest before if it has been after, so a caller asks once, at the end
+    pub was_honest : g.honest new.1 → g.honest old.1

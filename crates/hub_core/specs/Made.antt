@@ -1,19 +1,15 @@
 -- How a hub is made.
-use Rattle.std.specs.Prelude.{Bool, Option, Result}
+use Rattle.std.specs.Prelude.{Result}
 use Rattle.hub_parties.specs.Rows.{RegisterRows}
 use Rattle.hub_tables.specs.Register.{HoldsRegister, register_of}
-use Rattle.hub_tables.specs.Tables.{Tables}
 use Rattle.hub_store.specs.Calls.{Looks, Fails, ReadsRegister}
-use Rattle.hub_store.specs.declared.fault.LastingFault.{LastingFault}
 use Rattle.hub_store.specs.declared.fault.StoreFault.{StoreFault}
+use Rattle.hub_store.specs.declared.store.Store.{Ghosts}
 
 -- the register of the rows of a store was asked for: what came, and what became of the store, where its rows hold one,
 -- and whatever its rows are
-pub record Reads {S : Type 0} (content : S → Tables) (honest : S → Type 0) (left : S → Tables → Type 0)
-    (broken : S → Option LastingFault) (plain : Bool) (old new : S) (result : Result RegisterRows StoreFault)
-    : Type 0 where
-  pub looks :
-      (honest old → HoldsRegister (content old)) → Looks content honest left broken old new (register_of (content old))
-      result
-  pub fails : (honest old → HoldsRegister (content old)) → Fails plain (broken old) (broken new) result
-  pub held : ReadsRegister content honest left broken plain old new result
+pub record Reads {S : Type 0} (g : Ghosts S) (old new : S) (result : Result RegisterRows StoreFault) : Type 0 where
+  pub looks : (g.honest old → HoldsRegister (g.content old)) →
+      Looks g.content g.honest g.left g.broken old new (register_of (g.content old)) result
+  pub fails : (g.honest old → HoldsRegister (g.content old)) → Fails g.plain (g.broken old) (g.broken new) result
+  pub held : ReadsRegister g.content g.honest g.left g.broken g.plain old new result

@@ -7,6 +7,7 @@ use Rattle.hub_parties.specs.declared.row.SupplierRow.{SupplierRow}
 use Rattle.hub_tables.specs.Register.{register_of, parties_in}
 use Rattle.hub_tables.specs.Tables.{Tables, view}
 use Rattle.hub_store.specs.declared.fault.StoreFault.{StoreFault}
+use Rattle.hub_store.specs.declared.store.Store.{Ghosts}
 use Rattle.hub_rules.specs.Laws.{SoundHub}
 use Rattle.hub_rules.specs.Sound.{Balanced}
 use Rattle.hub_law.specs.Alone.{items, items_of_input}
@@ -57,23 +58,21 @@ abbrev pub Leaves : ℕ → Does → Tables → Mark → Tables → (Tables → 
 Leaves count does t mark after before u = (u ≡ after) ⊎ (((after ≡ t) × before u) ⊎ OneMore count does t mark u)
 
 -- a request was answered, whole or stopped at some place
-pub record Answered {S : Type 0} (content : S → Tables) (left : S → Tables → Type 0) (old new : S) (count : ℕ)
-    (does : Does) (reply : Reply) : Type 0 where
+pub record Answered {S : Type 0} (g : Ghosts S) (old new : S) (count : ℕ) (does : Does) (reply : Reply) : Type 0 where
   pub mark : Mark
-  pub is : does mark (content old) ≡ (reply, content new)
-  pub leaves : (u : Tables) → left new u → Leaves count does (content old) mark (content new) (left old) u
+  pub is : does mark (g.content old) ≡ (reply, g.content new)
+  pub leaves : (u : Tables) → g.left new u → Leaves count does (g.content old) mark (g.content new) (g.left old) u
 
 -- a request did nothing: a crash leaves what it left before, or the tables after its one act
-pub record Undone {S : Type 0} (content : S → Tables) (left : S → Tables → Type 0) (old new : S) (count : ℕ)
-    (does : Does) : Type 0 where
-  pub same : content new ≡ content old
-  pub leaves : (u : Tables) → left new u → left old u ⊎ OneMore count does (content old) StoppedBare u
+pub record Undone {S : Type 0} (g : Ghosts S) (old new : S) (count : ℕ) (does : Does) : Type 0 where
+  pub same : g.content new ≡ g.content old
+  pub leaves : (u : Tables) → g.left new u → g.left old u ⊎ OneMore count does (g.content old) StoppedBare u
 
 -- A request over a store. At Ok it is answered, at a fault nothing is done.
-pub record Asked {S : Type 0} (content : S → Tables) (honest : S → Type 0) (left : S → Tables → Type 0) (old new : S)
-    (count : ℕ) (does : Does) (result : Result Reply StoreFault) : Type 0 where
-  pub answered : honest new → IfOk result (λ reply. Answered content left old new count does reply)
-  pub undone : honest new → OnErr result (Undone content left old new count does)
+pub record Asked {S : Type 0} (g : Ghosts S) (old new : S) (count : ℕ) (does : Does) (result : Result Reply StoreFault)
+    : Type 0 where
+  pub answered : g.honest new → IfOk result (λ reply. Answered g old new count does reply)
+  pub undone : g.honest new → OnErr result (Undone g old new count does)
 
 -- an input, by its parts
 abbrev pub input_of : ℕ → List ℕ → List ℕ → Request → Input
@@ -109,7 +108,7 @@ pub record Stepped (t after : Tables) (before left : Tables → Type 0) (input :
   pub leaves : (u : Tables) → left u → LeavesOf t input mark after before u
   pub leaves_sound : ((u : Tables) → before u → SoundHub u) → (u : Tables) → left u → SoundHub u
 
--- The same of a run: what it sees in the end, all replies to it, and a status of it for which the retailer asks at some
+-- What is seen of a GLN after a run: what it sees in the end, all replies to it, and a status of it for which the retailer asks at some
 -- place, which is the text of what it sees there.
 pub record RunAlone (gln : List ℕ) (t after : Tables) (inputs : Inputs) (replies : List Reply) : Type 0 where
   pub seen : view gln after ≡ (alone gln (items gln t inputs) t).1
@@ -155,7 +154,7 @@ pub record RunBy (t after : Tables) (inputs : List Input) (replies : List Reply)
   pub balance : LinesBalance after
   pub alone : (gln : List ℕ) → IsOther gln t → RunAlone gln t after marked replies
 
--- the same, and what a crash leaves is the acts done, or they and one more, and it is sound where it was
+-- A run over a store: what a crash leaves is the acts done, or they and one more, and it is sound where it was.
 pub record Ran (t after : Tables) (before left : Tables → Type 0) (inputs : List Input) (replies : List Reply)
     : Type 0 where
   pub run : RunBy t after inputs replies

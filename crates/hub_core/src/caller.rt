@@ -1,4 +1,4 @@
-//! Who asks.
+//! Finds out who asks.
 ghost use Rattle.std.specs.Prelude.{◌≡◌, None};
 ghost use Rattle.std.specs.Option.{IfSome, IfNone};
 ghost use Rattle.hub_parties.specs.Rows.{role_of};
@@ -17,7 +17,7 @@ pub(crate) enum Caller<'a> {
     Supplier(&'a SupplierRow),
 }
 
-/// Who asks, where it is known by its own key.
+/// Returns who asks, if its own key shows it.
 pub(crate) fn caller_of<'a>(register: &'a Register, caller: &Gln, key: &[u8]) -> Option<Caller<'a>>
     ensures some { IfSome result (IsCaller register.now caller.now key.now) }
     ensures none { IfNone result (role_of register.now caller.now key.now ≡ None) }

@@ -1,9 +1,11 @@
-//! Replies without an act.
-ghost use Rattle.std.specs.Prelude.{◌≡◌, IfOk};
-ghost use Rattle.hub_law.specs.Replies.{denied, unknown, refused_reply};
+//! Makes the replies to what is denied, refused or stopped without an act.
+ghost use Rattle.std.specs.Prelude.{◌≡◌, IfOk, OnErr};
+ghost use Rattle.hub_law.specs.Replies.{denied, refused_reply, reply};
+ghost use Rattle.hub_requests.specs.declared.reply.Outcome.TheVariants.{Stopped};
 
-use edi_base::{MemoryFault, copied};
+use edi_base::{Items, MemoryFault, copied};
 use hub_requests::{Outcome, Reply};
+use hub_store::StoreFault;
 use hub_transactions::refused_line;
 use std::alloc::Global;
 
@@ -18,17 +20,6 @@ pub(crate) fn denied_reply(alloc: Global) -> Result<Reply, MemoryFault>
     })
 }
 
-/// The reply where there is no such supplier.
-pub(crate) fn unknown_reply(alloc: Global) -> Result<Reply, MemoryFault>
-    ensures { IfOk result (λ reply. reply ≡ unknown) }
-{
-    Ok(Reply {
-        outcome: Outcome::Unknown,
-        refused: false,
-        body: copied(alloc, b"unknown\n")?,
-    })
-}
-
 /// The reply to an upload whose text, envelope or addresses have a fault.
 pub(crate) fn refused_upload(alloc: Global, code: &str) -> Result<Reply, MemoryFault>
     ensures { IfOk result (λ reply. reply ≡ refused_reply code.now) }
@@ -38,4 +29,26 @@ pub(crate) fn refused_upload(alloc: Global, code: &str) -> Result<Reply, MemoryF
         refused: true,
         body: refused_line(alloc, code)?,
     })
+}
+
+/// The reply to what was stopped before anything was done.
+pub(crate) fn stopped_reply(body: Items<u8>) -> Reply
+    ensures { result ≡ reply Stopped body }
+{
+    Reply {
+        outcome: Outcome::Stopped,
+        refused: false,
+        body,
+    }
+}
+
+/// The reply to what was answered; if memory or the store gave out, that it was stopped.
+pub(crate) fn reply_or_stop(answered: Result<Reply, StoreFault>, stopped: Items<u8>) -> Reply
+    ensures ok { IfOk answered (λ reply. result ≡ reply) }
+    ensures err { OnErr answered (result ≡ reply Stopped stopped) }
+{
+    match answered {
+        Ok(reply) => reply,
+        Err(_) => stopped_reply(stopped),
+    }
 }

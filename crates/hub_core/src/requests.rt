@@ -3,19 +3,17 @@ ghost use Rattle.std.specs.Prelude.{◌≡◌, IfOk, OnErr};
 ghost use Rattle.hub_parties.specs.declared.row.SupplierRow.{SupplierRow};
 ghost use Rattle.hub_tables.specs.Register.{register_of};
 ghost use Rattle.std.specs.Option.{IfSome};
-ghost use Rattle.hub_law.specs.Requests.{uploaded};
-ghost use Rattle.hub_law.specs.Stops.{opened_for};
 ghost use Rattle.hub_core.specs.Opened as spec;
-ghost use Rattle.hub_core.specs.Broken.{BreaksAsked};
-ghost use Rattle.hub_core.specs.Callers.{delivered, addressed_by, opening_of, acts_by, request_of, MayDeliver};
+ghost use Rattle.hub_core.specs.Broken.{BreaksAskedOver};
+ghost use Rattle.hub_core.specs.Callers.{MayDeliver, OpenedAsked, acts_by, addressed_by, does_opened, opening_of, request_of};
 ghost use Rattle.hub_requests.specs.declared.request.Request.TheVariants.{Join};
-ghost use Rattle.hub_core.specs.Steps.{Asked, IsNoJoin, JoinAnswered, SoundWith, acts_of};
+ghost use Rattle.hub_core.specs.Steps.{Asked, IsNoJoin, JoinAnswered, SoundWith};
 ghost use Rattle.hub_core.specs.declared.caller.Caller.TheVariants.{Retailer, Supplier};
 
 use crate::address::address_fault_for;
 use crate::caller::Caller;
 use crate::opening::opened_upload;
-use crate::replies::{denied_reply, refused_upload, unknown_reply};
+use crate::replies::{denied_reply, refused_upload};
 use crate::upload::{OpenedUpload, take_messages};
 use edi_envelope::{Interchange, Moment};
 use gs1_ids::Gln;
@@ -25,7 +23,7 @@ use hub_requests::{Reply, Request};
 use hub_store::{Store, StoreFault};
 use hub_transactions::{
     STOPPED, interchange_line, mailbox_entry, mailbox_list, status_report, take_cancel, take_entry,
-    take_join,
+    take_join, unknown_reply,
 };
 use std::alloc::Global;
 
@@ -39,13 +37,10 @@ pub(crate) fn take_opened<S: Store>(
     upload: Result<Interchange, &'static str>,
 ) -> Result<Reply, StoreFault>
     ensures asked { MayDeliver register.now caller.entry (S.content store.old) →
-        Asked S.content S.honest S.left store.old store.new
-        (acts_of (opened_for (delivered register.now caller.entry) (addressed_by register.now caller.entry (spec.with_code upload.entry))))
-        (λ mark t. uploaded (delivered register.now caller.entry) moment mark
-        (addressed_by register.now caller.entry (spec.with_code upload.entry)) t) result }
-    ensures breaks { BreaksAsked S.plain (λ mark t. uploaded (delivered register.now caller.entry) moment mark
-        (addressed_by register.now caller.entry (spec.with_code upload.entry)) t)
-        (S.broken store.old) (S.broken store.new) result }
+        OpenedAsked S.Store register.now caller.entry moment
+        (addressed_by register.now caller.entry (spec.with_code upload.entry)) store.old store.new result }
+    ensures breaks { BreaksAskedOver S.Store (does_opened register.now caller.entry moment
+        (addressed_by register.now caller.entry (spec.with_code upload.entry))) store.old store.new result }
     ensures was_honest { S.honest store.new → S.honest store.old }
 {
     let interchange = match upload {
@@ -76,13 +71,10 @@ fn upload<S: Store>(
     bytes: &[u8],
 ) -> Result<Reply, StoreFault>
     ensures asked { MayDeliver register.now caller.entry (S.content store.old) →
-        Asked S.content S.honest S.left store.old store.new
-        (acts_of (opened_for (delivered register.now caller.entry) (opening_of register.now caller.entry bytes.now)))
-        (λ mark t. uploaded (delivered register.now caller.entry) moment mark
-        (opening_of register.now caller.entry bytes.now) t) result }
-    ensures breaks { BreaksAsked S.plain (λ mark t. uploaded (delivered register.now caller.entry) moment mark
-        (opening_of register.now caller.entry bytes.now) t)
-        (S.broken store.old) (S.broken store.new) result }
+        OpenedAsked S.Store register.now caller.entry moment
+        (opening_of register.now caller.entry bytes.now) store.old store.new result }
+    ensures breaks { BreaksAskedOver S.Store (does_opened register.now caller.entry moment
+        (opening_of register.now caller.entry bytes.now)) store.old store.new result }
     ensures was_honest { S.honest store.new → S.honest store.old }
 {
     let interchange = opened_upload(alloc, bytes)?;
@@ -99,15 +91,15 @@ pub(crate) fn asked_by_supplier<S: Store>(
     request: &Request,
 ) -> Result<Reply, StoreFault>
     ensures asked { MayDeliver register.now (Supplier supplier.entry) (S.content store.old) →
-        Asked S.content S.honest S.left store.old store.new
+        Asked S.Store store.old store.new
         (acts_by register.now (Supplier supplier.entry) request.now)
         (request_of register.now (Supplier supplier.entry) moment request.now) result }
     ensures joined { (row : SupplierRow) → request.now ≡ Join row →
         IfOk result (JoinAnswered row register.now register.now
         (request_of register.now (Supplier supplier.entry) moment request.now)) }
-    ensures breaks { BreaksAsked S.plain
+    ensures breaks { BreaksAskedOver S.Store
         (request_of register.now (Supplier supplier.entry) moment request.now)
-        (S.broken store.old) (S.broken store.new) result }
+        store.old store.new result }
     ensures was_honest { S.honest store.new → S.honest store.old }
 {
     let gln = &supplier.gln;
@@ -133,7 +125,7 @@ pub(crate) fn asked_by_retailer<S: Store>(
     request: &Request,
 ) -> Result<Reply, StoreFault>
     ensures asked { SoundWith register.old (S.content store.old) →
-        Asked S.content S.honest S.left store.old store.new (acts_by register.old Retailer request.now)
+        Asked S.Store store.old store.new (acts_by register.old Retailer request.now)
         (request_of register.old Retailer moment request.now) result }
     ensures held { (row : SupplierRow) → request.now ≡ Join row →
         S.honest store.new → SoundWith register.old (S.content store.old) →
@@ -144,8 +136,8 @@ pub(crate) fn asked_by_retailer<S: Store>(
     ensures undone { OnErr result (register.new ≡ register.old) }
     ensures same { IsNoJoin request.now → register.new ≡ register.old }
     ensures broken { IfSome (S.broken store.old) (λ _. register.new ≡ register.old) }
-    ensures breaks { BreaksAsked S.plain (request_of register.old Retailer moment request.now)
-        (S.broken store.old) (S.broken store.new) result }
+    ensures breaks { BreaksAskedOver S.Store (request_of register.old Retailer moment request.now)
+        store.old store.new result }
     ensures was_honest { S.honest store.new → S.honest store.old }
 {
     match request {

@@ -1,15 +1,14 @@
 //! The messages of an upload, one after another.
-ghost use Rattle.std.specs.Prelude.{◌≡◌, ◌||◌, length, Ok, OnOk};
-ghost use Rattle.hub_law.specs.Messages.{incoming};
+ghost use Rattle.std.specs.Prelude.{◌≡◌, ◌||◌, length, OnOk};
 ghost use Rattle.hub_law.specs.Replies.{interchange_line};
-ghost use Rattle.hub_law.specs.Requests.{uploaded};
 ghost use Rattle.hub_law.specs.Told as law;
-ghost use Rattle.hub_transactions.specs.Acts.{Carried, FailsWith, AnyCause, OfAny, Unharmed};
+ghost use Rattle.hub_transactions.specs.Acts.{Carried, FailsOver, AnyCause, OfAny, Unharmed};
 ghost use Rattle.hub_transactions.specs.Messages.{AddsLine, MayStop};
 ghost use Rattle.hub_transactions.specs.HubTexts.Decision.{told_of};
-ghost use Rattle.hub_core.specs.Broken.{Breaks};
-ghost use Rattle.hub_core.specs.Callers.{delivered, KeepsFor, MayDeliver};
+ghost use Rattle.hub_core.specs.Broken.{BreaksOver};
+ghost use Rattle.hub_core.specs.Callers.{KeepsFor};
 ghost use Rattle.hub_core.specs.Steps.{Answered};
+ghost use Rattle.hub_core.specs.Uploads.{MayTake, act_in, does_upload};
 
 use crate::caller::Caller;
 use edi_base::Items;
@@ -42,18 +41,16 @@ fn take_message<S: Store>(
     reply: &mut Vec<u8>,
 ) -> Result<Decision, StoreFault>
     ensures carried { KeepsFor upload.now.caller orders.old (S.content store.old) →
-        MayDeliver upload.now.register.now upload.now.caller (S.content store.old) →
-        Carried S.content S.honest S.left store.old store.new (delivered upload.now.register.now upload.now.caller
-        (message.now, incoming upload.now.moment upload.now.interchange.now message.now)) told_of result }
-    ensures fails { FailsWith S.plain AnyCause (OfAny (delivered upload.now.register.now upload.now.caller
-        (message.now, incoming upload.now.moment upload.now.interchange.now message.now)) told_of)
-        (S.broken store.old) (S.broken store.new) result }
-    ensures unharmed { Unharmed S.content S.honest store.old store.new result }
+        MayTake upload.now (S.content store.old) →
+        Carried S.Store store.old store.new (act_in upload.now message.now) told_of result }
+    ensures fails { FailsOver S.Store AnyCause (OfAny (act_in upload.now message.now) told_of)
+        store.old store.new result }
+    ensures unharmed { Unharmed S.Store store.old store.new result }
     ensures may { S.honest store.new → KeepsFor upload.now.caller orders.old (S.content store.old) →
-        MayDeliver upload.now.register.now upload.now.caller (S.content store.old) →
-        MayDeliver upload.now.register.now upload.now.caller (S.content store.new) }
+        MayTake upload.now (S.content store.old) →
+        MayTake upload.now (S.content store.new) }
     ensures kept { S.honest store.new → KeepsFor upload.now.caller orders.old (S.content store.old) →
-        MayDeliver upload.now.register.now upload.now.caller (S.content store.old) →
+        MayTake upload.now (S.content store.old) →
         OnOk result (KeepsFor upload.now.caller orders.new (S.content store.new)) }
     ensures reply { AddsLine message.now reply.old reply.new result }
 {
@@ -100,12 +97,10 @@ pub(crate) fn take_messages<S: Store>(
     requires line { reply.items ≡ interchange_line upload.now.interchange.now }
     requires room { MayStop reply }
     ensures answered { S.honest store.new →
-        MayDeliver upload.now.register.now upload.now.caller (S.content store.old) →
-        Answered S.content S.left store.old store.new (length upload.now.interchange.now.messages) (λ mark t.
-        uploaded (delivered upload.now.register.now upload.now.caller) upload.now.moment mark (Ok upload.now.interchange.now) t) result }
-    ensures breaks { Breaks S.plain (λ mark t.
-        uploaded (delivered upload.now.register.now upload.now.caller) upload.now.moment mark (Ok upload.now.interchange.now) t)
-        (S.broken store.old) (S.broken store.new) result }
+        MayTake upload.now (S.content store.old) →
+        Answered S.Store store.old store.new (length upload.now.interchange.now.messages) (does_upload upload.now) result }
+    ensures breaks { BreaksOver S.Store (does_upload upload.now)
+        store.old store.new result }
     ensures was_honest { S.honest store.new → S.honest store.old }
 {
     let mut refused = false;

@@ -6,7 +6,6 @@ use Rattle.hub_requests.specs.declared.reply.Outcome.{Outcome}
 use Rattle.hub_requests.specs.declared.reply.Outcome.TheVariants.{Done, Bad, Denied, Unknown, Stopped}
 use Rattle.hub_requests.specs.declared.reply.Reply.{Reply}
 use Rattle.hub_parties.specs.Rows.{RegisterRows}
-use Rattle.hub_core.specs.HubTables.Tables.{Tables}
 use Rattle.hub_core.specs.Hub.{StaysSound, StepsFrom}
 use Rattle.hub_core.specs.Steps.{input_of}
 use Rattle.http_messages.specs.Head.{Heading, HeadIs, longest_head}
@@ -18,6 +17,7 @@ use Rattle.hub_http.specs.declared.answer.Answered.{Answered}
 use Rattle.hub_http.specs.declared.answer.Text.{Text}
 use Rattle.hub_http.specs.declared.answer.Text.TheVariants.{Fixed, Made}
 use Rattle.hub_http.specs.declared.refusal.Refusal.{Refusal}
+use Rattle.hub_store.specs.declared.store.Store.{Ghosts}
 
 -- the status for what became of a request
 abbrev pub outcome_status : Outcome → ℕ
@@ -37,16 +37,15 @@ pub record Says (status : ℕ) (text : List ℕ) (answer : Answer) : Type 0 wher
   pub text_is : bytes_of answer.text ≡ text
 
 -- a question was asked of the hub at a moment, and this was the reply
-abbrev pub Steps : {S : Type 0} → (S → Tables) → (S → Type 0) → (S → Tables → Type 0) → ℕ → RegisterRows × S
-    → RegisterRows × S → Question → Reply → Type 0
-Steps content honest left moment old new question reply =
-    StepsFrom content honest left old new (input_of moment question.gln question.key question.request) reply
+abbrev pub Steps : {S : Type 0} → Ghosts S → ℕ → RegisterRows × S → RegisterRows × S → Question → Reply → Type 0
+Steps g moment old new question reply =
+    StepsFrom g old new (input_of moment question.gln question.key question.request) reply
 
 -- what holds of a hub that was not asked for a join, whatever else it was asked
-pub record Stays {S : Type 0} (content : S → Tables) (honest : S → Type 0) (old new : RegisterRows × S) : Type 0 where
-  pub held : StaysSound content honest old new
+pub record Stays {S : Type 0} (g : Ghosts S) (old new : RegisterRows × S) : Type 0 where
+  pub held : StaysSound g old new
   pub register : new.0 ≡ old.0
-  pub was_honest : honest new.1 → honest old.1
+  pub was_honest : g.honest new.1 → g.honest old.1
 
 module _ (Replies : Question → Reply → Type 0) (Same : Type 0) where
   -- the hub is as before, or one question was asked

@@ -97,9 +97,9 @@ fn replied(reply: Reply) -> Answer
 // Asks the hub.
 fn ask<S: Store>(hub: &mut Hub<S>, moment: Moment, asked: &Asked<'_>, request: Request) -> Answer
     requires { IsNoJoin request }
-    ensures asked { spec.Ends (spec.Steps S.content S.honest S.left moment hub.old hub.new)
+    ensures asked { spec.Ends (spec.Steps S.Store moment hub.old hub.new)
         (hub.new ≡ hub.old) (Ok (question_as (asked_as asked.now) request)) result }
-    ensures stays { spec.Stays S.content S.honest hub.old hub.new }
+    ensures stays { spec.Stays S.Store hub.old hub.new }
 {
     let reply = hub.step(moment, &asked.gln, asked.key, request);
     replied(reply)
@@ -113,12 +113,12 @@ fn answer_body<S: Store>(
     asked: &Asked<'_>,
     body: Option<Items<u8>>,
 ) -> Answer
-    ensures answers { spec.Answers (spec.Steps S.content S.honest S.left moment hub.old hub.new)
+    ensures answers { spec.Answers (spec.Steps S.Store moment hub.old hub.new)
         (hub.new ≡ hub.old)
         true (with_body (asked_as asked.now) body) result }
     ensures refused { IfErr (with_body (asked_as asked.now) body) (λ refusal.
         spec.Says (refusal_status refusal) (text_of refusal) result) }
-    ensures stays { spec.Stays S.content S.honest hub.old hub.new }
+    ensures stays { spec.Stays S.Store hub.old hub.new }
 {
     match request_of(alloc, asked, body) {
         Ok(Ok(request)) => ask(hub, moment, asked, request),
@@ -136,10 +136,10 @@ fn ask_opened<S: Store>(
 ) -> Answer
     requires { upload ≢ Err (OpenFault.Token TokenFault.Read) }
     ensures asked { (bytes : List ℕ) → Opens upload (opened bytes) →
-        spec.Ends (spec.Steps S.content S.honest S.left moment hub.old hub.new) (hub.new ≡ hub.old)
+        spec.Ends (spec.Steps S.Store moment hub.old hub.new) (hub.new ≡ hub.old)
         (Ok (uploading (asked_as asked.now) bytes)) result }
     ensures stays { (bytes : List ℕ) → Opens upload (opened bytes) →
-        spec.Stays S.content S.honest hub.old hub.new }
+        spec.Stays S.Store hub.old hub.new }
 {
     let reply = hub.step_opened(moment, &asked.gln, asked.key, upload);
     replied(reply)
@@ -160,11 +160,11 @@ fn answer_upload<R: Source, S: Store>(
     requires short { asked.now.size ≤ longest_body }
     requires sized { IfSome sent (λ size. size ≡ asked.now.size) }
     ensures answers { IfOk result (λ answered. IfSome (R.remaining reader.old) (λ left.
-        spec.Answers (spec.Steps S.content S.honest S.left moment hub.old hub.new) (hub.new ≡ hub.old) true
+        spec.Answers (spec.Steps S.Store moment hub.old hub.new) (hub.new ≡ hub.old) true
         (with_body (asked_as asked.now) (body_in (asked_as asked.now).size (front.now ++ left))) answered.answer)) }
-    ensures or_fails { spec.AnswersOrFails (spec.Steps S.content S.honest S.left moment hub.old hub.new)
+    ensures or_fails { spec.AnswersOrFails (spec.Steps S.Store moment hub.old hub.new)
         (hub.new ≡ hub.old) (R.failed reader.old) (R.failed reader.new) result }
-    ensures stays { spec.Stays S.content S.honest hub.old hub.new }
+    ensures stays { spec.Stays S.Store hub.old hub.new }
     ensures front { TakesAtMost (R.remaining reader.old) (R.remaining reader.new)
         (asked.now.size - length front.now) }
     ensures to_end { IfOk result (λ answered.
@@ -200,11 +200,11 @@ fn answer_asked<R: Source, S: Store>(
     requires short { asked.now.size ≤ longest_body }
     requires sized { IfSome sent (λ size. size ≡ asked.now.size) }
     ensures answers { IfOk result (λ answered. IfSome (R.remaining reader.old) (λ left.
-        spec.Answers (spec.Steps S.content S.honest S.left moment hub.old hub.new) (hub.new ≡ hub.old) true
+        spec.Answers (spec.Steps S.Store moment hub.old hub.new) (hub.new ≡ hub.old) true
         (with_body (asked_as asked.now) (body_in (asked_as asked.now).size (front.now ++ left))) answered.answer)) }
-    ensures or_fails { spec.AnswersOrFails (spec.Steps S.content S.honest S.left moment hub.old hub.new)
+    ensures or_fails { spec.AnswersOrFails (spec.Steps S.Store moment hub.old hub.new)
         (hub.new ≡ hub.old) (R.failed reader.old) (R.failed reader.new) result }
-    ensures stays { spec.Stays S.content S.honest hub.old hub.new }
+    ensures stays { spec.Stays S.Store hub.old hub.new }
     ensures front { TakesAtMost (R.remaining reader.old) (R.remaining reader.new)
         (asked.now.size - length front.now) }
     ensures to_end { IfOk result (λ answered.
@@ -236,11 +236,11 @@ fn answer_head<R: Source, S: Store>(
     head: &Head,
 ) -> Result<Answered, HeadFault>
     ensures answers { IfOk result (λ answered. IfSome (R.remaining reader.old) (λ left.
-        spec.Answers (spec.Steps S.content S.honest S.left moment hub.old hub.new) (hub.new ≡ hub.old)
+        spec.Answers (spec.Steps S.Store moment hub.old hub.new) (hub.new ≡ hub.old)
         (is_single head.now) (question_of hub.old.0 (Some (before left head.now))) answered.answer)) }
-    ensures or_fails { spec.AnswersOrFails (spec.Steps S.content S.honest S.left moment hub.old hub.new)
+    ensures or_fails { spec.AnswersOrFails (spec.Steps S.Store moment hub.old hub.new)
         (hub.new ≡ hub.old) (R.failed reader.old) (R.failed reader.new) result }
-    ensures stays { spec.Stays S.content S.honest hub.old hub.new }
+    ensures stays { spec.Stays S.Store hub.old hub.new }
     ensures front { TakesAtMost (R.remaining reader.old) (R.remaining reader.new)
         (spec.size_asked (asked_by hub.old.0 head.now) - length head.now.rest) }
     ensures to_end { IfOk result (λ answered. TellsBody (size_of_body head.now) head.now.rest
@@ -265,12 +265,12 @@ pub(crate) fn answer_one<R: Source, S: Store>(
     reader: &mut R,
 ) -> Result<Answered, HeadFault>
     ensures answered { IfOk result (λ answered. IfSome (R.remaining reader.old) (λ known.
-        spec.Serves (spec.Steps S.content S.honest S.left moment hub.old hub.new)
+        spec.Serves (spec.Steps S.Store moment hub.old hub.new)
         (hub.new ≡ hub.old) hub.old.0 known
         (R.remaining reader.new) answered.answer)) }
-    ensures or_fails { spec.AnswersOrFails (spec.Steps S.content S.honest S.left moment hub.old hub.new)
+    ensures or_fails { spec.AnswersOrFails (spec.Steps S.Store moment hub.old hub.new)
         (hub.new ≡ hub.old) (R.failed reader.old) (R.failed reader.new) result }
-    ensures stays { spec.Stays S.content S.honest hub.old hub.new }
+    ensures stays { spec.Stays S.Store hub.old hub.new }
     ensures front { TakesAtMost (R.remaining reader.old) (R.remaining reader.new)
         (longest_head + longest_body) }
     ensures cut { OnErr result (IfSome (R.remaining reader.old) (λ known.

@@ -84,16 +84,16 @@ pub fn serve_one<S: Store, R: Source, W: Sink>(
     reader: &mut R,
     writer: &mut W,
 ) -> Result<Served, IoFault>
-    ensures served { spec.Ended (Steps S.content S.honest S.left moment hub.old hub.new)
+    ensures served { spec.Ended (Steps S.Store moment hub.old hub.new)
         (hub.new ≡ hub.old) hub.old.0
         (R.remaining reader.old) (R.remaining reader.new) (W.contents writer.old) (W.contents writer.new) result }
 
     // Also where nothing is known of the bytes, one question was answered, and the hub is as before, or was asked once.
     ensures written { spec.Written
-        (AnswersWhatever (Steps S.content S.honest S.left moment hub.old hub.new)
+        (AnswersWhatever (Steps S.Store moment hub.old hub.new)
         (hub.new ≡ hub.old)) (W.contents writer.old) (W.contents writer.new) result }
-    ensures stepped { OneStep (Steps S.content S.honest S.left moment hub.old hub.new) (hub.new ≡ hub.old) }
-    ensures held { StaysSound S.content S.honest hub.old hub.new }
+    ensures stepped { OneStep (Steps S.Store moment hub.old hub.new) (hub.new ≡ hub.old) }
+    ensures held { StaysSound S.Store hub.old hub.new }
     ensures register { hub.new.0 ≡ hub.old.0 }
     ensures was_honest { S.honest hub.new.1 → S.honest hub.old.1 }
 

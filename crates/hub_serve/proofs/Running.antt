@@ -3,33 +3,31 @@ use Rattle.std.proofs.Common.{◌≡◌, List, [], ◌∷◌, ◌++◌, Option, 
 use Rattle.std.proofs.lemmas.Grind.{flat_map-append}
 use Rattle.std.proofs.lemmas.List.{append-nil}
 use Rattle.hub_parties.specs.Rows.{RegisterRows}
-use Rattle.hub_tables.specs.Tables.{Tables}
+use Rattle.hub_store.specs.declared.store.Store.{Ghosts}
 use Rattle.hub_http.specs.HubRules.Laws.{SoundHub}
 use Rattle.hub_requests.specs.declared.reply.Reply.{Reply}
 use Rattle.hub_requests.specs.declared.request.Input.{Input}
-use Rattle.hub_http.specs.HubCore.Steps.{Stepped, Ran}
-use Rattle.hub_http.specs.HubCore.Hub.{StaysSound}
-use Rattle.hub_serve.specs.Broken.{RunsTo}
-use Rattle.hub_serve.specs.One.{Did, DoesTo}
+use Rattle.hub_http.specs.HubCore.Hub.{RanOver, RunsFrom, StaysSound, SteppedOver, StepsFrom}
+use Rattle.hub_serve.specs.One.{Did}
 use Rattle.hub_serve.specs.Serve.{Asked, Connection, inputs, input_in, inputs_of, replies, replies_of}
 
-module _ {S : Type 0} (content : S → Tables) (honest : S → Type 0) (left : S → Tables → Type 0) where
+module _ {S : Type 0} (g : Ghosts S) where
   module _
       (more : (old between new : S) (inputs : List Input) (replies : List Reply) (input : Input) (reply : Reply)
-      → SoundHub (content old)
-      → Ran (content old) (content between) (left old) (left between) inputs replies
-      → Stepped (content between) (content new) (left between) (left new) input reply
-      → Ran (content old) (content new) (left old) (left new) (inputs ++ input ∷ []) (replies ++ reply ∷ [])) where
+      → SoundHub (g.content old)
+      → RanOver g old between inputs replies
+      → SteppedOver g between new input reply
+      → RanOver g old new (inputs ++ input ∷ []) (replies ++ reply ∷ [])) where
     runs_then : (old between new : RegisterRows × S) (earlier : List Input) (told : List Reply) (asked : Option Asked)
-        → (honest new.1 → honest between.1)
-        → StaysSound content honest old between
-        → RunsTo content honest left old between earlier told
-        → Did (DoesTo content honest left between new) (new ≡ between) asked
-        → RunsTo content honest left old new (earlier ++ inputs_of asked) (told ++ replies_of asked)
+        → (g.honest new.1 → g.honest between.1)
+        → StaysSound g old between
+        → RunsFrom g old between earlier told
+        → Did (StepsFrom g between new) (new ≡ between) asked
+        → RunsFrom g old new (earlier ++ inputs_of asked) (told ++ replies_of asked)
     runs_then old between new earlier told None was_honest stays ran did =
-        subst (λ (xs : List Input). RunsTo content honest left old new xs (told ++ [])) (sym (append-nil earlier))
-        (subst (λ (rs : List Reply). RunsTo content honest left old new earlier rs) (sym (append-nil told))
-        (subst (λ (hub : RegisterRows × S). RunsTo content honest left old hub earlier told) (sym did) ran))
+        subst (λ (xs : List Input). RunsFrom g old new xs (told ++ [])) (sym (append-nil earlier))
+        (subst (λ (rs : List Reply). RunsFrom g old new earlier rs) (sym (append-nil told))
+        (subst (λ (hub : RegisterRows × S). RunsFrom g old hub earlier told) (sym did) ran))
     runs_then old between new earlier told (Some asked) was_honest stays ran did = λ h sound.
         let before = ran (was_honest h) sound in
         let step = did h (stays (was_honest h) sound) in
@@ -37,11 +35,11 @@ module _ {S : Type 0} (content : S → Tables) (honest : S → Type 0) (left : S
 
     -- and then one connection more
     pub runs_more : (old between new : RegisterRows × S) (served : List Connection) (one : Connection)
-        → (honest new.1 → honest between.1)
-        → StaysSound content honest old between
-        → RunsTo content honest left old between (inputs served) (replies served)
-        → Did (DoesTo content honest left between new) (new ≡ between) one.asked
-        → RunsTo content honest left old new (inputs (served ++ one ∷ [])) (replies (served ++ one ∷ []))
+        → (g.honest new.1 → g.honest between.1)
+        → StaysSound g old between
+        → RunsFrom g old between (inputs served) (replies served)
+        → Did (StepsFrom g between new) (new ≡ between) one.asked
+        → RunsFrom g old new (inputs (served ++ one ∷ [])) (replies (served ++ one ∷ []))
     runs_more old between new served one was_honest stays ran did =
         let asks : inputs served ++ inputs_of one.asked ≡ inputs (served ++ one ∷ []) =
         ap (λ (xs : List Input). inputs served ++ xs) (sym (append-nil (inputs_of one.asked)))
@@ -49,6 +47,6 @@ module _ {S : Type 0} (content : S → Tables) (honest : S → Type 0) (left : S
         let tells : replies served ++ replies_of one.asked ≡ replies (served ++ one ∷ []) =
         ap (λ (rs : List Reply). replies served ++ rs) (sym (append-nil (replies_of one.asked)))
         ∙ sym (flat_map-append (λ (c : Connection). replies_of c.asked) served (one ∷ [])) in
-        subst (λ (rs : List Reply). RunsTo content honest left old new (inputs (served ++ one ∷ [])) rs) tells
-        (subst (λ (xs : List Input). RunsTo content honest left old new xs (replies served ++ replies_of one.asked)) asks
+        subst (λ (rs : List Reply). RunsFrom g old new (inputs (served ++ one ∷ [])) rs) tells
+        (subst (λ (xs : List Input). RunsFrom g old new xs (replies served ++ replies_of one.asked)) asks
         (runs_then old between new (inputs served) (replies served) one.asked was_honest stays ran did))

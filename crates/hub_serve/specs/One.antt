@@ -1,20 +1,11 @@
 -- What one connection does.
 use Rattle.std.specs.Prelude.{◌≡◌, [], ◌∷◌, Option, Some, None, Result, Ok, Err}
-use Rattle.hub_http.specs.HubCore.Steps.{SoundWith, Stepped}
 use Rattle.hub_requests.specs.declared.reply.Reply.{Reply}
 use Rattle.hub_requests.specs.declared.request.Input.{Input}
 use Rattle.hub_parties.specs.Rows.{RegisterRows}
-use Rattle.hub_tables.specs.Tables.{Tables}
 use Rattle.hub_serve.specs.Connections.{Known}
 use Rattle.hub_serve.specs.Serve.{Asked, Connection, IsServed, Passes, input_in}
 use Rattle.hub_serve.specs.declared.line.Ending.{Ending}
-
--- an input was asked of the hub, and this was the reply
-abbrev pub DoesTo : {S : Type 0} → (S → Tables) → (S → Type 0) → (S → Tables → Type 0) → RegisterRows × S
-    → RegisterRows × S → Input → Reply → Type 0
-DoesTo content honest left old new input reply =
-    honest new.1 → SoundWith old.0 (content old.1)
-    → Stepped (content old.1) (content new.1) (left old.1) (left new.1) input reply
 
 -- what was asked was done, or nothing was
 abbrev pub Did : (Input → Reply → Type 0) → Type 0 → Option Asked → Type 0

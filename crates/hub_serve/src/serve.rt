@@ -1,10 +1,9 @@
 //! Connections served one after another.
 ghost use Rattle.std.specs.Prelude.{◌≡◌, ◌≢◌, ◌⊎◌, IsTrue, true, false, [], None, OnErr, OnOk};
-ghost use Rattle.hub_http.specs.HubCore.Steps.{Ran, SoundWith};
-ghost use Rattle.hub_http.specs.HubCore.Hub.{StaysSound};
+ghost use Rattle.hub_http.specs.HubCore.Hub.{RunsFrom, StaysSound, StepsFrom};
 ghost use Rattle.hub_serve.specs.Broken.{BrokeAtLast, StopsAtOnce, StopsBroken};
 ghost use Rattle.hub_serve.specs.Connections.{known};
-ghost use Rattle.hub_serve.specs.One.{ServesNext, DoesTo};
+ghost use Rattle.hub_serve.specs.One.{ServesNext};
 ghost use Rattle.hub_serve.specs.Serve.{Serves, Stops};
 
 use crate::connections::{Connections, Moments, NoConnection};
@@ -47,7 +46,7 @@ fn serve_next<L: Connections, S: Store, M: Moments>(
     hub: &mut Hub<S>,
     moments: &mut M,
 ) -> Result<Ending, NoMore>
-    ensures served { ServesNext (DoesTo S.content S.honest S.left hub.old hub.new)
+    ensures served { ServesNext (StepsFrom S.Store hub.old hub.new)
         (hub.new ≡ hub.old) hub.old.0
         (known (L.coming connections.old) (L.closed connections.old) (M.coming moments.old))
         (known (L.coming connections.new) (L.closed connections.new) (M.coming moments.new)) result }
@@ -57,7 +56,7 @@ fn serve_next<L: Connections, S: Store, M: Moments>(
         (L.coming connections.old) (L.coming connections.new) []) }
     ensures going { OnOk result ((L.failed connections.new ≡ L.failed connections.old)
         × (M.failed moments.new ≡ M.failed moments.old)) }
-    ensures held { StaysSound S.content S.honest hub.old hub.new }
+    ensures held { StaysSound S.Store hub.old hub.new }
     ensures register { hub.new.0 ≡ hub.old.0 }
     ensures was_honest { S.honest hub.new.1 → S.honest hub.old.1 }
 {
@@ -100,18 +99,17 @@ pub fn serve_on<L: Connections, S: Store, M: Moments, W: Sink>(
     out: &mut W,
 ) -> u8
     ensures served { Serves
-        (λ inputs replies. S.honest hub.new.1 → SoundWith hub.old.0 (S.content hub.old.1) →
-        Ran (S.content hub.old.1) (S.content hub.new.1) (S.left hub.old.1) (S.left hub.new.1) inputs replies)
-        (StopsAtOnce S.content S.honest S.left on_broken S.broken hub.old hub.new)
+        (RunsFrom S.Store hub.old hub.new)
+        (StopsAtOnce S.Store on_broken hub.old hub.new)
         hub.old.0 (known (L.coming connections.old) (L.closed connections.old) (M.coming moments.old))
         (known (L.coming connections.new) (L.closed connections.new) (M.coming moments.new))
         ((L.failed connections.new ≡ L.failed connections.old)
         × (M.failed moments.new ≡ M.failed moments.old))
         (IsTrue (L.failed connections.new)) (IsTrue (M.failed moments.new))
-        (λ served. StopsBroken on_broken (BrokeAtLast S.content S.honest S.left S.broken hub.old hub.new served)) count
+        (λ served. StopsBroken on_broken (BrokeAtLast S.Store hub.old hub.new served)) count
         (W.contents out.old) (W.contents out.new) (W.failed out.old) (W.failed out.new) result }
     ensures goes_on { on_broken ≡ OnBroken.Stop → result ≢ 3 → (count ≡ 0) ⊎ (S.broken hub.new.1 ≡ None) }
-    ensures held { StaysSound S.content S.honest hub.old hub.new }
+    ensures held { StaysSound S.Store hub.old hub.new }
     ensures register { hub.new.0 ≡ hub.old.0 }
     ensures was_honest { S.honest hub.new.1 → S.honest hub.old.1 }
 {

@@ -2,21 +2,22 @@
 use Rattle.std.proofs.Common.{◌≡◌, inl, inr, Result, Ok, Err, sym, subst, ap, ◌∙◌}
 use Rattle.hub_tables.specs.Tables.{Tables}
 use Rattle.hub_store.specs.declared.fault.StoreFault.{StoreFault}
+use Rattle.hub_store.specs.declared.store.Store.{Ghosts}
 use Rattle.hub_acts.specs.Acts.{Stays, Carried}
 
-module _ {S X Y : Type 0} (content : S → Tables) (honest : S → Type 0) (left : S → Tables → Type 0) (old middle new : S)
+module _ {S X Y : Type 0} (g : Ghosts S) (old middle new : S)
     (act judged : Tables → Y × Tables) (seen : X → Y) (fits : Tables → Type 0)
-    (stays : Stays content honest left old middle) (was : honest new → honest middle)
-    (same : honest middle → act (content old) ≡ judged (content old)) (fit : honest middle → fits (content old)) where
-  middle_is : honest new → judged (content middle) ≡ act (content old)
+    (stays : Stays g old middle) (was : g.honest new → g.honest middle)
+    (same : g.honest middle → act (g.content old) ≡ judged (g.content old)) (fit : g.honest middle → fits (g.content old)) where
+  middle_is : g.honest new → judged (g.content middle) ≡ act (g.content old)
   middle_is h = ap judged (stays.content_stays (was h)) ∙ sym (same (was h))
 
-  fit_then : honest new → fits (content middle)
+  fit_then : g.honest new → fits (g.content middle)
   fit_then h = subst fits (sym (stays.content_stays (was h))) (fit (was h))
 
   pub after_looking : (result : Result X StoreFault)
-      → (fits (content middle) → Carried content honest left middle new judged seen result)
-      → Carried content honest left old new act seen result
+      → (fits (g.content middle) → Carried g middle new judged seen result)
+      → Carried g old new act seen result
   after_looking (Ok x) then = record {
     done = λ h. sym (middle_is h) ∙ (then (fit_then h)).done h;
     durable = λ h t is. elim ((then (fit_then h)).durable h t is) [

@@ -7,17 +7,18 @@ use Rattle.hub_store.specs.Clean.{are_clean}
 use Rattle.hub_store.specs.declared.fault.LastingFault.{LastingFault}
 use Rattle.hub_store.specs.declared.fault.StoreFault.{StoreFault}
 use Rattle.hub_store.specs.declared.fault.StoreFault.TheVariants.{Unclean}
+use Rattle.hub_store.specs.declared.store.Store.{Ghosts}
 use Rattle.hub_transactions.specs.JudgesClean.{JudgedClean, JudgesClean}
 use Rattle.hub_transactions.specs.declared.judged.Judged.{Judged}
 use Rattle.hub_acts.proofs.CleanActs.{never_so}
 
 -- a look-up that answers `Unclean` for a cause that there is not
-module _ {S X : Type 0} (content : S → Tables) (honest : S → Type 0) (broken : S → Option LastingFault) (old new : S)
+module _ {S X : Type 0} (g : Ghosts S) (old new : S)
     (cause : Type 0) (none_such : cause → ⊥) (fault : StoreFault)
-    (unclean : honest new → broken old ≡ None → are_clean (content old) ≡ true
+    (unclean : g.honest new → g.broken old ≡ None → are_clean (g.content old) ≡ true
     → ◌≡◌ {A = Result X StoreFault} (Err fault) (Err Unclean) → cause) where
-  pub failed_clean : (result : Result Judged StoreFault) → result ≡ Err fault → JudgesClean content honest broken old new result
+  pub failed_clean : (result : Result Judged StoreFault) → result ≡ Err fault → JudgesClean g old new result
   failed_clean result is = record {
-    never = never_so content honest broken old new cause none_such fault unclean result is;
-    leaves = λ h clean. subst (λ (r : Result Judged StoreFault). IfOk r (λ judged. JudgedClean judged (content old))) (sym is) tt;
+    never = never_so g old new cause none_such fault unclean result is;
+    leaves = λ h clean. subst (λ (r : Result Judged StoreFault). IfOk r (λ judged. JudgedClean judged (g.content old))) (sym is) tt;
   }

@@ -6,6 +6,7 @@ use Rattle.edi_envelope.specs.declared.interchange.RawMessage.{RawMessage}
 use Rattle.hub_parties.specs.Rows.{Parties, RegisterRows, parties_of, supplier_row}
 use Rattle.hub_parties.specs.declared.row.SupplierRow.{SupplierRow}
 use Rattle.hub_store.specs.declared.fault.StoreFault.{StoreFault}
+use Rattle.hub_store.specs.declared.store.Store.{Ghosts}
 use Rattle.hub_tables.specs.Tables.{Tables, view}
 use Rattle.hub_rules.specs.Laws.{SoundUnder, Registered, PartiesRise}
 use Rattle.hub_rules.specs.Sound.{Kept}
@@ -39,21 +40,20 @@ pub record UnreadOf (deliver : Act) (judged : Judged) : Type 0 where
 
 -- What comes of a message of the retailer: what the act does, where the rows that the supplier sees are kept; and changes
 -- that fit the tables, where these are sound.
-pub record JudgedOfRetailer {S : Type 0} (content : S → Tables) (honest : S → Type 0) (register : RegisterRows)
+pub record JudgedOfRetailer {S : Type 0} (g : Ghosts S) (register : RegisterRows)
     (deliver : (Tables → Tables) → Parties → Option SupplierRow → RawMessage × IncomingMessage → Act)
     (sent : RawMessage × IncomingMessage) (old new : S) (result : Result Judged StoreFault) : Type 0 where
-  pub told : honest new → Kept (view (named sent.0) (content old)) → IfOk result (λ judged.
-      deliver (view (named sent.0)) (parties_of register) (supplier_row register.suppliers (named sent.0)) sent (content old)
-      ≡ act_of judged (content old))
-  pub fit : honest new → SoundUnder register.suppliers (content old) → PartiesRise (content old) →
-      IfOk result (λ judged. JudgedFits judged (content old))
+  pub told : g.honest new → Kept (view (named sent.0) (g.content old)) → IfOk result (λ judged.
+      deliver (view (named sent.0)) (parties_of register) (supplier_row register.suppliers (named sent.0)) sent (g.content old)
+      ≡ act_of judged (g.content old))
+  pub fit : g.honest new → SoundUnder register.suppliers (g.content old) → PartiesRise (g.content old) →
+      IfOk result (λ judged. JudgedFits judged (g.content old))
 
 -- likewise of a message of a supplier
-pub record JudgedOfSupplier {S : Type 0} (content : S → Tables) (honest : S → Type 0) (register : RegisterRows)
-    (supplier : SupplierRow)
+pub record JudgedOfSupplier {S : Type 0} (g : Ghosts S) (register : RegisterRows) (supplier : SupplierRow)
     (deliver : (Tables → Tables) → Parties → SupplierRow → RawMessage × IncomingMessage → Act)
     (sent : RawMessage × IncomingMessage) (old new : S) (result : Result Judged StoreFault) : Type 0 where
-  pub told : honest new → Kept (view supplier.gln (content old)) → IfOk result (λ judged.
-      deliver (view supplier.gln) (parties_of register) supplier sent (content old) ≡ act_of judged (content old))
-  pub fit : honest new → Registered register.suppliers supplier (content old) → PartiesRise (content old) →
-      IfOk result (λ judged. JudgedFits judged (content old))
+  pub told : g.honest new → Kept (view supplier.gln (g.content old)) → IfOk result (λ judged.
+      deliver (view supplier.gln) (parties_of register) supplier sent (g.content old) ≡ act_of judged (g.content old))
+  pub fit : g.honest new → Registered register.suppliers supplier (g.content old) → PartiesRise (g.content old) →
+      IfOk result (λ judged. JudgedFits judged (g.content old))

@@ -5,6 +5,7 @@ use Rattle.hub_store.specs.Clean.{are_clean}
 use Rattle.hub_store.specs.declared.fault.LastingFault.{LastingFault}
 use Rattle.hub_store.specs.declared.fault.StoreFault.{StoreFault}
 use Rattle.hub_store.specs.declared.fault.StoreFault.TheVariants.{Unclean}
+use Rattle.hub_store.specs.declared.store.Store.{Ghosts}
 use Rattle.hub_acts.specs.HubClean.Clean.{VerdictClean}
 use Rattle.hub_transactions.specs.declared.judged.Judged.{Judged}
 use Rattle.hub_transactions.specs.declared.judged.Judged.TheVariants.{Read, Unread}
@@ -15,7 +16,6 @@ JudgedClean (Unread fault) t = ⊤
 
 -- Where all rows are of the kinds, a call that judges answers no `Unclean` of a store that is not broken, and what comes of
 -- the message leaves rows of the kinds.
-pub record JudgesClean {S : Type 0} (content : S → Tables) (honest : S → Type 0) (broken : S → Option LastingFault)
-    (old new : S) (result : Result Judged StoreFault) : Type 0 where
-  pub never : honest new → broken old ≡ None → are_clean (content old) ≡ true → result ≢ Err Unclean
-  pub leaves : honest new → are_clean (content old) ≡ true → IfOk result (λ judged. JudgedClean judged (content old))
+pub record JudgesClean {S : Type 0} (g : Ghosts S) (old new : S) (result : Result Judged StoreFault) : Type 0 where
+  pub never : g.honest new → g.broken old ≡ None → are_clean (g.content old) ≡ true → result ≢ Err Unclean
+  pub leaves : g.honest new → are_clean (g.content old) ≡ true → IfOk result (λ judged. JudgedClean judged (g.content old))

@@ -8,7 +8,7 @@ ghost use Rattle.hub_acts.specs.HubLaw.Mark.{Whole};
 ghost use Rattle.hub_acts.specs.HubLaw.Replies.{act_reply};
 ghost use Rattle.hub_acts.specs.HubLaw.Requests.{cancel_named, answered, replied_by};
 ghost use Rattle.hub_acts.specs.HubLaw.Told.{act, told};
-ghost use Rattle.hub_acts.specs.Acts.{Carried, FailsWith, NoCause, Unharmed, any_answer, as_told, no_answer};
+ghost use Rattle.hub_acts.specs.Acts.{Carried, FailsOver, NoCause, Unharmed, any_answer, as_told, no_answer};
 ghost use Rattle.hub_acts.specs.HubClean.Clean.{WithinCancel};
 ghost use Rattle.hub_acts.specs.Verdicts.{VerdictFits};
 ghost use Rattle.hub_acts.specs.HubClean.Clean.{VerdictClean};
@@ -32,12 +32,12 @@ fn commit_and_reply<S: Store>(
 ) -> Result<Reply, StoreFault>
     requires { reply ≡ act_reply (told verdict.now) }
     ensures carried { VerdictFits verdict.now (S.content store.old) →
-        Carried S.content S.honest S.left store.old store.new (λ t.
+        Carried S.Store store.old store.new (λ t.
         replied_by act_reply (act verdict.now t)) as_told result }
-    ensures fails { FailsWith S.plain NoCause any_answer (S.broken store.old) (S.broken store.new) result }
-    ensures unharmed { Unharmed S.content S.honest store.old store.new result }
+    ensures fails { FailsOver S.Store NoCause any_answer store.old store.new result }
+    ensures unharmed { Unharmed S.Store store.old store.new result }
     ensures clean { VerdictFits verdict.now (S.content store.old) → VerdictClean verdict.now (S.content store.old) →
-        StaysClean S.content S.honest S.broken store.old store.new result }
+        StaysClean S.Store store.old store.new result }
 {
     carry_out(store, verdict)?;
     Ok(reply)
@@ -53,14 +53,14 @@ pub fn take_cancel<S: Store>(
 ) -> Result<Reply, StoreFault>
     ensures carried { SoundUnder register.now.suppliers (S.content store.old) →
         PartiesRise (S.content store.old) →
-        Carried S.content S.honest S.left store.old store.new (λ t.
+        Carried S.Store store.old store.new (λ t.
         answered Whole (cancel_named register.now cancel.now t) t) as_told result }
-    ensures fails { FailsWith S.plain (S.honest store.new →
+    ensures fails { FailsOver S.Store (S.honest store.new →
         AreUnclean (lines_of (view cancel.now.supplier (S.content store.old)) cancel.now.order))
-        no_answer (S.broken store.old) (S.broken store.new) result }
-    ensures unharmed { Unharmed S.content S.honest store.old store.new result }
+        no_answer store.old store.new result }
+    ensures unharmed { Unharmed S.Store store.old store.new result }
     ensures clean { SoundUnder register.now.suppliers (S.content store.old) → PartiesRise (S.content store.old) →
-        WithinCancel cancel.now → StaysClean S.content S.honest S.broken store.old store.new result }
+        WithinCancel cancel.now → StaysClean S.Store store.old store.new result }
 {
     accepted_changes_fit();
     lines_of_sound_tables_are_known();

@@ -2,7 +2,7 @@
 ghost use Rattle.std.specs.Prelude.{◌≡◌, IfOk};
 ghost use Rattle.hub_tables.specs.Tables.{Tables};
 ghost use Rattle.hub_acts.specs.HubLaw.Told.{told};
-ghost use Rattle.hub_acts.specs.Acts.{Carried, FailsWith, NoCause, Unharmed, any_answer};
+ghost use Rattle.hub_acts.specs.Acts.{Carried, FailsOver, NoCause, Unharmed, any_answer};
 ghost use Rattle.hub_transactions.specs.Judged.{act_of, JudgedFits};
 ghost use Rattle.hub_acts.specs.StaysClean.{StaysClean};
 ghost use Rattle.hub_transactions.specs.JudgesClean.{JudgedClean};
@@ -29,12 +29,12 @@ pub(crate) fn carry_out_judged<S: Store>(
     judged: &Judged,
 ) -> Result<Decision, StoreFault>
     ensures carried { JudgedFits judged.now (S.content store.old) →
-        Carried S.content S.honest S.left store.old store.new (act_of judged.now) told_of result }
+        Carried S.Store store.old store.new (act_of judged.now) told_of result }
     ensures told { IfOk result (λ seen. (t : Tables) → (act_of judged.now t).0 ≡ told_of seen) }
-    ensures fails { FailsWith S.plain NoCause any_answer (S.broken store.old) (S.broken store.new) result }
-    ensures unharmed { Unharmed S.content S.honest store.old store.new result }
+    ensures fails { FailsOver S.Store NoCause any_answer store.old store.new result }
+    ensures unharmed { Unharmed S.Store store.old store.new result }
     ensures clean { JudgedFits judged.now (S.content store.old) → JudgedClean judged.now (S.content store.old) →
-        StaysClean S.content S.honest S.broken store.old store.new result }
+        StaysClean S.Store store.old store.new result }
 {
     match judged {
         Judged::Read(verdict) => carry_out(store, verdict),

@@ -8,7 +8,7 @@ ghost use Rattle.hub_store.specs.Lines.{lines_at};
 ghost use Rattle.hub_store.specs.declared.fault.StoreFault.TheVariants.{Unclean};
 ghost use Rattle.hub_rules.specs.Rules.{judge_despatch};
 ghost use Rattle.hub_judges.specs.Known.{TellsForDespatch};
-ghost use Rattle.hub_acts.specs.Acts.{FailsWith, NoCause, Stays, any_answer, no_answer};
+ghost use Rattle.hub_acts.specs.Acts.{FailsOver, NoCause, Stays, any_answer, no_answer};
 ghost use Rattle.hub_order_lines.specs.Book.{Orders};
 ghost use Rattle.hub_order_lines.specs.KnownLines.{AreUnclean};
 ghost use Rattle.hub_order_lines.specs.KnownOrders.{is_kept, AddsOrder};
@@ -48,8 +48,8 @@ fn put_by_number<S: Store>(
     ensures unclean { S.honest store.new → S.broken store.old ≡ None →
         are_clean (S.content store.old) ≡ true → result ≢ Err Unclean }
     ensures goes_on { OnOk result (S.broken store.new ≡ S.broken store.old) }
-    ensures fails { FailsWith S.plain NoCause any_answer (S.broken store.old) (S.broken store.new) result }
-    ensures stays { Stays S.content S.honest S.left store.old store.new }
+    ensures fails { FailsOver S.Store NoCause any_answer store.old store.new result }
+    ensures stays { Stays S.Store store.old store.new }
 {
     let is_there = store.order_known(supplier, order)?;
     let rows = store.lines_at(supplier, order, numbers)?;
@@ -88,10 +88,10 @@ fn know_order<'a, S: Store>(
         are_clean (S.content store.old) ≡ true →
         result ≡ Err Unclean → AreUnclean (lines_of (view supplier.now (S.content store.old)) order.now) }
     ensures goes_on { OnOk result (S.broken store.new ≡ S.broken store.old) }
-    ensures fails { FailsWith S.plain (S.honest store.new →
+    ensures fails { FailsOver S.Store (S.honest store.new →
         AreUnclean (lines_of (view supplier.now (S.content store.old)) order.now))
-        any_answer (S.broken store.old) (S.broken store.new) result }
-    ensures stays { Stays S.content S.honest S.left store.old store.new }
+        any_answer store.old store.new result }
+    ensures stays { Stays S.Store store.old store.new }
 {
     if orders.is_kept(order) {
         return Ok(());
@@ -126,10 +126,10 @@ fn know_orders<'a, S: Store>(
         are_clean (S.content store.old) ≡ true → result ≡ Err Unclean →
         SomeUnclean (map (λ number. number.now) numbers.now.keys) (view supplier.now (S.content store.old)) }
     ensures goes_on { OnOk result (S.broken store.new ≡ S.broken store.old) }
-    ensures fails { FailsWith S.plain (S.honest store.new →
+    ensures fails { FailsOver S.Store (S.honest store.new →
         SomeUnclean (map (λ number. number.now) numbers.now.keys) (view supplier.now (S.content store.old)))
-        any_answer (S.broken store.old) (S.broken store.new) result }
-    ensures stays { Stays S.content S.honest S.left store.old store.new }
+        any_answer store.old store.new result }
+    ensures stays { Stays S.Store store.old store.new }
 {
     for number in numbers {
         know_order(alloc, store, supplier, *number, named, orders, apart)?;
@@ -187,8 +187,8 @@ fn used_of<S: Store>(
     ensures unclean { S.honest store.new → S.broken store.old ≡ None →
         are_clean (S.content store.old) ≡ true → result ≢ Err Unclean }
     ensures goes_on { OnOk result (S.broken store.new ≡ S.broken store.old) }
-    ensures fails { FailsWith S.plain NoCause any_answer (S.broken store.old) (S.broken store.new) result }
-    ensures stays { Stays S.content S.honest S.left store.old store.new }
+    ensures fails { FailsOver S.Store NoCause any_answer store.old store.new result }
+    ensures stays { Stays S.Store store.old store.new }
 {
     let mut used = Items::new(alloc);
     for unit in units {
@@ -222,10 +222,10 @@ pub(crate) fn known_for_despatch<'a, S: Store>(
     ensures unclean { S.honest store.new → S.broken store.old ≡ None →
         are_clean (S.content store.old) ≡ true →
         result ≡ Err Unclean → NamedUnclean despatch.now.units (view supplier.now (S.content store.old)) }
-    ensures fails { FailsWith S.plain (S.honest store.new →
+    ensures fails { FailsOver S.Store (S.honest store.new →
         NamedUnclean despatch.now.units (view supplier.now (S.content store.old)))
-        no_answer (S.broken store.old) (S.broken store.new) result }
-    ensures stays { Stays S.content S.honest S.left store.old store.new }
+        no_answer store.old store.new result }
+    ensures stays { Stays S.Store store.old store.new }
 {
     let units = despatch.units.as_slice();
     let control = incoming.control.as_slice();

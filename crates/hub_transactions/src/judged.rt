@@ -13,7 +13,7 @@ ghost use Rattle.hub_rules.specs.declared.verdict.Verdict.TheVariants.{Refuse};
 ghost use Rattle.hub_acts.specs.HubLaw.Messages.{order_act, receipt_act, response_act, despatch_act};
 ghost use Rattle.hub_acts.specs.HubLaw.Messages.{deliver_retailers, deliver_suppliers};
 ghost use Rattle.hub_acts.specs.HubLaw.Requests.{deliver_named};
-ghost use Rattle.hub_acts.specs.Acts.{FailsWith, NoCause, Stays, no_answer};
+ghost use Rattle.hub_acts.specs.Acts.{FailsOver, NoCause, Stays, no_answer};
 ghost use Rattle.hub_acts.specs.HubClean.Clean.{WithinMessage};
 ghost use Rattle.hub_transactions.specs.Judged.{CannotBeRead, JudgedOfRetailer, JudgedOfSupplier, UnreadOf};
 ghost use Rattle.hub_transactions.specs.Named.{MessageUnclean};
@@ -61,8 +61,8 @@ fn refuse<S: Store>(
     ensures refused { IfOk result (λ judged. judged ≡ Read (Refuse code)) }
     ensures unclean { S.honest store.new → S.broken store.old ≡ None →
         are_clean (S.content store.old) ≡ true → result ≢ Err Unclean }
-    ensures fails { FailsWith S.plain NoCause no_answer (S.broken store.old) (S.broken store.new) result }
-    ensures stays { Stays S.content S.honest S.left store.old store.new }
+    ensures fails { FailsOver S.Store NoCause no_answer store.old store.new result }
+    ensures stays { Stays S.Store store.old store.new }
 {
     let control = incoming.control.as_slice();
     let message = incoming.message.as_slice();
@@ -78,13 +78,13 @@ fn judged_order<S: Store>(
     message: &RawMessage,
     incoming: IncomingMessage,
 ) -> Result<Judged, StoreFault>
-    ensures judged { JudgedOfRetailer S.content S.honest register.now order_act (message.now, incoming)
+    ensures judged { JudgedOfRetailer S.Store register.now order_act (message.now, incoming)
         store.old store.new result }
-    ensures fails { FailsWith S.plain NoCause (CannotBeRead (order_of message.now))
-        (S.broken store.old) (S.broken store.new) result }
-    ensures stays { Stays S.content S.honest S.left store.old store.new }
+    ensures fails { FailsOver S.Store NoCause (CannotBeRead (order_of message.now))
+        store.old store.new result }
+    ensures stays { Stays S.Store store.old store.new }
     ensures clean { SoundUnder register.now.suppliers (S.content store.old) → WithinMessage message.now incoming →
-        JudgesClean S.content S.honest S.broken store.old store.new result }
+        JudgesClean S.Store store.old store.new result }
 {
     accepted_changes_fit();
     let order = match Order::read(alloc, message) {
@@ -108,13 +108,13 @@ fn judged_receipt<S: Store>(
     message: &RawMessage,
     incoming: IncomingMessage,
 ) -> Result<Judged, StoreFault>
-    ensures judged { JudgedOfRetailer S.content S.honest register.now receipt_act (message.now, incoming)
+    ensures judged { JudgedOfRetailer S.Store register.now receipt_act (message.now, incoming)
         store.old store.new result }
-    ensures fails { FailsWith S.plain NoCause (CannotBeRead (receipt_of message.now))
-        (S.broken store.old) (S.broken store.new) result }
-    ensures stays { Stays S.content S.honest S.left store.old store.new }
+    ensures fails { FailsOver S.Store NoCause (CannotBeRead (receipt_of message.now))
+        store.old store.new result }
+    ensures stays { Stays S.Store store.old store.new }
     ensures clean { SoundUnder register.now.suppliers (S.content store.old) → WithinMessage message.now incoming →
-        JudgesClean S.content S.honest S.broken store.old store.new result }
+        JudgesClean S.Store store.old store.new result }
 {
     accepted_changes_fit();
     judges_are_given_what_they_ask();
@@ -142,17 +142,17 @@ fn judged_response<S: Store>(
     orders: &mut KnownOrders,
 ) -> Result<Judged, StoreFault>
     ensures judged { KeepsOrders orders.old (view supplier.now.gln (S.content store.old)) →
-        JudgedOfSupplier S.content S.honest register.now supplier.now response_act
+        JudgedOfSupplier S.Store register.now supplier.now response_act
         (message.now, incoming) store.old store.new result }
     ensures kept { S.honest store.new → KeepsOrders orders.old (view supplier.now.gln (S.content store.old)) →
         OnOk result (KeepsOrders orders.new (view supplier.now.gln (S.content store.old))) }
-    ensures fails { FailsWith S.plain (S.honest store.new →
+    ensures fails { FailsOver S.Store (S.honest store.new →
         MessageUnclean message.now (view supplier.now.gln (S.content store.old)))
-        (CannotBeRead (response_of message.now)) (S.broken store.old) (S.broken store.new) result }
-    ensures stays { Stays S.content S.honest S.left store.old store.new }
+        (CannotBeRead (response_of message.now)) store.old store.new result }
+    ensures stays { Stays S.Store store.old store.new }
     ensures clean { KeepsOrders orders.old (view supplier.now.gln (S.content store.old)) →
         Registered register.now.suppliers supplier.now (S.content store.old) →
-        WithinMessage message.now incoming → JudgesClean S.content S.honest S.broken store.old store.new result }
+        WithinMessage message.now incoming → JudgesClean S.Store store.old store.new result }
 {
     accepted_changes_fit();
     lines_of_sound_tables_are_known();
@@ -195,17 +195,17 @@ fn judged_despatch<S: Store>(
     orders: &mut KnownOrders,
 ) -> Result<Judged, StoreFault>
     ensures judged { KeepsOrders orders.old (view supplier.now.gln (S.content store.old)) →
-        JudgedOfSupplier S.content S.honest register.now supplier.now despatch_act
+        JudgedOfSupplier S.Store register.now supplier.now despatch_act
         (message.now, incoming) store.old store.new result }
     ensures kept { S.honest store.new → KeepsOrders orders.old (view supplier.now.gln (S.content store.old)) →
         OnOk result (KeepsOrders orders.new (view supplier.now.gln (S.content store.old))) }
-    ensures fails { FailsWith S.plain (S.honest store.new →
+    ensures fails { FailsOver S.Store (S.honest store.new →
         MessageUnclean message.now (view supplier.now.gln (S.content store.old)))
-        (CannotBeRead (despatch_of message.now)) (S.broken store.old) (S.broken store.new) result }
-    ensures stays { Stays S.content S.honest S.left store.old store.new }
+        (CannotBeRead (despatch_of message.now)) store.old store.new result }
+    ensures stays { Stays S.Store store.old store.new }
     ensures clean { KeepsOrders orders.old (view supplier.now.gln (S.content store.old)) →
         Registered register.now.suppliers supplier.now (S.content store.old) →
-        WithinMessage message.now incoming → JudgesClean S.content S.honest S.broken store.old store.new result }
+        WithinMessage message.now incoming → JudgesClean S.Store store.old store.new result }
 {
     accepted_changes_fit();
     lines_of_sound_tables_are_known();
@@ -241,13 +241,13 @@ pub(crate) fn judged_of_retailer<S: Store>(
     message: &RawMessage,
     incoming: IncomingMessage,
 ) -> Result<Judged, StoreFault>
-    ensures judged { JudgedOfRetailer S.content S.honest register.now deliver_retailers
+    ensures judged { JudgedOfRetailer S.Store register.now deliver_retailers
         (message.now, incoming) store.old store.new result }
-    ensures fails { FailsWith S.plain NoCause
-        (UnreadOf (deliver_named register.now (message.now, incoming))) (S.broken store.old) (S.broken store.new) result }
-    ensures stays { Stays S.content S.honest S.left store.old store.new }
+    ensures fails { FailsOver S.Store NoCause
+        (UnreadOf (deliver_named register.now (message.now, incoming))) store.old store.new result }
+    ensures stays { Stays S.Store store.old store.new }
     ensures clean { SoundUnder register.now.suppliers (S.content store.old) → WithinMessage message.now incoming →
-        JudgesClean S.content S.honest S.broken store.old store.new result }
+        JudgesClean S.Store store.old store.new result }
 {
     let kind = message.kind.as_slice();
     if kind == b"ORDERS".as_slice() {
@@ -271,18 +271,18 @@ pub(crate) fn judged_of_supplier<S: Store>(
     orders: &mut KnownOrders,
 ) -> Result<Judged, StoreFault>
     ensures judged { KeepsOrders orders.old (view supplier.now.gln (S.content store.old)) →
-        JudgedOfSupplier S.content S.honest register.now supplier.now deliver_suppliers
+        JudgedOfSupplier S.Store register.now supplier.now deliver_suppliers
         (message.now, incoming) store.old store.new result }
     ensures kept { S.honest store.new → KeepsOrders orders.old (view supplier.now.gln (S.content store.old)) →
         OnOk result (KeepsOrders orders.new (view supplier.now.gln (S.content store.old))) }
-    ensures fails { FailsWith S.plain (S.honest store.new →
+    ensures fails { FailsOver S.Store (S.honest store.new →
         MessageUnclean message.now (view supplier.now.gln (S.content store.old)))
         (UnreadOf (deliver_suppliers (view supplier.now.gln) (parties_of register.now) supplier.now
-        (message.now, incoming))) (S.broken store.old) (S.broken store.new) result }
-    ensures stays { Stays S.content S.honest S.left store.old store.new }
+        (message.now, incoming))) store.old store.new result }
+    ensures stays { Stays S.Store store.old store.new }
     ensures clean { KeepsOrders orders.old (view supplier.now.gln (S.content store.old)) →
         Registered register.now.suppliers supplier.now (S.content store.old) →
-        WithinMessage message.now incoming → JudgesClean S.content S.honest S.broken store.old store.new result }
+        WithinMessage message.now incoming → JudgesClean S.Store store.old store.new result }
 {
     let kind = message.kind.as_slice();
     if kind == b"ORDRSP".as_slice() {

@@ -11,7 +11,7 @@ ghost use Rattle.hub_rules.specs.Rules.{judge_response};
 ghost use Rattle.hub_rules.specs.Sound.{Kept};
 ghost use Rattle.hub_judges.specs.Known.{TellsDespatched, TellsForCancel, TellsForOrder, TellsForReceipt, TellsForResponse, TellsLines};
 ghost use Rattle.hub_judges.specs.Known.{TellsOrder};
-ghost use Rattle.hub_acts.specs.Acts.{FailsWith, NoCause, Stays, any_answer, no_answer};
+ghost use Rattle.hub_acts.specs.Acts.{FailsOver, NoCause, Stays, any_answer, no_answer};
 ghost use Rattle.hub_transactions.specs.Named.{NamedLines};
 ghost use Rattle.hub_transactions.specs.Orders.{KeepsOrders, TellsAlike};
 
@@ -40,8 +40,8 @@ pub(crate) fn known_for_order<S: Store>(
         TellsForOrder known incoming.now order.now (view supplier.now (S.content store.old))) }
     ensures unclean { S.honest store.new → S.broken store.old ≡ None →
         are_clean (S.content store.old) ≡ true → result ≢ Err Unclean }
-    ensures fails { FailsWith S.plain NoCause no_answer (S.broken store.old) (S.broken store.new) result }
-    ensures stays { Stays S.content S.honest S.left store.old store.new }
+    ensures fails { FailsOver S.Store NoCause no_answer store.old store.new result }
+    ensures stays { Stays S.Store store.old store.new }
 {
     let control = incoming.control.as_slice();
     let message = incoming.message.as_slice();
@@ -100,10 +100,10 @@ pub(crate) fn keep_order<S: Store>(
         are_clean (S.content store.old) ≡ true →
         result ≡ Err Unclean → AreUnclean (lines_of (view supplier.now (S.content store.old)) order.now) }
     ensures goes_on { OnOk result (S.broken store.new ≡ S.broken store.old) }
-    ensures fails { FailsWith S.plain (S.honest store.new →
+    ensures fails { FailsOver S.Store (S.honest store.new →
         AreUnclean (lines_of (view supplier.now (S.content store.old)) order.now))
-        any_answer (S.broken store.old) (S.broken store.new) result }
-    ensures stays { Stays S.content S.honest S.left store.old store.new }
+        any_answer store.old store.new result }
+    ensures stays { Stays S.Store store.old store.new }
 {
     if orders.is_kept(order) {
         return Ok(());
@@ -135,10 +135,10 @@ fn known_of_order<S: Store>(
         are_clean (S.content store.old) ≡ true →
         result ≡ Err Unclean → AreUnclean (lines_of (view supplier.now (S.content store.old)) order.now) }
     ensures goes_on { OnOk result (S.broken store.new ≡ S.broken store.old) }
-    ensures fails { FailsWith S.plain (S.honest store.new →
+    ensures fails { FailsOver S.Store (S.honest store.new →
         AreUnclean (lines_of (view supplier.now (S.content store.old)) order.now))
-        any_answer (S.broken store.old) (S.broken store.new) result }
-    ensures stays { Stays S.content S.honest S.left store.old store.new }
+        any_answer store.old store.new result }
+    ensures stays { Stays S.Store store.old store.new }
 {
     keep_order(alloc, store, supplier, order, &mut orders)?;
     Ok(Known {
@@ -194,8 +194,8 @@ fn named_lines<S: Store>(
     ensures unclean { S.honest store.new → S.broken store.old ≡ None →
         are_clean (S.content store.old) ≡ true → result ≢ Err Unclean }
     ensures goes_on { OnOk result (S.broken store.new ≡ S.broken store.old) }
-    ensures fails { FailsWith S.plain NoCause any_answer (S.broken store.old) (S.broken store.new) result }
-    ensures stays { Stays S.content S.honest S.left store.old store.new }
+    ensures fails { FailsOver S.Store NoCause any_answer store.old store.new result }
+    ensures stays { Stays S.Store store.old store.new }
 {
     let order = response.order.as_slice();
     if kept.is_kept(order) {
@@ -236,10 +236,10 @@ pub(crate) fn known_for_response<S: Store>(
         are_clean (S.content store.old) ≡ true →
         result ≡ Err Unclean →
         AreUnclean (lines_of (view supplier.now (S.content store.old)) response.now.order) }
-    ensures fails { FailsWith S.plain (S.honest store.new →
+    ensures fails { FailsOver S.Store (S.honest store.new →
         AreUnclean (lines_of (view supplier.now (S.content store.old)) response.now.order))
-        no_answer (S.broken store.old) (S.broken store.new) result }
-    ensures stays { Stays S.content S.honest S.left store.old store.new }
+        no_answer store.old store.new result }
+    ensures stays { Stays S.Store store.old store.new }
 {
     let order = response.order.as_slice();
     let control = incoming.control.as_slice();
@@ -271,10 +271,10 @@ pub(crate) fn known_for_cancel<S: Store>(
         are_clean (S.content store.old) ≡ true →
         result ≡ Err Unclean →
         AreUnclean (lines_of (view cancel.now.supplier (S.content store.old)) cancel.now.order) }
-    ensures fails { FailsWith S.plain (S.honest store.new →
+    ensures fails { FailsOver S.Store (S.honest store.new →
         AreUnclean (lines_of (view cancel.now.supplier (S.content store.old)) cancel.now.order))
-        no_answer (S.broken store.old) (S.broken store.new) result }
-    ensures stays { Stays S.content S.honest S.left store.old store.new }
+        no_answer store.old store.new result }
+    ensures stays { Stays S.Store store.old store.new }
 {
     let supplier = &cancel.supplier;
     let order = cancel.order.as_slice();
@@ -309,8 +309,8 @@ fn pallets_of<S: Store>(
         ≡ pallets) }
     ensures unclean { S.honest store.new → S.broken store.old ≡ None →
         are_clean (S.content store.old) ≡ true → result ≢ Err Unclean }
-    ensures fails { FailsWith S.plain NoCause any_answer (S.broken store.old) (S.broken store.new) result }
-    ensures stays { Stays S.content S.honest S.left store.old store.new }
+    ensures fails { FailsOver S.Store NoCause any_answer store.old store.new result }
+    ensures stays { Stays S.Store store.old store.new }
 {
     let mut pallets = Items::new(alloc);
     for unit in units {
@@ -334,8 +334,8 @@ pub(crate) fn known_for_receipt<S: Store>(
         (view supplier.now (S.content store.old))) }
     ensures unclean { S.honest store.new → S.broken store.old ≡ None →
         are_clean (S.content store.old) ≡ true → result ≢ Err Unclean }
-    ensures fails { FailsWith S.plain NoCause no_answer (S.broken store.old) (S.broken store.new) result }
-    ensures stays { Stays S.content S.honest S.left store.old store.new }
+    ensures fails { FailsOver S.Store NoCause no_answer store.old store.new result }
+    ensures stays { Stays S.Store store.old store.new }
 {
     let control = incoming.control.as_slice();
     let message = incoming.message.as_slice();

@@ -22,7 +22,7 @@ pub use hub_acts::texts::{
 pub use hub_acts::{
     accepted_changes_have_places, mailbox_entry, mailbox_list, messages_opened_are_within_limits,
     messages_read_are_within_limits, rules_keep_rows_clean, steps_keep_rows_clean, take_entry,
-    take_join,
+    take_join, unknown_reply,
 };
 pub use hub_order_lines::KnownOrders;
 pub use laws::{cancellations_read_are_within_limits, lines_of_sound_tables_are_known};

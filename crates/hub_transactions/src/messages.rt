@@ -1,14 +1,13 @@
 //! One message of an interchange.
 ghost use Rattle.std.specs.Prelude.{◌≡◌, OnOk};
-ghost use Rattle.hub_parties.specs.Rows.{parties_of};
 ghost use Rattle.hub_tables.specs.Tables.{Tables, view};
-ghost use Rattle.hub_rules.specs.Laws.{SoundUnder, Registered, PartiesRise};
-ghost use Rattle.hub_acts.specs.HubLaw.Messages.{incoming, deliver_suppliers};
+ghost use Rattle.hub_rules.specs.Laws.{SoundUnder, PartiesRise};
+ghost use Rattle.hub_acts.specs.HubLaw.Messages.{incoming};
 ghost use Rattle.hub_acts.specs.HubLaw.Requests.{deliver_named};
-ghost use Rattle.hub_acts.specs.Acts.{Carried, FailsWith, NoCause, OfAny, Unharmed};
+ghost use Rattle.hub_acts.specs.Acts.{Carried, FailsOver, NoCause, OfAny, Unharmed};
 ghost use Rattle.hub_acts.specs.HubClean.Clean.{WithinMessage};
 ghost use Rattle.hub_transactions.specs.Judged.{act_of, JudgedFits};
-ghost use Rattle.hub_transactions.specs.Messages.{AddsLine};
+ghost use Rattle.hub_transactions.specs.Messages.{AddsLine, IfMaySend, suppliers_act};
 ghost use Rattle.hub_transactions.specs.Named.{MessageUnclean};
 ghost use Rattle.hub_transactions.specs.Orders.{KeepsOrders};
 ghost use Rattle.hub_acts.specs.StaysClean.{StaysClean};
@@ -37,13 +36,13 @@ fn commit_and_tell<S: Store>(
     reply: &mut Vec<u8>,
 ) -> Result<Decision, StoreFault>
     ensures carried { JudgedFits judged.now (S.content store.old) →
-        Carried S.content S.honest S.left store.old store.new (act_of judged.now) told_of result }
-    ensures fails { FailsWith S.plain NoCause
+        Carried S.Store store.old store.new (act_of judged.now) told_of result }
+    ensures fails { FailsOver S.Store NoCause
         (λ told. (t : Tables) → (act_of judged.now t).0 ≡ told_of told)
-        (S.broken store.old) (S.broken store.new) result }
-    ensures unharmed { Unharmed S.content S.honest store.old store.new result }
+        store.old store.new result }
+    ensures unharmed { Unharmed S.Store store.old store.new result }
     ensures clean { JudgedFits judged.now (S.content store.old) → JudgedClean judged.now (S.content store.old) →
-        StaysClean S.content S.honest S.broken store.old store.new result }
+        StaysClean S.Store store.old store.new result }
     ensures reply { AddsLine message.now reply.old reply.new result }
 {
     let line = message_line(alloc, message, told_of_judged(judged))?;
@@ -67,15 +66,15 @@ pub fn take_retailers_message<S: Store>(
 ) -> Result<Decision, StoreFault>
     ensures carried { SoundUnder register.now.suppliers (S.content store.old) →
         PartiesRise (S.content store.old) →
-        Carried S.content S.honest S.left store.old store.new
+        Carried S.Store store.old store.new
         (deliver_named register.now (message.now, incoming moment interchange.now message.now)) told_of result }
-    ensures fails { FailsWith S.plain NoCause
+    ensures fails { FailsOver S.Store NoCause
         (OfAny (deliver_named register.now (message.now, incoming moment interchange.now message.now)) told_of)
-        (S.broken store.old) (S.broken store.new) result }
-    ensures unharmed { Unharmed S.content S.honest store.old store.new result }
+        store.old store.new result }
+    ensures unharmed { Unharmed S.Store store.old store.new result }
     ensures clean { SoundUnder register.now.suppliers (S.content store.old) → PartiesRise (S.content store.old) →
         WithinMessage message.now (incoming moment interchange.now message.now) →
-        StaysClean S.content S.honest S.broken store.old store.new result }
+        StaysClean S.Store store.old store.new result }
     ensures reply { AddsLine message.now reply.old reply.new result }
 {
     let came = incoming_of(alloc, moment, interchange, message)?;
@@ -97,26 +96,19 @@ pub fn take_suppliers_message<S: Store>(
     orders: &mut KnownOrders,
     reply: &mut Vec<u8>,
 ) -> Result<Decision, StoreFault>
-    ensures carried { KeepsOrders orders.old (view supplier.now.gln (S.content store.old)) →
-        Registered register.now.suppliers supplier.now (S.content store.old) →
-        PartiesRise (S.content store.old) →
-        Carried S.content S.honest S.left store.old store.new
-        (deliver_suppliers (view supplier.now.gln) (parties_of register.now) supplier.now
-        (message.now, incoming moment interchange.now message.now)) told_of result }
-    ensures kept { S.honest store.new → KeepsOrders orders.old (view supplier.now.gln (S.content store.old)) →
-        Registered register.now.suppliers supplier.now (S.content store.old) →
-        PartiesRise (S.content store.old) →
-        OnOk result (KeepsOrders orders.new (view supplier.now.gln (S.content store.new))) }
-    ensures fails { FailsWith S.plain (S.honest store.new →
+    ensures carried { IfMaySend register.now supplier.now orders.old (S.content store.old)
+        (Carried S.Store store.old store.new
+        (suppliers_act register.now supplier.now moment interchange.now message.now) told_of result) }
+    ensures kept { S.honest store.new → IfMaySend register.now supplier.now orders.old (S.content store.old)
+        (OnOk result (KeepsOrders orders.new (view supplier.now.gln (S.content store.new)))) }
+    ensures fails { FailsOver S.Store (S.honest store.new →
         MessageUnclean message.now (view supplier.now.gln (S.content store.old)))
-        (OfAny (deliver_suppliers (view supplier.now.gln) (parties_of register.now) supplier.now
-        (message.now, incoming moment interchange.now message.now)) told_of) (S.broken store.old) (S.broken store.new) result }
-    ensures unharmed { Unharmed S.content S.honest store.old store.new result }
-    ensures clean { KeepsOrders orders.old (view supplier.now.gln (S.content store.old)) →
-        Registered register.now.suppliers supplier.now (S.content store.old) →
-        PartiesRise (S.content store.old) →
-        WithinMessage message.now (incoming moment interchange.now message.now) →
-        StaysClean S.content S.honest S.broken store.old store.new result }
+        (OfAny (suppliers_act register.now supplier.now moment interchange.now message.now) told_of)
+        store.old store.new result }
+    ensures unharmed { Unharmed S.Store store.old store.new result }
+    ensures clean { IfMaySend register.now supplier.now orders.old (S.content store.old)
+        (WithinMessage message.now (incoming moment interchange.now message.now) →
+        StaysClean S.Store store.old store.new result) }
     ensures reply { AddsLine message.now reply.old reply.new result }
 {
     let came = incoming_of(alloc, moment, interchange, message)?;

@@ -13,7 +13,7 @@ ghost use Rattle.hub_order_lines.specs.Book.{place_cmp};
 ghost use Rattle.hub_acts.specs.HubLaw.Replies.{done};
 ghost use Rattle.hub_acts.specs.HubLaw.StatusText.{pallet_text, status_text};
 ghost use Rattle.hub_acts.specs.HubTexts.Totals.{IsUnclean};
-ghost use Rattle.hub_acts.specs.Acts.{FailsWith, NoCause, Stays, any_answer, no_answer};
+ghost use Rattle.hub_acts.specs.Acts.{FailsOver, NoCause, Stays, any_answer, no_answer};
 ghost use Rattle.hub_transactions.specs.Status.{PalletUnclean, SeesPallet, StatusUnclean};
 
 use edi_base::Items;
@@ -62,8 +62,8 @@ fn received_of<S: Store>(
     ensures unclean { S.honest store.new → S.broken store.old ≡ None →
         are_clean (S.content store.old) ≡ true → result ≢ Err Unclean }
     ensures goes_on { OnOk result (S.broken store.new ≡ S.broken store.old) }
-    ensures fails { FailsWith S.plain NoCause any_answer (S.broken store.old) (S.broken store.new) result }
-    ensures stays { Stays S.content S.honest S.left store.old store.new }
+    ensures fails { FailsOver S.Store NoCause any_answer store.old store.new result }
+    ensures stays { Stays S.Store store.old store.new }
 {
     if pallet.received.case() == Arrival::Announced {
         return Ok(Items::new(alloc));
@@ -87,9 +87,9 @@ fn with_pallets<S: Store>(
     ensures unclean { S.honest store.new → S.broken store.old ≡ None →
         are_clean (S.content store.old) ≡ true →
         result ≡ Err Unclean → PalletUnclean (S.content store.old) lines.now pallets.now }
-    ensures fails { FailsWith S.plain (S.honest store.new → PalletUnclean (S.content store.old) lines.now pallets.now)
-        any_answer (S.broken store.old) (S.broken store.new) result }
-    ensures stays { Stays S.content S.honest S.left store.old store.new }
+    ensures fails { FailsOver S.Store (S.honest store.new → PalletUnclean (S.content store.old) lines.now pallets.now)
+        any_answer store.old store.new result }
+    ensures stays { Stays S.Store store.old store.new }
 {
     let mut whole = text;
     for pallet in pallets {
@@ -114,10 +114,10 @@ pub fn status_report<S: Store>(
     ensures unclean { S.honest store.new → S.broken store.old ≡ None →
         are_clean (S.content store.old) ≡ true →
         result ≡ Err Unclean → StatusUnclean (view supplier.now (S.content store.old)) }
-    ensures fails { FailsWith S.plain (S.honest store.new →
+    ensures fails { FailsOver S.Store (S.honest store.new →
         StatusUnclean (view supplier.now (S.content store.old)))
-        no_answer (S.broken store.old) (S.broken store.new) result }
-    ensures stays { Stays S.content S.honest S.left store.old store.new }
+        no_answer store.old store.new result }
+    ensures stays { Stays S.Store store.old store.new }
 {
     let ordered = store.all_lines(supplier)?;
     let lines = ordered.as_slice();

@@ -47,9 +47,9 @@ returns-in_err-let_in-clause-carried g c = λ here of_tables.
     let accepted : judge_join register row ≡ Accept changes =
     ap (judge_join register) c.row-row.ensures.value ∙ sym c.requires.judged ∙ c.in-Accept.is ∙ ap Accept (sym c.as_slice.ensures) in
     let is : c.from_residual.result ≡ Err c.in_err-let_in.field-0.0 = search rules in
-    subst (λ (row : SupplierRow). Carried g.S.Store.content g.S.Store.honest g.S.Store.left c.args.store.now c.let_in.new.store
+    subst (λ (row : SupplierRow). Carried g.S.Store c.args.store.now c.let_in.new.store
     (joined register Whole row) as_told c.from_residual.result) c.row-row.ensures.value
-    (joins.let_in_failed g.S.Store.content g.S.Store.honest g.S.Store.left c.args.store.now c.let_in.new.store register row
+    (joins.let_in_failed g.S.Store c.args.store.now c.let_in.new.store register row
     (ap is_join c.row-row.ensures.value ∙ c.row-row.ensures.right) changes accepted
     here of_tables _ c.in_err-let_in.field-0.0 _ is c.in_err-let_in.ensures.carried)
 
@@ -62,9 +62,9 @@ returns-clause-carried g c = λ here of_tables.
     ap (judge_join register) c.row-row.ensures.value ∙ sym c.requires.judged ∙ c.in-Accept.is ∙ ap Accept (sym c.as_slice.ensures) in
     let says = c.requires.says
     ∙ ap act_reply (ap told (c.in-Accept.is ∙ ap Accept (sym c.as_slice.ensures))) in
-    subst (λ (row : SupplierRow). Carried g.S.Store.content g.S.Store.honest g.S.Store.left c.args.store.now c.let_in.new.store
+    subst (λ (row : SupplierRow). Carried g.S.Store c.args.store.now c.let_in.new.store
     (joined register Whole row) as_told (Ok c.args.reply)) c.row-row.ensures.value
-    (joins.let_in_carried g.S.Store.content g.S.Store.honest g.S.Store.left c.args.store.now c.let_in.new.store register row
+    (joins.let_in_carried g.S.Store c.args.store.now c.let_in.new.store register row
     (ap is_join c.row-row.ensures.value ∙ c.row-row.ensures.right) changes accepted here of_tables c.args.reply _ says
     c.in_ok-let_in.ensures.carried)
 
@@ -76,7 +76,7 @@ returns-clause-same g c = λ honest here of_tables.
     let accepted : judge_join register row ≡ Accept changes =
     ap (judge_join register) c.row-row.ensures.value ∙ sym c.requires.judged ∙ c.in-Accept.is ∙ ap Accept (sym c.as_slice.ensures) in
     c.in_ok-let_in.ensures.taken
-    ∙ joins.let_in_same g.S.Store.content g.S.Store.honest g.S.Store.left c.args.store.now c.let_in.new.store register row
+    ∙ joins.let_in_same g.S.Store c.args.store.now c.let_in.new.store register row
     (ap is_join c.row-row.ensures.value ∙ c.row-row.ensures.right) changes accepted here of_tables _
     c.in_ok-let_in.ensures.carried honest
 
@@ -114,7 +114,7 @@ pub returns-in-Refuse-clause-carried : goal.returns-in-Refuse-clause-carried
 returns-in-Refuse-clause-carried g c = λ here of_tables.
     let register = c.args.register.now in
     let row = c.args.join.now in
-    joins.refused_carried g.S.Store.content g.S.Store.honest g.S.Store.left
+    joins.refused_carried g.S.Store
     c.args.store.now c.args.store.now register row c.row-row.ensures.right
     (Refuse c.in-Refuse.field-0) c.args.reply (sym c.requires.judged ∙ c.in-Refuse.is) (λ t. refl)
     (c.requires.says ∙ ap act_reply (ap told c.in-Refuse.is))
@@ -157,7 +157,7 @@ returns-clause-clean g c = λ here of_tables.
     let accepted : judge_join register row ≡ Accept changes =
     ap (judge_join register) c.row-row.ensures.value ∙ sym c.requires.judged ∙ c.in-Accept.is ∙ ap Accept (sym c.as_slice.ensures) in
     let may = ap is_join c.row-row.ensures.value ∙ c.row-row.ensures.right in
-    let fit = joins.fits g.S.Store.content g.S.Store.honest g.S.Store.left c.args.store.now c.let_in.new.store register row may
+    let fit = joins.fits g.S.Store c.args.store.now c.let_in.new.store register row may
     changes accepted here of_tables in
     record {
       never = λ honest none clean is. cc;
@@ -174,11 +174,11 @@ returns-in_err-let_in-clause-clean g c = λ here of_tables.
     let accepted : judge_join register row ≡ Accept changes =
     ap (judge_join register) c.row-row.ensures.value ∙ sym c.requires.judged ∙ c.in-Accept.is ∙ ap Accept (sym c.as_slice.ensures) in
     let may = ap is_join c.row-row.ensures.value ∙ c.row-row.ensures.right in
-    let fit = joins.fits g.S.Store.content g.S.Store.honest g.S.Store.left c.args.store.now c.let_in.new.store register row may
+    let fit = joins.fits g.S.Store c.args.store.now c.let_in.new.store register row may
     changes accepted here of_tables in
     let fault = c.in_err-let_in.field-0.0 in
     let is : c.from_residual.result ≡ Err fault = search rules in
-    failed_stays g.S.Store.content g.S.Store.honest g.S.Store.broken c.args.store.now c.let_in.new.store ⊥ (λ no. no) fault
+    failed_stays g.S.Store c.args.store.now c.let_in.new.store ⊥ (λ no. no) fault
     (λ honest none clean.
     (c.in_err-let_in.ensures.clean fit (joined_clean register row t changes accepted may clean)).never honest none clean)
     c.from_residual.result is c.in_err-let_in.ensures.unharmed.same

@@ -19,15 +19,15 @@ returns-in_err-commit-clause-clean g c = λ register s named here rise.
     let looks = c.in_ok-entry.ensures.looks in
     let fault = c.in_err-commit.field-0.0 in
     let is : c.from_residual-in_err-commit.result ≡ Err fault = search rules in
-    let stays : Stays g.S.Store.content g.S.Store.honest g.S.Store.left c.args.store.now c.mail_item.new.self =
+    let stays : Stays g.S.Store c.args.store.now c.mail_item.new.self =
     record { content_stays = looks.content_stays; left_stays = looks.left_stays; was_honest = looks.was_honest } in
     let found : g.S.Store.honest c.mail_item.new.self → entry_at (view gln t) number ≡ Some entry =
     λ honest. sym (looks.answers honest) ∙ c.in-Some.is in
     let rises : g.S.Store.honest c.mail_item.new.self → Rising (apply_all (taking entry) t) =
     λ honest. (c.acts_stay_sound.ensures.taken register s number entry t here rise
     (ap (λ gln. entry_at (view gln t) number) named ∙ found honest)).rising in
-    stays_at g.S.Store.content g.S.Store.honest g.S.Store.broken c.args.store.now c.commit.new.self fault
-    (mark_clean g.S.Store.content g.S.Store.honest g.S.Store.left g.S.Store.broken c.args.store.now c.mail_item.new.self
+    stays_at g.S.Store c.args.store.now c.commit.new.self fault
+    (mark_clean g.S.Store c.args.store.now c.mail_item.new.self
     c.commit.new.self stays c.in_ok-entry.ensures.fails.after gln number entry found rises c.as_slice.result.now
     (taking_is entry c.case.result c.of-entry.result c.as_slice.result.now c.case.ensures c.if-not-case.true c.of-entry.ensures
     (c.as_slice.ensures ∙ c.in_ok-changes.ensures))
@@ -41,7 +41,7 @@ returns-clause-clean g c = λ register s named here rise.
     let number = c.args.number in
     let entry = c.in-Some.entry in
     let looks = c.in_ok-entry.ensures.looks in
-    let stays : Stays g.S.Store.content g.S.Store.honest g.S.Store.left c.args.store.now c.mail_item.new.self =
+    let stays : Stays g.S.Store c.args.store.now c.mail_item.new.self =
     record { content_stays = looks.content_stays; left_stays = looks.left_stays; was_honest = looks.was_honest } in
     let found : g.S.Store.honest c.mail_item.new.self → entry_at (view gln t) number ≡ Some entry =
     λ honest. sym (looks.answers honest) ∙ c.in-Some.is in
@@ -52,7 +52,7 @@ returns-clause-clean g c = λ register s named here rise.
       never = λ honest none clean is. cc;
       rows = λ honest clean. elim c.if-not-case.branch [
         | then-not-case+in_ok-changes+in_ok-commit w ↦
-            let made = mark_clean g.S.Store.content g.S.Store.honest g.S.Store.left g.S.Store.broken c.args.store.now
+            let made = mark_clean g.S.Store c.args.store.now
             c.mail_item.new.self w.commit.new.self stays c.in_ok-entry.ensures.fails.after gln number entry found rises
             w.as_slice.result.now
             (taking_is entry c.case.result w.of-entry.result w.as_slice.result.now c.case.ensures w.if-not-case.true

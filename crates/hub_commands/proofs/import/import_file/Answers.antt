@@ -35,7 +35,7 @@ returns-in-Ok-clause-looks_at g c =
       given = tt;
       did =
           did_upload g.B.Source.remaining (HasFailed g.B.Source.origin g.B.Source.failed)
-          (StepsTo g.S.Store.content g.S.Store.honest g.S.Store.left asked hub new) (new ≡ hub) name
+          (StepsTo g.S.Store asked hub new) (new ≡ hub) name
           c.step_opened-reply.result source c.in-Ok.upload c.step_opened-reply.ensures.stepped c.in-Ok.ensures.opens;
       comes =
           answered (g.W.Sink.contents c.print_reply.new.out) (g.W.Sink.failed c.print_reply.new.out) name
@@ -58,7 +58,7 @@ returns-clause-looks_at g c =
       given = fault_given name c.in-Err.fault;
       did =
           nothing_done g.B.Source.remaining (HasFailed g.B.Source.origin g.B.Source.failed)
-          (StepsTo g.S.Store.content g.S.Store.honest g.S.Store.left asked hub hub) name c.in-Err.fault refl;
+          (StepsTo g.S.Store asked hub hub) name c.in-Err.fault refl;
       comes =
           unread (g.W.Sink.contents c.print_fault.new.out) (g.W.Sink.failed c.print_fault.new.out) name c.in-Err.fault
           c.print_fault.result (written_as (ap file_line c.as_str.ensures.value) c.in_ok-print_file_line.ensures.ok)

@@ -1,11 +1,12 @@
 use Rattle.hub_commands.specs.Files.{HasFailed}
 use Rattle.std.proofs.Common.{ℕ, List, [], ◌∷◌, ◌++◌, None, refl, ◌∙◌, inl, inr}
+use Rattle.hub_core.specs.Hub.{RunsFrom}
 use Rattle.hub_core.specs.Steps.{input_of}
 use Rattle.hub_requests.specs.declared.request.Request.TheVariants.{Upload}
 use Rattle.hub_commands.specs.Import.{NoMemory}
 use Rattle.hub_commands.proofs.OneFile.{lost_at_once}
 use Rattle.hub_commands.proofs.Output.{written_or_lost}
-use Rattle.hub_commands.proofs.Running.{RunsTo, runs_more}
+use Rattle.hub_commands.proofs.Running.{runs_more}
 use Rattle.hub_commands.proofs.SoFar.{gives_none, gives_file, gives_fault, gives_again, taken_more, taken_no_memory, taken_known}
 use Rattle.hub_commands.proofs.SoFar.{so_far_none, so_far_more, still_known, whole, early}
 use Rattle.hub_commands.proofs.import.import_run.Goals as goal
@@ -20,7 +21,7 @@ loop-file-init g c =
       so_far =
           so_far_none g.F.Bytes.Source.remaining (HasFailed g.F.Bytes.Source.origin g.F.Bytes.Source.failed)
           asked (g.F.Files.remaining c.args.files.now) (g.W.Sink.contents c.args.out.now)
-          (g.W.Sink.failed c.args.out.now) (RunsTo g.S.Store.content g.S.Store.honest g.S.Store.left asked hub hub)
+          (g.W.Sink.failed c.args.out.now) (RunsFrom g.S.Store hub hub)
           (λ honest sound. c.steps_are_a_run.ensures.none hub.1 sound.sound);
     }
 
@@ -29,7 +30,7 @@ returns-in-Ok-None-clause-imported g c =
     let asked = λ (bytes : List ℕ). input_of c.args.moment c.args.caller.now c.args.key.now (Upload bytes) in
     whole g.F.Bytes.Source.remaining (HasFailed g.F.Bytes.Source.origin g.F.Bytes.Source.failed)
     asked (g.F.Files.remaining c.args.files.now) (g.W.Sink.contents c.args.out.now) (g.W.Sink.failed c.args.out.now)
-    (RunsTo g.S.Store.content g.S.Store.honest g.S.Store.left asked c.args.hub.now c.loop-file.hub)
+    (RunsFrom g.S.Store c.args.hub.now c.loop-file.hub)
     (g.F.Files.remaining c.loop-file.files) (g.F.Files.remaining c.next.new.self) (g.W.Sink.contents c.loop-file.out)
     (g.W.Sink.failed c.loop-file.out) c.loop-file.greatest c.loop-file.invariant.so_far
     (gives_none g.F.Bytes.Source.remaining (HasFailed g.F.Bytes.Source.origin g.F.Bytes.Source.failed)
@@ -45,7 +46,7 @@ returns-in-Err-clause-imported g c =
     let left = g.F.Files.remaining c.next.new.self in
     let s = c.loop-file.invariant.so_far in
     let asked = λ (bytes : List ℕ). input_of c.args.moment c.args.caller.now c.args.key.now (Upload bytes) in
-    let ran = runs_more g.S.Store.content g.S.Store.honest g.S.Store.left asked
+    let ran = runs_more g.S.Store asked
     c.steps_are_a_run.ensures.more hub between between s.looked (NoMemory None)
     (λ honest. honest) c.loop-file.invariant.held s.ran refl in
     let taken = taken_no_memory g.F.Bytes.Source.remaining
@@ -56,8 +57,8 @@ returns-in-Err-clause-imported g c =
     rest left c.next.result c.in-Err.field-0 c.next.ensures.gives c.in-Err.is) in
     early g.F.Bytes.Source.remaining (HasFailed g.F.Bytes.Source.origin g.F.Bytes.Source.failed)
     asked known (g.W.Sink.contents c.args.out.now) (g.W.Sink.failed c.args.out.now)
-    (RunsTo g.S.Store.content g.S.Store.honest g.S.Store.left asked hub between)
-    (RunsTo g.S.Store.content g.S.Store.honest g.S.Store.left asked hub between) rest rest
+    (RunsFrom g.S.Store hub between)
+    (RunsFrom g.S.Store hub between) rest rest
     (g.W.Sink.contents c.loop-file.out) (g.W.Sink.contents c.print.new.out) (g.W.Sink.failed c.loop-file.out)
     (g.W.Sink.failed c.print.new.out) c.loop-file.greatest s (NoMemory None) ran left taken.0 taken.1 taken.2
     (elim (written_or_lost c.print.result c.print.ensures.ok c.print.ensures.err) [
@@ -76,7 +77,7 @@ loop-file-preserved g c =
     let s = c.loop-file.invariant.so_far in
     let looks = c.in-Ok.ensures.looks_at in
     let asked = λ (bytes : List ℕ). input_of c.args.moment c.args.caller.now c.args.key.now (Upload bytes) in
-    let ran = runs_more g.S.Store.content g.S.Store.honest g.S.Store.left asked
+    let ran = runs_more g.S.Store asked
     c.steps_are_a_run.ensures.more hub between new s.looked looks.one
     c.import_file.ensures.was_honest c.loop-file.invariant.held s.ran looks.did in
     record {
@@ -87,8 +88,8 @@ loop-file-preserved g c =
       so_far =
           so_far_more g.F.Bytes.Source.remaining (HasFailed g.F.Bytes.Source.origin g.F.Bytes.Source.failed)
           asked known (g.W.Sink.contents c.args.out.now) (g.W.Sink.failed c.args.out.now)
-          (RunsTo g.S.Store.content g.S.Store.honest g.S.Store.left asked hub between)
-          (RunsTo g.S.Store.content g.S.Store.honest g.S.Store.left asked hub new) rest later
+          (RunsFrom g.S.Store hub between)
+          (RunsFrom g.S.Store hub new) rest later
           (g.W.Sink.contents c.loop-file.out) (g.W.Sink.contents c.import_file.new.out) (g.W.Sink.failed c.loop-file.out)
           (g.W.Sink.failed c.import_file.new.out) c.loop-file.greatest s looks.one ran
           (taken_more g.F.Bytes.Source.remaining (HasFailed g.F.Bytes.Source.origin g.F.Bytes.Source.failed)
@@ -110,7 +111,7 @@ returns-in-Err-import_file-clause-imported g c =
     let s = c.loop-file.invariant.so_far in
     let looks = c.in-Err-import_file.ensures.looks_at in
     let asked = λ (bytes : List ℕ). input_of c.args.moment c.args.caller.now c.args.key.now (Upload bytes) in
-    let ran = runs_more g.S.Store.content g.S.Store.honest g.S.Store.left asked
+    let ran = runs_more g.S.Store asked
     c.steps_are_a_run.ensures.more hub between new s.looked looks.one
     c.import_file.ensures.was_honest c.loop-file.invariant.held s.ran looks.did in
     let taken = taken_more g.F.Bytes.Source.remaining (HasFailed g.F.Bytes.Source.origin g.F.Bytes.Source.failed)
@@ -120,8 +121,8 @@ returns-in-Err-import_file-clause-imported g c =
     c.in-Ok-Some.field-0-is) looks.is in
     early g.F.Bytes.Source.remaining (HasFailed g.F.Bytes.Source.origin g.F.Bytes.Source.failed)
     asked known (g.W.Sink.contents c.args.out.now) (g.W.Sink.failed c.args.out.now)
-    (RunsTo g.S.Store.content g.S.Store.honest g.S.Store.left asked hub between)
-    (RunsTo g.S.Store.content g.S.Store.honest g.S.Store.left asked hub new) rest later
+    (RunsFrom g.S.Store hub between)
+    (RunsFrom g.S.Store hub new) rest later
     (g.W.Sink.contents c.loop-file.out) (g.W.Sink.contents c.import_file.new.out) (g.W.Sink.failed c.loop-file.out)
     (g.W.Sink.failed c.import_file.new.out) c.loop-file.greatest s looks.one ran later
     taken.others

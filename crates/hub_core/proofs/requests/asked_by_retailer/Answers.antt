@@ -33,7 +33,7 @@ returns-then-is_some-clause-asked g c here =
     let t = g.S.Store.content c.args.store.now in
     let state = view gln t in
     let says = reported c.supplier.result (supplier_row register.suppliers gln) state c.if-is_some.ensures c.supplier.ensures.value in
-    rw c.in-StatusOf.is (by_look g.S.Store.content g.S.Store.honest g.S.Store.left c.args.store.now c.status_report.new.store 1
+    rw c.in-StatusOf.is (by_look g.S.Store c.args.store.now c.status_report.new.store 1
     (request_of register Retailer c.args.moment (StatusOf gln)) c.status_report.result (done (status_text state))
     c.status_report.ensures.stays
     (λ honest. c.status_report.ensures.reply honest (here.sound.sound.kept gln)) (λ i. (says i, t)))
@@ -43,7 +43,7 @@ returns-in-Cancel-clause-asked g c here =
     let register = c.args.register.now in
     let may = delivers register (g.S.Store.content c.args.store.now) here in
     let cancel = c.in-Cancel.cancel in
-    rw c.in-Cancel.is (by_act g.S.Store.content g.S.Store.honest g.S.Store.left c.args.store.now c.take_cancel.new.store 1
+    rw c.in-Cancel.is (by_act g.S.Store c.args.store.now c.take_cancel.new.store 1
     (request_of register Retailer c.args.moment (Cancel cancel)) (λ t. answered Whole (cancel_named register cancel t) t)
     c.take_cancel.result refl (λ t. refl) (c.take_cancel.ensures.carried may.0 may.1) c.take_cancel.ensures.unharmed)
 
@@ -51,7 +51,7 @@ pub returns-in-Join-clause-asked : goal.returns-in-Join-clause-asked
 returns-in-Join-clause-asked g c here =
     let register = c.args.register.now in
     let row = c.in-Join.join in
-    rw c.in-Join.is (by_act g.S.Store.content g.S.Store.honest g.S.Store.left c.args.store.now c.take_join.new.store 1
+    rw c.in-Join.is (by_act g.S.Store c.args.store.now c.take_join.new.store 1
     (request_of register Retailer c.args.moment (Join row)) (joined register Whole row)
     c.take_join.result refl (λ t. refl) (c.take_join.ensures.carried here.sound here.held) c.take_join.ensures.unharmed)
 

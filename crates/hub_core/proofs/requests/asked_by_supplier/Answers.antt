@@ -20,7 +20,7 @@ returns-in-MailItem-clause-asked g c may =
     let register = c.args.register.now in
     let t = g.S.Store.content c.args.store.now in
     let entry = entry_at (view c.args.supplier.now.gln t) c.in-MailItem.number in
-    rw c.in-MailItem.is (by_look g.S.Store.content g.S.Store.honest g.S.Store.left c.args.store.now c.mailbox_entry.new.store 1
+    rw c.in-MailItem.is (by_look g.S.Store c.args.store.now c.mailbox_entry.new.store 1
     (request_of register (Supplier c.args.supplier) c.args.moment (MailItem c.in-MailItem.number)) c.mailbox_entry.result
     (entry_reply register.hub entry) c.mailbox_entry.ensures.stays
     (λ honest.
@@ -55,7 +55,7 @@ returns-in-MailTaken-clause-asked g c may =
     let register = c.args.register.now in
     let s = c.args.supplier.now in
     let number = c.in-MailTaken.number in
-    rw c.in-MailTaken.is (by_act g.S.Store.content g.S.Store.honest g.S.Store.left c.args.store.now c.take_entry.new.store 1
+    rw c.in-MailTaken.is (by_act g.S.Store c.args.store.now c.take_entry.new.store 1
     (request_of register (Supplier c.args.supplier) c.args.moment (MailTaken number))
     (λ t. taken Whole (entry_at (view s.gln t) number) t)
     c.take_entry.result refl (λ t. refl) (c.take_entry.ensures.carried register s refl may.0 may.1) c.take_entry.ensures.unharmed)

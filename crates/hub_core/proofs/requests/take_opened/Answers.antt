@@ -14,7 +14,7 @@ returns-in-Some-clause-asked g c may =
     let register = c.args.register.now in
     let opening = addressed_by register c.args.caller in
     let is = ap opening (ap spec.with_code c.in-Ok.is) ∙ c.in-Some.ensures.some in
-    upload_refused g.S.Store.content g.S.Store.honest g.S.Store.left (delivered register c.args.caller) c.args.moment
+    upload_refused g.S.Store (delivered register c.args.caller) c.args.moment
     c.args.store.now (opening (spec.with_code c.args.upload))
     c.in-Some.code.now c.in_ok-refused_upload.field-0 is c.in_ok-refused_upload.ensures
 
@@ -23,7 +23,7 @@ returns-clause-asked g c may =
     let register = c.args.register.now in
     let opening = addressed_by register c.args.caller in
     let is = ap opening (ap spec.with_code c.in-Ok.is) ∙ c.in_default.ensures.none in
-    upload_taken g.S.Store.content g.S.Store.honest g.S.Store.left (delivered register c.args.caller) c.args.moment
+    upload_taken g.S.Store (delivered register c.args.caller) c.args.moment
     c.args.store.now c.take_messages.new.store (opening (spec.with_code c.args.upload))
     c.in-Ok.interchange c.take_messages.result is (λ honest. c.take_messages.ensures.answered honest may)
 

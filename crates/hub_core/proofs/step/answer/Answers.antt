@@ -14,7 +14,7 @@ returns-in-Some-Supplier-clause-asked g c here =
     let register = c.args.register.now in
     let input = input_of c.args.moment c.args.caller.now c.args.key.now c.args.request.now in
     let known : IsCaller register c.args.caller.now c.args.key.now (Supplier c.in-Some-Supplier.supplier) = search rules in
-    asked_as register input g.S.Store.content g.S.Store.honest g.S.Store.left c.args.store.now c.asked_by_supplier.new.store
+    asked_as register input g.S.Store c.args.store.now c.asked_by_supplier.new.store
     (Supplier c.in-Some-Supplier.supplier) c.asked_by_supplier.result known c.asked_by_supplier.ensures.asked here
 
 pub returns-in-Some-Supplier-clause-held : goal.returns-in-Some-Supplier-clause-held
@@ -24,7 +24,7 @@ returns-in-Some-Supplier-clause-held g c row is honest here =
     let input = input_of c.args.moment c.args.caller.now c.args.key.now c.args.request.now in
     let known : IsCaller register c.args.caller.now c.args.key.now (Supplier supplier) = search rules in
     here.held
-    ∙ sym (ap register_of (content_kept g.S.Store.content g.S.Store.honest g.S.Store.left c.args.store.now
+    ∙ sym (ap register_of (content_kept g.S.Store c.args.store.now
     c.asked_by_supplier.new.store (acts_by register (Supplier supplier) c.args.request.now)
     (request_of register (Supplier supplier) c.args.moment c.args.request.now) c.asked_by_supplier.result
     (λ mark t. ap (λ request. (request_of register (Supplier supplier) c.args.moment request mark t).1) is)
@@ -36,7 +36,7 @@ returns-in-Some-Retailer-clause-asked g c here =
     let register = c.args.register.now in
     let input = input_of c.args.moment c.args.caller.now c.args.key.now c.args.request.now in
     let known : IsCaller register c.args.caller.now c.args.key.now Retailer = search rules in
-    asked_as register input g.S.Store.content g.S.Store.honest g.S.Store.left c.args.store.now c.asked_by_retailer.new.store
+    asked_as register input g.S.Store c.args.store.now c.asked_by_retailer.new.store
     Retailer c.asked_by_retailer.result known (λ _. c.asked_by_retailer.ensures.asked here) here
 
 pub returns-in-Some-Supplier-clause-joined : goal.returns-in-Some-Supplier-clause-joined

@@ -14,9 +14,9 @@ returns-in-Some-clause-asked g c bytes opens =
     let register = c.args.register.now in
     let is = opened_before bytes c.args.upload c.requires.read c.in_ok-upload.ensures.sufficed opens ∙ sym c.in_ok-upload.ensures.told in
     asked_as register (input_of c.args.moment c.args.caller.now c.args.key.now (Upload bytes))
-    g.S.Store.content g.S.Store.honest g.S.Store.left c.args.store.now c.take_opened.new.store
+    g.S.Store c.args.store.now c.take_opened.new.store
     c.in-Some.caller c.take_opened.result c.in-Some.ensures.some
-    (opened_asked g.S.Store.content g.S.Store.honest g.S.Store.left c.args.store.now c.take_opened.new.store register c.in-Some.caller
+    (opened_asked g.S.Store c.args.store.now c.take_opened.new.store register c.in-Some.caller
     c.args.moment bytes (spec.with_code c.in_ok-upload.upload) c.take_opened.result is c.take_opened.ensures.asked)
 
 pub returns-in-Some-clause-held : goal.returns-in-Some-clause-held
@@ -25,7 +25,7 @@ returns-in-Some-clause-held g c honest here =
     let t = g.S.Store.content c.args.store.now in
     let input = input_of c.args.moment c.args.caller.now c.args.key.now (Upload []) in
     let deliver = may register input t c.in-Some.caller c.in-Some.ensures.some here in
-    opened_sound g.S.Store.content g.S.Store.honest g.S.Store.left c.args.store.now c.take_opened.new.store
+    opened_sound g.S.Store c.args.store.now c.take_opened.new.store
     (record {
       of_suppliers = c.acts_stay_sound.ensures.suppliers;
       of_retailers = c.acts_stay_sound.ensures.retailers;

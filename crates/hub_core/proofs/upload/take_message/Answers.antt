@@ -13,7 +13,7 @@ returns-in-Retailer-clause-may g c honest kept = rw c.in-Retailer.is (λ (may : 
     let message = c.args.message.now in
     let came = incoming c.args.upload.now.moment c.args.upload.now.interchange.now message in
     let after = c.acts_stay_sound.ensures.retailers register message came (g.S.Store.content c.args.store.now) may.0 may.1 in
-    holds_after (λ (t : Tables). SoundUnder register.suppliers t × PartiesRise t) g.S.Store.content g.S.Store.honest g.S.Store.left
+    holds_after (λ (t : Tables). SoundUnder register.suppliers t × PartiesRise t) g.S.Store
     c.args.store.now c.take_retailers_message.new.store
     (deliver_named register (message, came)) told_of c.take_retailers_message.result
     (c.take_retailers_message.ensures.carried may.0 may.1) c.take_retailers_message.ensures.unharmed honest may

@@ -24,7 +24,7 @@ answer_asked-requires-clause-sized g c =
 
 pub returns-in-Ok-clause-answers : goal.returns-in-Ok-clause-answers
 returns-in-Ok-clause-answers g c =
-    answers_head (Steps g.S.Store.content g.S.Store.honest g.S.Store.left c.args.moment c.args.hub.now c.answer_asked.new.hub)
+    answers_head (Steps g.S.Store c.args.moment c.args.hub.now c.answer_asked.new.hub)
     (c.answer_asked.new.hub ≡ c.args.hub.now) c.args.hub.now.0 (g.R.Source.remaining c.args.reader.now) c.args.head.now
     (asked_as c.in-Ok.asked) c.rest.result.now c.answer_asked.result
     (subst (λ (r : Result AskedHere Refusal). asked_or_refused r ≡ asked_by c.args.hub.now.0 c.args.head.now) c.in-Ok.is

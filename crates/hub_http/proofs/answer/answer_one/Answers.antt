@@ -12,7 +12,7 @@ use Rattle.hub_http.proofs.answer.answer_one.Goals as goal
 pub returns-in-Some-clause-answered : goal.returns-in-Some-clause-answered
 returns-in-Some-clause-answered g c =
     let found = c.in_ok-head.ensures.head in
-    serves_some (Steps g.S.Store.content g.S.Store.honest g.S.Store.left c.args.moment c.args.hub.now c.answer_head.new.hub)
+    serves_some (Steps g.S.Store c.args.moment c.args.hub.now c.answer_head.new.hub)
     (c.answer_head.new.hub ≡ c.args.hub.now) c.args.hub.now.0 _ _ _ c.in-Some.head c.answer_head.result
     (rw c.in-Some.is at found) c.in_ok-head.ensures.limit
     (body_within (size_asked (asked_by c.args.hub.now.0 c.in-Some.head)) _ _ _ c.answer_head.ensures.front) c.answer_head.ensures.answers
@@ -35,14 +35,14 @@ returns-in-Some-clause-cut g c =
 pub returns-in-None-clause-answered : goal.returns-in-None-clause-answered
 returns-in-None-clause-answered g c =
     let found = c.in_ok-head.ensures.head in
-    serves_none (Steps g.S.Store.content g.S.Store.honest g.S.Store.left c.args.moment c.args.hub.now c.args.hub.now)
+    serves_none (Steps g.S.Store c.args.moment c.args.hub.now c.args.hub.now)
     (c.args.hub.now ≡ c.args.hub.now) c.args.hub.now.0 _ _ c.refused.result (rw c.in-None.is at found)
     c.in_ok-head.ensures.limit (inl (refl, c.refused.ensures))
 
 pub returns-in-Some-clause-or_fails : goal.returns-in-Some-clause-or_fails
 returns-in-Some-clause-or_fails g c =
     subst (λ (before : Bool).
-    AnswersOrFails (Steps g.S.Store.content g.S.Store.honest g.S.Store.left c.args.moment c.args.hub.now c.answer_head.new.hub)
+    AnswersOrFails (Steps g.S.Store c.args.moment c.args.hub.now c.answer_head.new.hub)
     (c.answer_head.new.hub ≡ c.args.hub.now) before (g.R.Source.failed c.answer_head.new.reader) c.answer_head.result)
     c.in_ok-head.ensures.kept c.answer_head.ensures.or_fails
 

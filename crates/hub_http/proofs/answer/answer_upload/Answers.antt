@@ -14,7 +14,7 @@ use Rattle.hub_http.proofs.answer.answer_upload.Goals as goal
 
 pub returns-in-Ok-Some-clause-answers : goal.returns-in-Ok-Some-clause-answers
 returns-in-Ok-Some-clause-answers g c =
-    answers_upload (Steps g.S.Store.content g.S.Store.honest g.S.Store.left c.args.moment c.args.hub.now c.ask_opened.new.hub)
+    answers_upload (Steps g.S.Store c.args.moment c.args.hub.now c.ask_opened.new.hub)
     (c.ask_opened.new.hub ≡ c.args.hub.now) (asked_as c.args.asked.now)
     (λ left. body_in c.args.asked.now.size (c.args.front.now ++ left)) _ c.in-Ok-Some.upload c.ask_opened.result c.requires.route
     (subst (λ (u : Option (Result Interchange OpenFault)). IfSome (g.R.Source.remaining c.args.reader.now) (λ left.
@@ -23,7 +23,7 @@ returns-in-Ok-Some-clause-answers g c =
 
 pub returns-in-Ok-Some-clause-or_fails : goal.returns-in-Ok-Some-clause-or_fails
 returns-in-Ok-Some-clause-or_fails g c = (
-  one_upload (Steps g.S.Store.content g.S.Store.honest g.S.Store.left c.args.moment c.args.hub.now c.ask_opened.new.hub)
+  one_upload (Steps g.S.Store c.args.moment c.args.hub.now c.ask_opened.new.hub)
       (c.ask_opened.new.hub ≡ c.args.hub.now) (asked_as c.args.asked.now) c.in-Ok-Some.upload c.ask_opened.result
       (subst (λ (u : Option (Result Interchange OpenFault)). IfSome u (λ upload. (bytes : List ℕ) × Opens upload (opened bytes)))
       c.in-Ok-Some.field-0-is c.in-Ok-Some.ensures.some) c.ask_opened.ensures.asked,

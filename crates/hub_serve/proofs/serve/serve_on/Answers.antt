@@ -1,7 +1,8 @@
 use Rattle.std.proofs.Common.{◌≡◌, ℕ, inl, inr, List, [], ◌∷◌, length, refl, sym, subst, ap, ◌∙◌, arith}
 use Rattle.hub_parties.specs.Rows.{RegisterRows}
+use Rattle.hub_http.specs.HubCore.Hub.{RunsFrom}
 use Rattle.hub_serve.specs.Serve.{IsServed, inputs, replies}
-use Rattle.hub_serve.specs.Broken.{RunsTo, StopsAtOnce}
+use Rattle.hub_serve.specs.Broken.{StopsAtOnce}
 use Rattle.hub_serve.proofs.Running.{runs_more}
 use Rattle.hub_serve.proofs.SoFar.{cut_short, gave_up, lost, so_far_more, so_far_none}
 use Rattle.hub_serve.proofs.Stopping.{was_whole}
@@ -22,9 +23,9 @@ pub returns-in-Err-clause-served : goal.returns-in-Err-clause-served
 returns-in-Err-clause-served g c =
     let s = c.loop-number.invariant.so_far in
     cut_short s c.in-Err.ensures.served.1 c.in-Err.ensures.served.2 c.in-Err.ensures.stopped c.loop-number-test.true
-    (subst (λ h. RunsTo g.S.Store.content g.S.Store.honest g.S.Store.left c.args.hub.now h (inputs s.served) (replies s.served))
+    (subst (λ h. RunsFrom g.S.Store c.args.hub.now h (inputs s.served) (replies s.served))
     (sym c.in-Err.ensures.served.0) s.ran)
-    (subst (λ h. StopsAtOnce g.S.Store.content g.S.Store.honest g.S.Store.left c.args.on_broken g.S.Store.broken c.args.hub.now h
+    (subst (λ h. StopsAtOnce g.S.Store c.args.on_broken c.args.hub.now h
     s.served) (sym c.in-Err.ensures.served.0) s.at_once)
 
 pub returns-then-is_err-clause-served : goal.returns-then-is_err-clause-served
@@ -33,9 +34,9 @@ returns-then-is_err-clause-served g c =
     let one = c.in-Ok.ensures.served in
     let register = c.loop-number.invariant.register in
     lost s one.one one.passes (subst (λ (r : RegisterRows). IsServed r one.one) register one.is)
-    (runs_more g.S.Store.content g.S.Store.honest g.S.Store.left c.steps_are_a_run.ensures.more c.args.hub.now c.loop-number.hub
+    (runs_more g.S.Store c.steps_are_a_run.ensures.more c.args.hub.now c.loop-number.hub
     c.serve_next.new.hub s.served one.one c.serve_next.ensures.was_honest c.loop-number.invariant.held s.ran one.did)
-    (λ stops. inr (was_whole g.S.Store.content g.S.Store.honest g.S.Store.left g.S.Store.broken c.args.hub.now
+    (λ stops. inr (was_whole g.S.Store c.args.hub.now
     c.loop-number.hub c.serve_next.new.hub s.served one.one c.loop-number.number s.counted c.serve_next.ensures.was_honest
     (c.loop-number.invariant.goes_on stops) s.ran one.did))
     refl c.print_line.result (rw (sym one.ends) at c.print_line.ensures.bytes) c.print_line.ensures.flag
@@ -50,9 +51,9 @@ returns-then-is_over-clause-served g c =
     let register = c.loop-number.invariant.register in
     let over = c.is_over.ensures.over c.if-is_over.true in
     gave_up s one.one one.passes (subst (λ (r : RegisterRows). IsServed r one.one) register one.is)
-    (runs_more g.S.Store.content g.S.Store.honest g.S.Store.left c.steps_are_a_run.ensures.more c.args.hub.now c.loop-number.hub
+    (runs_more g.S.Store c.steps_are_a_run.ensures.more c.args.hub.now c.loop-number.hub
     c.serve_next.new.hub s.served one.one c.serve_next.ensures.was_honest c.loop-number.invariant.held s.ran one.did)
-    (λ stops. inr (was_whole g.S.Store.content g.S.Store.honest g.S.Store.left g.S.Store.broken c.args.hub.now
+    (λ stops. inr (was_whole g.S.Store c.args.hub.now
     c.loop-number.hub c.serve_next.new.hub s.served one.one c.loop-number.number s.counted c.serve_next.ensures.was_honest
     (c.loop-number.invariant.goes_on stops) s.ran one.did))
     refl c.print_line.result (rw (sym one.ends) at c.print_line.ensures.bytes) c.print_line.ensures.flag
@@ -61,7 +62,7 @@ returns-then-is_over-clause-served g c =
     c.loop-number-test.true (
       over.0,
       (
-        was_whole g.S.Store.content g.S.Store.honest g.S.Store.left g.S.Store.broken c.args.hub.now c.loop-number.hub
+        was_whole g.S.Store c.args.hub.now c.loop-number.hub
             c.serve_next.new.hub s.served one.one c.loop-number.number s.counted c.serve_next.ensures.was_honest
             (c.loop-number.invariant.goes_on over.0) s.ran one.did,
         over.1,
@@ -84,9 +85,9 @@ loop-number-preserved g c =
           c.serve_next.ensures.held honest (c.loop-number.invariant.held (c.serve_next.ensures.was_honest honest) sound);
       so_far =
           so_far_more s one.one one.passes (subst (λ (r : RegisterRows). IsServed r one.one) register one.is)
-          (runs_more g.S.Store.content g.S.Store.honest g.S.Store.left c.steps_are_a_run.ensures.more c.args.hub.now c.loop-number.hub
+          (runs_more g.S.Store c.steps_are_a_run.ensures.more c.args.hub.now c.loop-number.hub
           c.serve_next.new.hub s.served one.one c.serve_next.ensures.was_honest c.loop-number.invariant.held s.ran one.did)
-          (λ stops. inr (was_whole g.S.Store.content g.S.Store.honest g.S.Store.left g.S.Store.broken c.args.hub.now
+          (λ stops. inr (was_whole g.S.Store c.args.hub.now
           c.loop-number.hub c.serve_next.new.hub s.served one.one c.loop-number.number s.counted c.serve_next.ensures.was_honest
           (c.loop-number.invariant.goes_on stops) s.ran one.did))
           refl c.print_line.result (rw (sym one.ends) at c.print_line.ensures.bytes) c.print_line.ensures.flag

@@ -33,7 +33,7 @@ returns-clause-carried g c = λ hub rise.
     c.in_ok-verdict.verdict ≡ judge_cancel (supplier_row register.suppliers cancel.supplier) (cancel_text cancel) cancel state =
     λ honest. c.in_ok-verdict.ensures state (c.in_ok-known.ensures.told honest)
     ∙ (λ i. judge_cancel (supplier i) (content i) cancel state) in
-    after_looking g.S.Store.content g.S.Store.honest g.S.Store.left c.args.store.now
+    after_looking g.S.Store c.args.store.now
     c.known_for_cancel.new.store c.commit_and_reply.new.store
     does (λ t. replied_by act_reply (act c.in_ok-verdict.verdict t)) as_told
     (VerdictFits c.in_ok-verdict.verdict)
@@ -57,7 +57,7 @@ returns-clause-clean g c = λ hub rise within.
     c.in_ok-verdict.verdict ≡ judge_cancel (supplier_row register.suppliers cancel.supplier) (cancel_text cancel) cancel state =
     λ honest. c.in_ok-verdict.ensures state (c.in_ok-known.ensures.told honest)
     ∙ (λ i. judge_cancel (supplier i) (content i) cancel state) in
-    clean_after_looking g.S.Store.content g.S.Store.honest g.S.Store.left g.S.Store.broken c.args.store.now
+    clean_after_looking g.S.Store c.args.store.now
     c.known_for_cancel.new.store c.commit_and_reply.new.store
     c.in_ok-known.ensures.stays c.commit_and_reply.ensures.unharmed.was_honest c.in_ok-known.ensures.fails.after
     (VerdictFits c.in_ok-verdict.verdict) (VerdictClean c.in_ok-verdict.verdict)
@@ -76,7 +76,7 @@ returns-in_err-known-clause-clean g c = λ hub rise within.
     let t = g.S.Store.content c.args.store.now in
     let fault = c.in_err-known.field-0.0 in
     let is : c.from_residual-in_err-known.result ≡ Err fault = search rules in
-    failed_stays g.S.Store.content g.S.Store.honest g.S.Store.broken c.args.store.now c.known_for_cancel.new.store
+    failed_stays g.S.Store c.args.store.now c.known_for_cancel.new.store
     (AreUnclean (lines_of (view cancel.supplier t) cancel.order))
     (c.lines_of_sound_tables_are_known.ensures.order register.suppliers cancel.supplier cancel.order t hub.sound)
     fault c.in_err-known.ensures.unclean c.from_residual-in_err-known.result is c.in_err-known.ensures.stays.content_stays

@@ -10,7 +10,7 @@ use Rattle.hub_transactions.proofs.despatches.know_orders.Given as goal
 -- each order that is named is known, or is to come
 abbrev pub invariant-loop-number : goal.invariant-loop-number
 invariant-loop-number g l = record {
-  stays : Stays g.S.Store.content g.S.Store.honest g.S.Store.left l.fn.store l.store;
+  stays : Stays g.S.Store l.fn.store l.store;
   broken : g.S.Store.broken l.store ≡ g.S.Store.broken l.fn.store;
   known : g.S.Store.honest l.store
       → KeepsAsked (names_line l.named.entries) l.fn.orders (map (λ number. number.now) l.fn.apart)

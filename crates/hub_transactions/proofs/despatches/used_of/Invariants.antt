@@ -5,7 +5,7 @@ use Rattle.hub_transactions.proofs.despatches.used_of.Given as goal
 
 abbrev pub invariant-loop-unit : goal.invariant-loop-unit
 invariant-loop-unit g l = record {
-  stays : Stays g.S.Store.content g.S.Store.honest g.S.Store.left l.fn.store l.store;
+  stays : Stays g.S.Store l.fn.store l.store;
   broken : g.S.Store.broken l.store ≡ g.S.Store.broken l.fn.store;
   found : g.S.Store.honest l.store →
       l.used ++ map (λ unit. has_pallet (g.S.Store.content l.fn.store) unit.sscc) (drop l.unit-index l.units)

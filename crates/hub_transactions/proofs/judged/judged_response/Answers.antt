@@ -80,7 +80,7 @@ returns-in_err-known-clause-clean g c = λ old here within.
     let response = c.in-Ok.response in
     let fault = c.in_err-known.field-0.0 in
     let is : c.from_residual.result ≡ Err fault = search rules in
-    failed_clean g.S.Store.content g.S.Store.honest g.S.Store.broken c.args.store.now c.known_for_response.new.store
+    failed_clean g.S.Store c.args.store.now c.known_for_response.new.store
     (AreUnclean (lines_of (view s.gln t) response.order))
     (c.lines_of_sound_tables_are_known.ensures.order suppliers s.gln response.order t here.sound)
     fault c.in_err-known.ensures.unclean c.from_residual.result is

@@ -18,7 +18,7 @@ returns-clause-carried g c = λ hub rise.
     let message = c.args.message.now in
     let came = incoming c.args.moment c.args.interchange.now message in
     let t = g.S.Store.content c.args.store.now in
-    after_looking g.S.Store.content g.S.Store.honest g.S.Store.left c.args.store.now
+    after_looking g.S.Store c.args.store.now
     c.judged_of_retailer.new.store c.commit_and_tell.new.store
     (deliver_named register (message, came)) (act_of c.in_ok-judged.judged) told_of (JudgedFits c.in_ok-judged.judged)
     c.in_ok-judged.ensures.stays c.commit_and_tell.ensures.unharmed.was_honest
@@ -46,7 +46,7 @@ returns-clause-fails g c =
 pub returns-clause-clean : goal.returns-clause-clean
 returns-clause-clean g c = λ here rise within.
     let message = c.args.message.now in
-    clean_after_looking g.S.Store.content g.S.Store.honest g.S.Store.left g.S.Store.broken c.args.store.now
+    clean_after_looking g.S.Store c.args.store.now
     c.judged_of_retailer.new.store c.commit_and_tell.new.store
     c.in_ok-judged.ensures.stays c.commit_and_tell.ensures.unharmed.was_honest c.in_ok-judged.ensures.fails.after
     (JudgedFits c.in_ok-judged.judged) (JudgedClean c.in_ok-judged.judged)
@@ -60,6 +60,6 @@ returns-in_err-judged-clause-clean g c = λ here rise within.
     let message = c.args.message.now in
     let fault = c.in_err-judged.field-0.0 in
     let is : c.from_residual-in_err-judged.result ≡ Err fault = search rules in
-    failed_stays g.S.Store.content g.S.Store.honest g.S.Store.broken c.args.store.now c.judged_of_retailer.new.store ⊥ (λ no. no) fault
+    failed_stays g.S.Store c.args.store.now c.judged_of_retailer.new.store ⊥ (λ no. no) fault
     (c.in_err-judged.ensures.clean here (subst (WithinMessage message) (sym c.in_ok-came.ensures) within)).never
     c.from_residual-in_err-judged.result is c.in_err-judged.ensures.stays.content_stays

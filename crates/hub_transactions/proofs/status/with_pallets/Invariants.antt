@@ -10,7 +10,7 @@ use Rattle.hub_transactions.proofs.status.with_pallets.Given as goal
 
 abbrev pub invariant-loop-pallet : goal.invariant-loop-pallet
 invariant-loop-pallet g l = record {
-  stays : Stays g.S.Store.content g.S.Store.honest g.S.Store.left l.fn.store l.store;
+  stays : Stays g.S.Store l.fn.store l.store;
   broken : g.S.Store.broken l.store ≡ g.S.Store.broken l.fn.store;
   text : g.S.Store.honest l.store → (state : Tables) → state.lines ≡ l.lines
       → ((pallet : PalletRow) → Has l.pallets pallet → SeesPallet state (g.S.Store.content l.fn.store) pallet)
