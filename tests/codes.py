@@ -1,10 +1,10 @@
-"""Checks that each code of a fault or a refusal means the same everywhere. docs/codes.toml is the list: the entries of CODES.md, FORMATS.md
-and RULES.md and the table of page/hub/codes.js are written from it, and definitions and help texts have to agree with it.
+"""Checks that each code of a fault or a refusal means the same everywhere. docs/codes.toml is the list: the entries of CODES.md and the table
+of page/hub/codes.js are written from it, and definitions and help texts have to agree with it.
 
     python3 -m tests.codes [--write]
 
-Prints each difference, with status 1; with `--write` it first writes the entries again. A new code needs a line of its own in each place
-for that, as `- **M13**` in a document and `  M13: {`, `  },` in the page."""
+Prints each difference, with status 1; with `--write` it first writes the entries again. For that a new code needs a line of its own in each
+place: `- **M13**` in CODES.md, `  M13: {` and `  },` in the page."""
 import json
 import os
 import re
@@ -39,12 +39,9 @@ def item(code, said, text):
     return "\n".join(textwrap.wrap(f"- **{name}**: {text}", 120, subsequent_indent="  ", break_on_hyphens=False)) + "\n"
 
 
-def definition(code, said):
-    return item(code, said, said["condition"])
-
-
 def explanation(code, said):
-    return item(code, said, f"{said['meaning']} *Usual cause:* {said['cause']} *Remedy:* {said['remedy']}")
+    condition = said["condition"][0].upper() + said["condition"][1:]
+    return item(code, said, f"{condition}. *Cause:* {said['cause']} *Remedy:* {said['remedy']}")
 
 
 def words_of_page(code, said):
@@ -55,8 +52,6 @@ ITEM = r"- \*\*([EMB]\d\d)\b.*\n(?:  .*\n)*"
 # each place that is written from the list: the codes that it has by their letters, how its entries look, and how one is written
 WRITTEN = {
     os.path.join("docs", "CODES.md"): ("EMB", ITEM, explanation),
-    os.path.join("docs", "FORMATS.md"): ("EM", ITEM, definition),
-    os.path.join("docs", "RULES.md"): ("B", ITEM, definition),
     os.path.join("page", "hub", "codes.js"): ("EMB", r"  ([EMB]\d\d): \{\n(?:    .*\n)*  \},\n", words_of_page),
 }
 

@@ -7,92 +7,92 @@
 const CODES = {
   E01: {
     meaning: "The file is longer than 1,048,576 bytes.",
-    cause: "Too many messages were put into one file.",
+    cause: "Too many messages are in one file.",
     remedy: "Split it into several interchanges.",
   },
   E02: {
     meaning: "The service string (UNA) at the beginning is wrong or cut off.",
     cause: "The sender's program uses separators that are not allowed, such as one character for two of them.",
-    remedy: "Set the program to the usual separators, which are : + . ? and the apostrophe.",
+    remedy: "Set it to the usual separators, which are : + . ? and the apostrophe.",
   },
   E03: {
     meaning: "The file has a character that is not allowed in an interchange.",
-    cause: "A text has a tab or a line break in it, or the file was saved as UTF-8.",
-    remedy: "Take the character out, or save the file as ISO 8859-1.",
+    cause: "A text contains a tab or a line break, or the file was saved as UTF-8.",
+    remedy: "Remove the character, or save the file as ISO 8859-1.",
   },
   E04: {
     meaning: "The file is cut off: it ends inside a segment.",
-    cause: "A transfer broke off, or the terminator of the last segment is missing.",
+    cause: "A transfer broke off, or the last terminator is missing.",
     remedy: "Send the whole file.",
   },
   E05: {
     meaning: "The file has something other than a segment's tag where one has to be.",
-    cause: "It is not an EDIFACT file, or a text has an apostrophe without a release character before it.",
-    remedy: "Check that you chose the right file, and have each apostrophe in a text written as ?'.",
+    cause: "It is not an EDIFACT file, or a text has an apostrophe without a release character.",
+    remedy: "Check that it is the right file, and write each apostrophe in a text as ?'.",
   },
   E06: {
     meaning: "The file does not begin with UNB and end with UNZ, or has one of them twice.",
-    cause: "The file is incomplete, or several interchanges are in it.",
-    remedy: "Send each interchange whole, and in a file of its own.",
+    cause: "The file is incomplete, or has several interchanges.",
+    remedy: "Send each interchange whole, in a file of its own.",
   },
   E07: {
     meaning: "The header (UNB) is wrong: its syntax, sender, recipient, date, time or reference.",
-    cause: "The sender's program is set to another syntax or version, or to a qualifier other than 14.",
-    remedy: "Set it to UNOC and version 3, with a GLN and qualifier 14 for sender and recipient.",
+    cause: "The sender's program is set to another syntax, version or qualifier.",
+    remedy: "Set it to UNOC and version 3, with GLN and qualifier 14 for sender and recipient.",
   },
   E08: {
     meaning: "The sender in the file is not the company that is signed in.",
-    cause: "The file is another company's, or the sender's program has another GLN for it.",
+    cause: "The file is another company's, or the sender's program has the wrong GLN for it.",
     remedy: "Sign in as the sender, or correct the sender in UNB.",
   },
   E09: {
     meaning: "The recipient in the file is not this hub.",
-    cause: "The sender's program has another GLN for the hub.",
-    remedy: "Correct the recipient in UNB: the hub's GLN, or a supplier may give the retailer's.",
+    cause: "The sender's program has the wrong GLN for the hub.",
+    remedy: "Correct the recipient in UNB: the hub's GLN; a supplier may also give the retailer's.",
   },
   E10: {
     meaning: "The messages are not each one UNH, its segments and one UNT.",
     cause: "A UNH or UNT is missing, or the sender's program writes functional groups (UNG and UNE).",
-    remedy: "Have the file written again, without groups.",
+    remedy: "Write the file again, without groups.",
   },
   E11: {
     meaning: "A message's header (UNH) is wrong, or the count in its UNT is not a number.",
-    cause: "The message reference is missing or longer than 14 characters, or the message type is incomplete.",
+    cause: "The message reference is missing or longer than 14 characters, or the type is incomplete.",
     remedy: "Correct UNH: a reference, and a type such as ORDRSP:D:01B:UN.",
   },
   E12: {
     meaning: "The count of segments in a message's UNT is wrong.",
     cause: "Part of the message is missing, or it was changed by hand.",
-    remedy: "Have the file written again.",
+    remedy: "Write the file again.",
   },
   E13: {
     meaning: "A message's UNT has another reference than its UNH.",
-    cause: "The message was changed by hand, or put together from two.",
-    remedy: "Have the file written again.",
+    cause: "The message was changed by hand, or is put together from two.",
+    remedy: "Write the file again.",
   },
   E14: {
     meaning: "The count of messages in UNZ is wrong.",
     cause: "A message is missing, or was added by hand.",
-    remedy: "Have the file written again.",
+    remedy: "Write the file again.",
   },
   E15: {
     meaning: "The end of the file (UNZ) has another reference than its beginning (UNB).",
-    cause: "The file was changed by hand, or put together from two.",
-    remedy: "Have the file written again.",
+    cause: "The file was changed by hand, or is put together from two.",
+    remedy: "Write the file again.",
   },
   E16: {
     meaning: "Two messages in the file have the same reference.",
     cause: "A message was copied, or the sender's program does not number its messages.",
-    remedy: "Give each message of a file a reference of its own.",
+    remedy: "Give each message of a file its own reference.",
   },
   E17: {
     meaning: "The file is marked as a test, and the hub takes no tests.",
     cause: "The sender's program is still set to testing.",
-    remedy: "Have the test indicator left out, and send the file again.",
+    remedy: "Leave the test indicator out, and send the file again.",
   },
   E18: {
     meaning: "The file has more than 999 messages.",
-    cause: "The messages of a long time were put into one file.",
+    cause: "The messages of a long time are in one file.",
     remedy: "Split it into several interchanges.",
   },
   E19: {
@@ -103,11 +103,11 @@ const CODES = {
   E20: {
     meaning: "A segment is longer than 8,192 bytes.",
     cause: "A text in it is too long, or a terminator is missing.",
-    remedy: "Shorten the text, and have each segment end with its terminator.",
+    remedy: "Shorten the text, and end each segment with its terminator.",
   },
   M01: {
     meaning: "The hub does not take this type of message, or not from this side.",
-    cause: "The message is of the other side, or the sender's program writes another version than D.01B.",
+    cause: "The other side sends such messages, or the sender's program writes another version than D.01B.",
     remedy: "The retailer sends ORDERS and RECADV, a supplier ORDRSP and DESADV, each as D:01B:UN.",
   },
   M02: {
@@ -118,22 +118,22 @@ const CODES = {
   M03: {
     meaning: "The hub does not take this function of a message.",
     cause: "The sender's program sends a copy, a change or a cancellation.",
-    remedy: "Send originals (function 9). An answer to an order may also have 4, 27 or 29, a receipt 5.",
+    remedy: "Send originals (function 9). An answer may also have 4, 27 or 29, a receipt 5.",
   },
   M04: {
     meaning: "The document date is missing, there are two, or it is not a date.",
-    cause: "The sender's program writes a date in another format, or a day that does not exist.",
+    cause: "The sender's program writes another format, or a day that does not exist.",
     remedy: "Give exactly one date (DTM 137), in format 102 or 203.",
   },
   M05: {
     meaning: "The buyer or the supplier is missing, there are two, or its GLN is wrong.",
-    cause: "A check digit is wrong, or the sender's program gives a customer number in place of the GLN.",
+    cause: "A check digit is wrong, or a customer number is given instead of the GLN.",
     remedy: "Give each party once, by its GLN with code 9.",
   },
   M06: {
     meaning: "The summary (UNS) is missing or in the wrong place.",
     cause: "The sender's program leaves it out, or writes it before the last line.",
-    remedy: "Have one UNS+S written after the last line.",
+    remedy: "Write one UNS+S after the last line.",
   },
   M07: {
     meaning: "A line is wrong: its number, its article or its answer.",
@@ -142,38 +142,38 @@ const CODES = {
   },
   M08: {
     meaning: "A quantity is missing, there are two, or it is not valid.",
-    cause: "It is not a whole number, is in another unit than pieces, or is zero in an order or a despatch.",
+    cause: "It is not a whole number, not in pieces, or zero in an order or a despatch.",
     remedy: "Give each quantity once, in whole pieces, at most 999,999,999.",
   },
   M09: {
     meaning: "The reference to an order is missing or wrong.",
     cause: "The sender's program leaves the order number out, or an answer names two orders.",
-    remedy: "Give the order's number (RFF+ON) as it is in the order, and send an answer for each order.",
+    remedy: "Give the order's number (RFF+ON) as it is in the order; answer each order by itself.",
   },
   M10: {
     meaning: "A pallet is wrong: its SSCC is missing or not valid, or two pallets have it.",
     cause: "The check digit of an SSCC is wrong, or a line comes before the first pallet.",
-    remedy: "Give each pallet one SSCC of its own, and put each line on a pallet.",
+    remedy: "Give each pallet its own SSCC, and put each line on a pallet.",
   },
   M11: {
     meaning: "The count of lines (CNT+2) is wrong.",
     cause: "A line is missing, or the sender's program counts something else.",
-    remedy: "Have the message written again; the count may also be left out.",
+    remedy: "Write the message again; the count may also be left out.",
   },
   M12: {
     meaning: "The message has no line.",
-    cause: "The document was still empty when it was sent.",
+    cause: "The document was still empty.",
     remedy: "Send at least one line; only an answer to a whole order (function 27 or 29) needs none.",
   },
   B01: {
     meaning: "The buyer in the message is not this hub's retailer.",
-    cause: "The GLN is that of a branch or of another customer.",
+    cause: "The GLN is a branch's or another customer's.",
     remedy: "Give the retailer's GLN as the buyer.",
   },
   B02: {
     meaning: "The supplier is not registered in the hub, or is not the one that is signed in.",
-    cause: "The supplier's GLN is wrong, or the retailer has not registered the supplier yet.",
-    remedy: "Check the GLN. Once the retailer has registered the supplier, send it again.",
+    cause: "The GLN is wrong, or the retailer has not registered the supplier yet.",
+    remedy: "Check the GLN. Once the supplier is registered, send the message again.",
   },
   B03: {
     meaning: "Something else was sent under the same reference before.",
@@ -217,8 +217,8 @@ const CODES = {
   },
   B11: {
     meaning: "The SSCC is under none of the supplier's company prefixes.",
-    cause: "The SSCC is another company's, or the prefix is not registered in the hub.",
-    remedy: "Use the prefix that GS1 gave you, and ask the retailer which prefixes are registered.",
+    cause: "The SSCC is another company's, or the prefix is not registered.",
+    remedy: "Use the prefix that GS1 gave you, and ask the retailer which are registered.",
   },
   B12: {
     meaning: "The SSCC was used before.",
@@ -242,18 +242,18 @@ const CODES = {
   },
   B16: {
     meaning: "The supplier's mailbox is full.",
-    cause: "It has 99,999,999,999,999 entries, which is the most it takes.",
+    cause: "It has 99,999,999,999,999 entries, the most that it takes.",
     remedy: "Ask the hub's operator: the supplier needs another hub.",
   },
   B17: {
     meaning: "More is cancelled than is open.",
-    cause: "The supplier has despatched or refused part of the line meanwhile.",
+    cause: "Meanwhile the supplier has despatched or refused part of the line.",
     remedy: "Look at the status, and lower the quantity.",
   },
   B18: {
     meaning: "The GLN is already the hub's, the retailer's or a supplier's.",
     cause: "The supplier was registered before, perhaps by a command whose answer was lost.",
-    remedy: "If the supplier is in the hub, there is nothing left to do; if not, check the GLN.",
+    remedy: "If the supplier is in the hub, you are done; if not, check the GLN.",
   },
   B19: {
     meaning: "A company prefix begins one of another supplier, or is begun by it.",
@@ -261,8 +261,8 @@ const CODES = {
     remedy: "Ask both suppliers which prefix GS1 gave them.",
   },
   B20: {
-    meaning: "The hub has 1,000 suppliers, which is the most it takes.",
-    cause: "No supplier ever leaves a hub, so it fills up.",
+    meaning: "The hub has 1,000 suppliers, the most that it takes.",
+    cause: "No supplier ever leaves a hub.",
     remedy: "Set up another hub for further suppliers.",
   },
 };
