@@ -358,7 +358,6 @@ BLOCKS = {
         "systemctl show": each_of_the_package,
     },
     "docs/OPERATING.md": {
-        "[Service]\nExecStart=": "a drop-in for systemd",
         "install -d -o root": each_of_the_package,
         "python3 add_supplier.py": in_examples("front"),
         "join: accepted": "what the script prints",
@@ -371,7 +370,6 @@ BLOCKS = {
         "edihub import": Run(prints=IMPORTED, leaves={"order.edi": FIRST_MAIL.partition("+250603")[0]}),
         "grep '^2026": Run(**JOURNAL, prints=told(REFUSED)),
         "grep -E '^[^ ]+": Run(**JOURNAL, prints=told(TIMED_OUT)),
-        "/var/lib/edihub/journal {": "a configuration of logrotate",
         "python3 feed.py": Run(served=True, prints=told("done 1.edi", "done 2.edi"), says=("done 1.edi",), leaves=FED),
         "python3 apart.py": Run(prints=told(HUBS), says=(HUBS,)),
         "kill -STOP PID": Run("mkdir backup", served=True, prints="", then="cmp hub.db backup/hub.db; cmp hub.db-wal backup/hub.db-wal"),
@@ -390,7 +388,14 @@ BLOCKS = {
         "pub done": quoted("crates", "hub_store", "specs", "Calls.antt"),
     },
     "docs/REGISTER.md": {"hub = ": a_register, "edihub check": Run(prints=told(TWO))},
-    "docs/SERVING.md": {"edihub init": served, "listening 8080": printed_before, "2026-11-28T": "a journal", "server {": NGINX},
+    "docs/SERVING.md": {
+        "edihub init": served,
+        "listening 8080": printed_before,
+        "2026-11-28T": "a journal",
+        "[Service]\nExecStart=": "a drop-in for systemd",
+        "/var/lib/edihub/journal {": "a configuration of logrotate",
+        "server {": NGINX,
+    },
     "docs/SUPPLIER.md": {
         "X-Hub-Key: ": a_header,
         f"HUB=http://127.0.0.1:8080/p/{ALPHA}": Run(ORDERED, served=True, prints=MAIL + ANSWERED, leaves={"order.edi": FIRST_MAIL}),
