@@ -41,7 +41,7 @@ def item(code, said, text):
 
 def explanation(code, said):
     condition = said["condition"][0].upper() + said["condition"][1:]
-    return item(code, said, f"{condition}. *Cause:* {said['cause']} *Remedy:* {said['remedy']}")
+    return item(code, said, f"{condition}. *{said['cause']}* {said['remedy']}")
 
 
 def words_of_page(code, said):

@@ -12,7 +12,7 @@ const CODES = {
   },
   E02: {
     meaning: "The service string (UNA) at the beginning is wrong or cut off.",
-    cause: "The sender's program uses separators that are not allowed, such as one character for two of them.",
+    cause: "The sender's program uses one character for two separators, or one that is not allowed.",
     remedy: "Set it to the usual separators, which are : + . ? and the apostrophe.",
   },
   E03: {
@@ -33,7 +33,7 @@ const CODES = {
   E06: {
     meaning: "The file does not begin with UNB and end with UNZ, or has one of them twice.",
     cause: "The file is incomplete, or has several interchanges.",
-    remedy: "Send each interchange whole, in a file of its own.",
+    remedy: "Send each interchange whole, in its own file.",
   },
   E07: {
     meaning: "The header (UNB) is wrong: its syntax, sender, recipient, date, time or reference.",
@@ -192,7 +192,7 @@ const CODES = {
   },
   B06: {
     meaning: "The order has no such line, or it is not clear which line is meant.",
-    cause: "The line number is wrong; or none is given, and the article is on no line or on several.",
+    cause: "The line number is wrong; or it is missing, and the article is on no line or on several.",
     remedy: "Give the line's number as it is in the order.",
   },
   B07: {
