@@ -8,12 +8,12 @@ SCRIPT = crates/trial_script/out/trial_script
 .PHONY: join-test edihub trial_script tests_of_calls install uninstall deb deb-test clean
 
 # The main job: the example's ORDERS interchange becomes the supplier's mailbox interchange; first from a build without any proof, then
-# proved. The program that does this alone, as `edihub relay` does it, stands on six crates.
+# proved. The small program that does only this, as `edihub relay` does it, uses six crates.
 run:
 	python3 -m tests.relay_first $(EXAMPLE)
 
 # The program that `make day`, `make serve` and `make page` run: the proved one, or with UNPROVED=1 a build without any proof, which takes
-# some minutes, is slower, and is kept until a crate changes.
+# some minutes, is much slower, and is kept until a crate changes.
 ifeq ($(UNPROVED),1)
 RUNNABLE = crates/edihub/out/try/edihub
 LABEL = "Nothing of this program is proved: it is a build for trying, which checks each access as it runs, and is slower."
@@ -47,22 +47,21 @@ serve: runnable
 		{ $(RUNNABLE) serve --db "$$folder/hub.db" --port $(PORT) --count $(COUNT) || case $$? in 1|3|130) ;; *) exit 1 ;; esac; }
 	$(if $(LABEL),@echo $(LABEL))
 
-# The page for people, for trying alone: a hub of the example register with the orders of the example day, and a proxy
-# before it that serves the page.
-# ^C ends it. `make page PAGE_PORT=8001` takes another port.
+# The page, only for trying: a hub of the example register with the orders of the example day, and a proxy in front of it that serves the
+# page. ^C ends it. `make page PAGE_PORT=8001` takes another port.
 PAGE_PORT = 8000
 
 page: runnable
 	@python3 examples/page/try.py $(RUNNABLE) $(PAGE_PORT) $(LABEL)
 
-# The page in headless Chromium and its readers in Node, some minutes, no part of the gate; and its pictures, made anew.
+# Tests the page in headless Chromium and its readers in Node, some minutes, not part of the gate; and makes its pictures again.
 page-test: edihub
 	python3 -m tests.page.test ./edihub
 
 page-pictures: edihub
 	python3 -m tests.page.pictures ./edihub docs/page
 
-# Proves and builds the program, a line for each crate. With no change since, nothing is proved again.
+# Proves and builds the program, with a line for each crate. What has not changed is not proved again.
 edihub:
 	python3 -m tests.prove edihub --help
 	cp $(PROVED) edihub
@@ -71,7 +70,7 @@ edihub:
 trial_script:
 	python3 -m tests.prove trial_script
 
-# Proves and runs the tests of calls, whose programs are left for the hostile trials.
+# Proves and runs the tests of calls, and leaves their programs for the hostile trials.
 TESTS = edi_tests http_tests judge_tests hub_tests app_tests
 
 tests_of_calls:
@@ -79,7 +78,7 @@ tests_of_calls:
 		(mkdir -p crates/$$crate/out && cd crates/$$crate && rt test > out/log 2>&1 || { cat out/log; exit 1; }) || exit 1; \
 	done
 
-# Cases of `edihub` or `trial_script` without any proof, of one group or those with some words in their names: make case OF=orders WORDS=QTY
+# Runs cases on an unproved `edihub` or `trial_script`, of one group or with some words in their names: make case OF=orders WORDS=QTY
 case:
 	python3 -m tests.unproved $(OF) $(WORDS)
 
@@ -99,7 +98,7 @@ uninstall:
 deb:
 	python3 install/deb.py $(PROGRAM) out
 
-# The package by lintian, and in fresh Debian 12 trees, some minutes and as root; no part of the gate.
+# Checks the package by lintian and in fresh Debian 12 trees, some minutes, as root; not part of the gate.
 deb-test:
 	python3 -m tests.deb $(PROGRAM)
 
@@ -107,19 +106,19 @@ deb-test:
 test:
 	python3 -m tests.test
 
-# The library of wrong bodies and wrong definitions, of all crates or of one: make wrong CRATE=edi_goods
+# Tries the wrong bodies and wrong definitions of all crates, or of one: make wrong CRATE=edi_goods
 wrong:
 	python3 -m tests.wrong $(CRATE)
 
-# Whether the trial of a machine that stops finds a commit in two transactions, which the contracts refuse: some minutes.
+# Checks that the trial of a machine that stops finds a commit in two transactions, which the contracts refuse: some minutes.
 split-commit:
 	python3 -m tests.split_commit
 
-# Kills, full disks, damaged files and refused memory, for some minutes; no part of the gate.
+# Kills, full disks, damaged files and refused memory, for some minutes; not part of the gate.
 hostile: edihub trial_script tests_of_calls
 	python3 -m tests.hostile $(PROVED) $(SCRIPT)
 
-# Inputs made right and then changed, through the program: make fuzz SEED=2 NUMBER=10000
+# Gives the program valid inputs that were then changed: make fuzz SEED=2 NUMBER=10000
 SEED = 1
 NUMBER = 100000
 
@@ -133,29 +132,29 @@ ORDERS = 10000
 year: edihub
 	python3 -m bench.year $(PROVED) $(ORDERS)
 
-# 1,000 suppliers at once, through HAProxy as examples/front has it; no part of the gate.
+# 1,000 suppliers at once, through HAProxy as examples/front has it; not part of the gate.
 crowd: edihub
 	python3 -m bench.crowd $(PROVED)
 
 # Slow readers, slow senders, guessed keys and 1,000 suppliers at once, through nginx and HAProxy as examples/front has them, some minutes;
-# no part of the gate. READ=2000 gives the long status fewer lines.
+# not part of the gate. READ=2000 gives the long status fewer lines.
 READ = 180000
 
 front-test: edihub
 	python3 -m bench.front $(PROVED) 1000 $(READ)
 
-# The most expensive requests beside a typical upload, some 10 minutes; no part of the gate. LONG=--long sends the longest in full.
+# Measures the most expensive requests beside a typical upload, some 4 minutes; not part of the gate. LONG=--long: in full.
 LONG =
 
 worst: edihub
 	python3 -m bench.worst $(PROVED) $(LONG)
 
-# One hub, and three behind HAProxy as examples/hubs has them, asked the same; no part of the gate.
+# Asks one hub, and three behind HAProxy as examples/hubs has them, the same; not part of the gate.
 hubs: edihub
 	python3 -m tests.three_hubs $(PROVED)
 
-# Suppliers that keep asking through HAProxy while another one is registered, some minutes; no part of the gate. LINES="100000 1000000" does
-# it in hubs with this many order lines.
+# Suppliers keep asking through HAProxy while another one is registered, some minutes; not part of the gate. LINES="100000 1000000"
+# does it in hubs with this many order lines.
 LINES =
 
 join-test: edihub

@@ -1,5 +1,5 @@
-"""`make bench`: all benchmarks of the proved programs, each figure beside its bound. The last line says how many are within; a figure that
-is past its bound is no failure. Those over a file need the system's SQLite to compare with.
+"""`make bench`: runs all benchmarks of the proved programs, and prints each figure beside its bound. The last line says how many are
+within; a figure past its bound is not a failure. Benchmarks over a file need the system's SQLite to compare with.
 
     python3 -m bench EDIHUB HUB_SCRIPT"""
 import os
@@ -14,7 +14,7 @@ FOLDER = os.path.dirname(os.path.abspath(__file__))
 
 
 def built(name, folder):
-    """A plain program."""
+    """Builds a plain program."""
     program = os.path.join(folder, name)
     subprocess.run(["rustc", "--edition", "2021", "-O", "-o", program, os.path.join(FOLDER, f"{name}.rs")], check=True)
     return program

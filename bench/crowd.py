@@ -1,11 +1,11 @@
 """`make crowd`: 1,000 suppliers at once, through HAProxy with `examples/front/haproxy.cfg`, over TLS.
 
-Each supplier lists its mailbox, fetches the order that waits there, marks it as taken, answers it, despatches it and asks for its
-status, each request over a connection of its own and as soon as the one before is answered. Some send slowly, some go away in the
-midst of a request or before they read the answer and come again, and some send the beginning of a head and nothing more. Each answer
-is compared with the right one; in the end each status, and what the file remembers, says that each message was taken once. It is done
-twice: with a hub that goes on, and with one that ends after some connections and is begun anew, as a supervisor does. Then the hub is
-halted, and a client reads what the front answers when its queue's time is over.
+Each supplier lists its mailbox, fetches the order, marks it as taken, answers it, despatches it and asks for its status, each request
+over a connection of its own and as soon as the one before is answered. Some send slowly, some disconnect in the middle of a request or
+before they read the answer and try again, and some send only the beginning of a head. Each answer is compared with the right one; in
+the end each status, and the file, show that each message was taken once. This is done twice: with a hub that goes on, and with one
+that ends after some connections and is restarted, as by a supervisor. Then the hub is halted, and a client reads what the front answers
+when the time in its queue is over.
 
     python3 -m bench.crowd crates/edihub/out/edihub [SUPPLIERS]"""
 import asyncio
@@ -107,7 +107,7 @@ async def never_ends(door, number, late):
 
 
 async def clients(door, numbers, suppliers, never, late):
-    """All these suppliers at once: the seconds of each answer, how many were told to come again, what is wrong, and the seconds in all."""
+    """Runs all these suppliers at once. Returns the seconds of each answer, how many had to try again, what is wrong, and all seconds."""
     its = [Client(door, number, suppliers) for number in numbers]
     begun, waiting = time.monotonic(), [asyncio.create_task(never_ends(door, number, late)) for number in range(never)]
     await asyncio.gather(*(it.day() for it in its))
@@ -143,8 +143,8 @@ def kept(folder, suppliers):
 
 
 def turn(program, suppliers, count, what, front_of=lambda port: Front(FILE, {ADDRESS: port}), most=None):
-    """A crowd over a hub that serves so many connections and is begun anew, through the front that is made for its port. What is wrong; a
-    wait is, that is longer than `most` gives for the seconds in which each supplier has one answer."""
+    """Runs a crowd over a hub that serves this many connections and is then restarted, through a front for its port. Returns what is wrong,
+    such as a wait that is longer than `most` gives for the seconds in which each supplier has one answer."""
     with tempfile.TemporaryDirectory() as folder:
         founded(program, folder, suppliers)
         with Supervised(program, folder, count) as hub, front_of(hub.port) as front:
@@ -210,7 +210,7 @@ def large_upload(reference, first):
 
 
 async def large(door, hub):
-    """What is wrong with a large upload that is sent slowly, and with one in whose midst the hub is killed and begun anew, if anything."""
+    """Sends a large upload slowly, and one during which the hub is killed and restarted. Returns what is wrong, if anything."""
     slow = asyncio.create_task(door.ask(large_upload("L1", 0), "127.3.0.5", pieces=20, pause=0.2))
     await asyncio.sleep(1)
     other = await door.ask(request("GET", 0, "mail/after/0"), "127.3.0.6")
@@ -229,7 +229,7 @@ async def large(door, hub):
 
 
 def front_alone(program):
-    """What the front answers by itself. What is wrong."""
+    """Checks what the front answers by itself. Returns what is wrong."""
     with tempfile.TemporaryDirectory() as folder:
         found(program, folder, crowd(1))
         with Supervised(program, folder, FOR_GOOD) as hub:

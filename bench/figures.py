@@ -1,8 +1,8 @@
-"""What a benchmark says of a figure that has a bound: the bound beside it, and at the end how many are within theirs."""
+"""Prints the figures of a benchmark, each beside its bound, and at the end how many are within theirs."""
 
 
 class Figures:
-    """The figures told so far. A bound is a goal; where a figure that is past it still passes, up to a second bound, both are given."""
+    """The figures so far. A bound is a goal; if figures past it are accepted up to a second bound, both are given."""
 
     def __init__(self):
         self.told, self.past = 0, []
@@ -18,7 +18,7 @@ class Figures:
         print(f"{what}: {value:.{digits}f}{unit} ({goal}): {said}", flush=True)
 
     def end(self):
-        """The last line."""
+        """Prints the last line."""
         for what in self.past:
             print(f"past its bound: {what}")
         print(f"{self.told - len(self.past)} of {self.told} figures within their bounds", flush=True)

@@ -1,9 +1,9 @@
-"""`make front-test`: the whole front of `examples/front`, which is nginx, HAProxy and a hub, under clients of all kinds.
+"""`make front-test`: tries the whole front of `examples/front` (nginx, HAProxy and a hub) with clients of all kinds.
 
 Slow readers take a long status at 100 KB a second, slow senders upload a message in ten seconds, and one source guesses keys as fast as
-it can. Beside each of them another client asks for a list again and again, and may wait no longer than the hub needs by itself. Then
-comes the crowd of `make crowd`: 1,000 suppliers at once, with a hub that goes on, and with one that restarts in the middle. Each answer
-is compared with the right one. A status of 180,000 lines has 20 MB.
+it can. Meanwhile another client asks for a list again and again, and may not wait longer than the hub needs by itself. Then comes the
+crowd of `make crowd`: 1,000 suppliers at once, with a hub that goes on, and with one that restarts in the middle. Each answer is
+compared with the right one. A status of 180,000 lines has 20 MB.
 
     python3 -m bench.front crates/edihub/out/edihub [SUPPLIERS [LINES]]"""
 import asyncio
@@ -71,7 +71,7 @@ def read(one, asked, a_second=None):
 
 
 def read_slowly(front, number):
-    """What a slow reader is answered, who has a small window too."""
+    """Returns what a slow reader, with a small window, is answered."""
     one = socket.socket()
     one.setsockopt(socket.SOL_SOCKET, socket.SO_RCVBUF, 16_384)
     one.settimeout(600)
@@ -82,7 +82,7 @@ def read_slowly(front, number):
 
 
 async def beside(door, until):
-    """How long a client waits who asks again and again, as pairs of a moment and the seconds; and what is wrong, if anything."""
+    """Asks again and again. Returns how long each answer took, as pairs of a moment and the seconds; and what is wrong, if anything."""
     begun, waits = time.monotonic(), []
     while not until():
         at = time.monotonic()
@@ -95,7 +95,7 @@ async def beside(door, until):
 
 
 def too_long(waits, needed):
-    """What is wrong with waits, where the hub has work for so many seconds at first."""
+    """Returns what is wrong with these waits, if the hub is busy for so many seconds at first."""
     over = [(at, wait) for at, wait in waits if wait > max(0, needed - at) + MORE]
     return f"a client beside them waits {over[0][1]:.2f} s, {over[0][0]:.2f} s after they began" if over else None
 
@@ -161,7 +161,7 @@ async def guessed(door):
 
 
 def guesses(front, hub):
-    """What is wrong with the front where a source guesses keys, if anything."""
+    """Lets one source guess keys. Returns what is wrong with the front, if anything."""
     before = hub.lines().count(b" 403\n")
     told_of, waits, why = asyncio.run(guessed(front.door()))
     reached = hub.lines().count(b" 403\n") - before
@@ -206,7 +206,7 @@ def page(front):
 
 
 def alike():
-    """Whether HAProxy's two files say the same but for who comes to them."""
+    """Checks that HAProxy's two files say the same, except about their clients."""
     texts = []
     for name in ("haproxy.cfg", "haproxy-behind-nginx.cfg"):
         with open(os.path.join(EXAMPLES, "front", name), encoding="ascii") as file:
@@ -217,7 +217,7 @@ def alike():
 
 
 def one_kind_each(program, lines):
-    """Each kind of client apart. What is wrong."""
+    """Tries each kind of client by itself. Returns what is wrong."""
     with tempfile.TemporaryDirectory() as folder:
         founded(program, folder, SENDERS + 2)
         with Supervised(program, folder, FOR_GOOD) as hub, WholeFront(hub.port) as front:

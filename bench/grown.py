@@ -1,4 +1,4 @@
-"""A hub's file as `make year` leaves it, made by uploads of many messages: each order of ten lines is answered, despatched and received.
+"""Makes a hub's file like that of `make year`, by uploads of many messages: each order of ten lines is answered, despatched and received.
 
     python3 -m bench.grown EDIHUB ORDERS FOLDER"""
 import os
@@ -15,7 +15,7 @@ SUPPLIERS, MESSAGES, CONNECTIONS = 999, 999, 1_000_000
 
 
 def uploads(kind, orders, suppliers):
-    """The uploads of a kind of message for these orders: their sender, `None` for the retailer, and the orders of each."""
+    """Returns the uploads of a kind of message for these orders: their sender, `None` for the retailer, and the orders of each."""
     if kind in ("ORDERS", "RECADV"):
         return [(None, orders[first : first + MESSAGES]) for first in range(0, len(orders), MESSAGES)]
     of_each = ((supplier, orders[supplier::suppliers]) for supplier in range(suppliers))

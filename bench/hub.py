@@ -1,6 +1,6 @@
-"""Plays loads on the proved hub over a store of lists (`trial_script`) and on a plain Rust one with ordered maps (hub.rs), and
-prints ratios of processor time and of instructions (where valgrind is there). Time is taken within one run, from the reply that
-stands before the measured part; for instructions what stands before is played alone too, and taken off.
+"""Plays loads on the proved hub over a store of lists (`trial_script`) and on a plain Rust one with ordered maps (hub.rs), and prints
+ratios of processor time, and of instructions if valgrind is there. Time is taken within one run, from the last reply before the
+measured part; for instructions, what comes before is also played alone, and subtracted.
 
     python3 -m bench.hub crates/trial_script/out/trial_script PLAIN"""
 import os
@@ -49,7 +49,7 @@ def sent(play, count, first, lines):
 
 
 def begun(play):
-    """The reply from which on time is taken."""
+    """The reply from which time is taken."""
     return play.list(MOST_NUMBER)
 
 
@@ -126,7 +126,7 @@ def instructions(program, text):
 
 
 def cost(program, texts):
-    """The least processor time behind what stands before, and the instructions without it; and the output."""
+    """Returns the least processor time after the preparation, the instructions without it, and the output."""
     least, output = min(seconds(program, texts[1]) for _ in range(ROUNDS))
     counts = [instructions(program, text) for text in texts]
     return least, counts[1] - counts[0], output

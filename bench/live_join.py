@@ -1,16 +1,15 @@
 """`make join-test`: suppliers keep asking through HAProxy while the script `add_supplier.py` of examples/front registers another one.
 
-Each supplier is ordered from, answers, despatches, is told what was received, fetches its first order and asks for its status, again and
-again; the last ones ask for their status alone. Each answer is compared with the right one, and in the end the file has each message once.
-Then the script is given what it has to refuse without stopping the hub; and it is interrupted, and meets stops, joins and starts
-that fail. Each check counts; the last line is `N passed, M failed`.
+Each supplier gets an order, answers, despatches, gets a receiving advice, fetches its first order and asks for its status, again and
+again; the last ones only ask for their status. Each answer is compared with the right one, and in the end the file has each message
+once. Then the script gets what it has to refuse without stopping the hub; it is interrupted; and stops, joins and starts fail. Each
+check counts; the last line is `N passed, M failed`.
 
     python3 -m bench.live_join crates/edihub/out/edihub [LINES .. | --opening SECONDS]
 
-With LINES the hub has this many order lines before, as `make year` makes them, and a supplier is registered without the other trials. With
---opening the hub is small, but each opening of its file waits this long first, as if it were large, and the front is as patient as it then
-has to be; 0 seconds are for a slow build or a busy machine. The program `systemctl` is one of its own, which stops and starts the hub of
-the trial."""
+With LINES the hub has this many order lines before, as `make year` makes them, and a supplier is registered without the other trials.
+With --opening the hub is small, but each opening of its file waits this long first, as if it were large, and the front is as patient as
+it then has to be; 0 seconds are for a slow build or a busy machine. `systemctl` is a script that stops and starts the hub of the trial."""
 import asyncio
 import contextlib
 import fcntl
@@ -43,7 +42,7 @@ PATIENT = {"    retries 60\n": "    retries 170\n", "timeout queue 90s": "timeou
 CLIENTS, READERS, PAUSE = 12, 2, 0.05
 # the suppliers and the orders of the hub in which all that can fail is tried
 FEW, ORDERS = 20, 20
-# what stands for systemctl, which notes what it is asked. The marker `stopped` keeps the hub from being begun again.
+# takes the place of systemctl, and notes what it is asked. The marker `stopped` keeps the hub from being restarted.
 SYSTEMCTL = """#!/bin/sh
 cd "{folder}" || exit 1
 echo "$1" >> asked
@@ -173,7 +172,7 @@ class Client:
         await self.ask(request("GET", self.number, "status"), status_body(self.orders))
 
     async def until(self, over, reads):
-        """Asks until it is told to end."""
+        """Asks until it has to end."""
         while not over.is_set():
             if not reads:
                 await self.order()
@@ -287,7 +286,7 @@ def held(bench, seconds):
 
 
 def interrupted(bench, number, marker, after, **other):
-    """What the script ended with that was sent this signal in the midst of what a marker makes slow."""
+    """Sends the script this signal during what a marker makes slow. Returns how it ended."""
     bench.put(marker)
     child = bench.begin(**other)
     while after not in bench.asked():
@@ -300,7 +299,7 @@ def interrupted(bench, number, marker, after, **other):
 
 
 def fails(bench, marker, **other):
-    """What the script ended with while something fails."""
+    """Returns how the script ended while something fails."""
     bench.put(marker)
     ended = bench.run(**other)
     bench.take(marker)

@@ -82,7 +82,7 @@ def with_check_digit(digits):
 
 
 def register(count):
-    """A register of so many suppliers."""
+    """Returns a register of this many suppliers."""
     parties = [with_check_digit(f"541{number:09}") for number in range(count + 2)]
     entries = "".join(
         f'\n[[supplier]]\ngln = "{gln}"\nprefix = "4{number:07}"\nkey = "key-{number:08}"\n' for number, gln in enumerate(parties[2:])

@@ -1,5 +1,5 @@
-"""Files of about so many MB, and what a command over each costs beside the database's own opening of it: instructions, where valgrind
-is there, processor time and memory.
+"""Measures what a command over files of about these sizes costs beside the database's own opening of them: processor time and memory,
+and instructions if valgrind is there.
 
     python3 -m bench.opening EDIHUB [MB ..]"""
 import os

@@ -1,5 +1,5 @@
 """Relays the loads of loads.py with the proved program, with plain.rs, which keeps all segments, and with flat.rs, which copies
-in runs of bytes, one after the other: ratios of instructions (where valgrind is there), of time and of peak memory, and the
+in runs of bytes, one after the other: ratios of instructions (if valgrind is there), of time and of peak memory, and the
 growth from 1/16 of the size to the whole. Then checks a register of 1,000 suppliers beside one of one.
 
     python3 -m bench.run EDIHUB PLAIN FLAT"""
@@ -42,7 +42,7 @@ def run(program, text, words=WORDS):
 
 
 def peak(program, text):
-    """Most memory in KiB, as it stands once a program has begun to write what no pipe takes at once, which it does at its end."""
+    """Returns the peak memory in KiB once a program has begun to write more than a pipe takes at once, which it does at its end."""
     with open(text, "rb") as source:
         child = subprocess.Popen([program, *WORDS], stdin=source, stdout=subprocess.PIPE)
         child.stdout.read(1)
@@ -76,7 +76,7 @@ def measure(programs, text):
 
 
 def size(ours, plain, flat, name, text, data, figures):
-    """Prints what one load takes in one size. Gives our instructions."""
+    """Prints what one load takes in one size. Returns our instructions."""
     with open(text, "wb") as it:
         it.write(data)
     found = measure([ours, plain, flat], text)

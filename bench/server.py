@@ -1,7 +1,7 @@
-"""Connections of HTTP to `edihub serve`, and to a plain Rust server over the system's SQLite (server.rs): ratios of processor
-time a connection, for a mail item, a mail list, an upload of one order, a cancellation, and a status of ten lines, of 10,000, and
-of 10,000 and 1,000 pallets. Then what it takes to begin, over a file with 1,000 suppliers and no order; and the memory of the
-server over many connections.
+"""Asks `edihub serve`, and a plain Rust server over the system's SQLite (server.rs), the same over HTTP. Prints ratios of processor
+time for each connection: a mail item, a mail list, an upload of one order, a cancellation, and a status of ten lines, of 10,000, and
+of 10,000 and 1,000 pallets. Then what a start takes over a file with 1,000 suppliers and no order; and the memory of the server over
+many connections.
 
     python3 -m bench.server crates/trial_script/out/trial_script PLAIN EDIHUB"""
 import os

@@ -1,7 +1,7 @@
-"""Despatches of ten lines, and 999 orders in one upload and in as many, on the proved hub over a file of SQL (`trial_script file`) and
-on a plain Rust program over the system's SQLite (sql.rs), with few and with many lines of the supplier: ratios of processor
-time a message, how it grows with the lines, and syncs a message. Then what opening a file costs, by its size and by its register.
-Last, `edihub import` of 999 orders in one file and in as many, beside the plain program's uploads of the same.
+"""Plays despatches of ten lines, and 999 orders in one upload and in as many, on the proved hub over a file of SQL (`trial_script file`)
+and on a plain Rust program over the system's SQLite (sql.rs), with few and with many lines of the supplier. Prints ratios of processor
+time for each message, how it grows with the lines, and syncs. Then what opening a file costs, by its size and by its register; and
+`edihub import` of 999 orders in one file and in as many, beside the plain program's uploads of the same.
 
     python3 -m bench.sql crates/trial_script/out/trial_script PLAIN EDIHUB"""
 import os

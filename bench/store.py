@@ -1,7 +1,6 @@
-"""Times each look-up of a store of plain lists over 10 rows of each kind and over 100,000, and prints both and
-their ratio: of several measurements of one look-up the least. The program, store.rt.in, is proved and built in a
-folder of its own, over copies of this repository's crates with what earlier checks kept: the gate reads every .rt
-file here as a crate's."""
+"""Times each look-up of a store of plain lists over 10 rows of each kind and over 100,000, and prints the least of several measurements
+of each, and the ratio. The program, store.rt.in, is proved and built in a folder of its own, over copies of the crates with what earlier
+checks kept, because the gate would take an .rt file here for a crate's."""
 import os
 import re
 import shutil

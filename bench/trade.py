@@ -1,5 +1,5 @@
-"""A retailer's trade with many suppliers: the messages of each order, the requests that carry them, and what a supplier is shown
-then. What is wanted is computed here from the rules, and never taken from the program."""
+"""A retailer's trade with many suppliers: the messages of each order, the requests that carry them, and the status that a supplier then
+sees. The right answers are computed here from the rules, and never taken from the program."""
 from bench.hub import gtin
 from bench.loads import with_check_digit
 from tests.harness.http_texts import asking
@@ -25,7 +25,7 @@ def request(method, who, rest, text=None):
 
 
 class Order:
-    """An order of a supplier, and all that comes of it. One in three is answered with changes, the others as a whole."""
+    """An order of a supplier, and all messages that follow it. One in three is answered with changes, the others as a whole."""
 
     def __init__(self, number, suppliers):
         self.number, self.supplier, self.document = number, number % suppliers, f"{number:08}"

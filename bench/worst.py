@@ -1,10 +1,10 @@
 """`make worst`: what the most expensive requests take of the processor, each as a multiple of a typical upload of the same size,
-1 MiB, with its bound beside it. An upload may take 4 times the typical one, and once the reading of each line that it names by its
+1 MiB, with its bound beside it. An upload may take 4 times the typical one, plus one reading of each line that it names by its
 number, and of each line of an order of which it names one by an article.
 
-The hubs behind the requests are made by uploads, and served from copies. Each answer is compared with the right one, so that a hub
-without the rows in question cannot pass for a fast one. Two kinds of requests take minutes, so they have fewer messages than an
-upload may have; `--long` asks them with all. It takes 1 GB in TMPDIR, with `--long` 9 GB.
+The hubs are made by uploads, and served from copies. Each answer is compared with the right one, so that a hub that lacks the rows
+cannot pass for a fast one. Two kinds of requests would take minutes, so they have fewer messages than an upload may have; `--long`
+sends them in full. It takes 1 GB in TMPDIR, with `--long` 9 GB.
 
     python3 -m bench.worst EDIHUB [--long]"""
 import os
@@ -118,7 +118,7 @@ def receipt(number, *units):
 
 
 def sent(who, control, text, kind, references, word="accepted"):
-    """An upload of this text, whose messages all come to the same."""
+    """An upload of this text, whose messages all get the same answer."""
     body = told(f"interchange {control} messages {len(references)}", *(f"{it} {kind} {word}" for it in references))
     if len(text) > LIMIT:
         raise Wrong(f"the upload {control} has {len(text)} bytes")

@@ -2,7 +2,7 @@
 answered, despatched and received, so there are four messages to an order. Every answer is compared with the right one, and so are
 the statuses, lists and entries of some suppliers at each tenth. A line for each tenth says what a message of each kind, a status,
 a list and an entry took of the processor in milliseconds, how much memory the server has had at most, and how large the file is.
-In the end the file is opened again, and looked at by SQLite. Where a goal is passed it says so and ends with status 1.
+In the end the file is opened again, and checked by SQLite. If a figure is past its goal, it says so and ends with status 1.
 
     python3 -m bench.year crates/edihub/out/edihub [ORDERS]"""
 import os
@@ -21,7 +21,7 @@ from tests.harness.servers import Server, listed
 SUPPLIERS, TENTHS, LOOKED_AT = 1_000, 10, 50
 # how often a list and an entry are asked for, which take little of what the system counts in steps of ten milliseconds
 MANY = 20
-# as many as `serve` takes: then it ends, and is begun anew
+# as many as `serve` takes: then it ends, and is restarted
 CONNECTIONS = 1_000_000
 # the goals: times that a message of the first 10,000 lines takes, and MB while serving
 MOST_GROWTH, MOST_MEMORY = 1.3, 24
@@ -39,7 +39,7 @@ class Wrong(Exception):
 
 
 class Hub:
-    """The program over one file, begun anew where its connections are used up."""
+    """The program over one file. It is restarted when its connections are used up."""
 
     def __init__(self, program, folder):
         self.program, self.folder, self.before, self.memory = program, folder, 0.0, 0.0
@@ -96,7 +96,7 @@ class Year:
         return 1000 * (self.hub.seconds() - begun) / max(1, len(asked))
 
     def round(self, count):
-        """So many orders, no two of one supplier, each with all that comes of it: milliseconds of a message by its kind."""
+        """Sends this many orders, no two of one supplier, each with all that follows. Returns the milliseconds of a message by kind."""
         orders = [Order(number, self.suppliers) for number in range(self.done, self.done + count)]
         self.done += count
         return {kind: self.timed([it.upload(kind) for it in orders]) for kind in KINDS}

@@ -21,11 +21,11 @@ SCRIPTS = ("postinst", "prerm", "postrm")
 
 
 class Fault(Exception):
-    """Why no package is built."""
+    """The reason why no package is built."""
 
 
 def asked(*words, **how):
-    """What a command prints."""
+    """Returns what a command prints."""
     ran = subprocess.run(words, capture_output=True, text=True, check=False, **how)
     if ran.returncode:
         raise Fault(f"{words[0]}: {ran.stderr.strip()}")
@@ -80,7 +80,7 @@ def libraries(program):
 def fill(program, tree):
     """Puts everything but dpkg's own files into a tree."""
     place.put(program, tree, "/usr")
-    # names of functions, which nothing needs that runs
+    # a program needs no names of functions to run
     asked("strip", "--strip-unneeded", "--remove-section=.comment", os.path.join(tree, "usr/bin/edihub"))
     page, about = os.path.join(tree, "usr/share/man/man1/edihub.1"), os.path.join(tree, "usr/share/doc/edihub")
     with open(page, "rb") as file:

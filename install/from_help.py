@@ -76,7 +76,7 @@ def man(program):
 
 
 def completed(options):
-    """The options that are proposed: not one whose value can be in a file instead, as a key, which nobody is to type."""
+    """The options that are proposed. One whose value can be in a file instead, such as a key, is not, because nobody should type it."""
     return [it for it in options if f"{it}-file" not in options]
 
 

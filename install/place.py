@@ -61,7 +61,7 @@ def parts():
 
 
 def put(program, into, prefix):
-    # folders are made by it, and everybody may look into them
+    # it makes the folders, and everybody may look into them
     os.umask(0o022)
     for part in parts():
         path = f"{into}{prefix}/{part.target}"

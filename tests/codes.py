@@ -1,10 +1,10 @@
-"""Checks that each code of a fault or a refusal means the same everywhere. docs/codes.toml is the list: the entries of CODES.md and the table
-of page/hub/codes.js are written from it, and definitions and help texts have to agree with it.
+"""Checks that each code of a fault or a refusal means the same everywhere. docs/codes.toml is the list: the entries of CODES.md and the
+table of page/hub/codes.js are written from it, and definitions and help texts have to agree with it.
 
     python3 -m tests.codes [--write]
 
-Prints each difference, with status 1; with `--write` it first writes the entries again. For that a new code needs a line of its own in each
-place: `- **M13**` in CODES.md, `  M13: {` and `  },` in the page."""
+Prints each difference, with status 1; with `--write` it first writes the entries again. For that a new code needs a line of its own in
+each place: `- **M13**` in CODES.md, `  M13: {` and `  },` in the page."""
 import json
 import os
 import re

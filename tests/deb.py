@@ -1,8 +1,9 @@
-"""`make deb-test`: the Debian package of the program, built, looked at by lintian, and installed into fresh Debian 12 trees.
+"""`make deb-test`: builds the Debian package, checks it by lintian, and installs it into fresh Debian 12 trees.
 
     python3 -m tests.deb ./edihub
 
-Each check counts; the last line is `N passed, M failed`. It takes debootstrap, lintian, dpkg-dev and root, some minutes and 1 GB in TMPDIR.
+Each check counts; the last line is `N passed, M failed`. It needs debootstrap, lintian, dpkg-dev and root, some minutes and
+1 GB in TMPDIR.
 The trees are made of Debian's archive, with man-db, adduser and systemd in them, and nothing in them is started."""
 import os
 import re
@@ -30,7 +31,7 @@ DROP_IN = "etc/systemd/system/edihub.service.d/port.conf"
 
 
 class Tree:
-    """A Debian in a folder."""
+    """A Debian system in a folder."""
 
     def __init__(self, path):
         self.path = path
@@ -94,7 +95,7 @@ def fresh(folder):
 
 
 def refused(told, folder):
-    """What is said where there is no program."""
+    """Checks what `make deb` says if there is no program."""
     ran = subprocess.run(["make", "-s", "deb", f"PROGRAM={folder}/edihub"], cwd=ROOT, capture_output=True, text=True, check=False)
     said = "is not there: run `make edihub` first"
     told.check("without a program no package is built, and the message says so", ran.returncode and said in ran.stderr, ran)
@@ -210,7 +211,7 @@ def purged_with_data(told, tree, before):
 
 
 def purged_without_data(told, tree, package, before, users):
-    """Where no hub was founded a purge leaves nothing at all."""
+    """If no hub was founded, a purge leaves nothing at all."""
     status, said = tree.install(package)
     told.check("installed into a tree without data", status == 0 and tree.has(DATA), said)
     status, said = tree.run("dpkg", "--purge", "edihub")

@@ -1,11 +1,10 @@
-"""`make fuzz SEED=1 NUMBER=100000`: inputs made right and then changed, by bytes, segments and messages, through the built program.
+"""`make fuzz SEED=1 NUMBER=100000`: gives the built program valid inputs in which bytes, segments and messages were then changed.
 
-Interchanges go in by folders (`import`), over HTTP (`serve`), and by `show` and `relay`; registers by `check`; suppliers by `join`; and
-lists of words.
+Interchanges go to `import`, `serve`, `show` and `relay`, registers to `check`, suppliers to `join`; and there are command lines.
 Each answer has a form that docs/FORMATS.md names; no program ends by a signal, takes a second of processor time for a small input,
 or more memory than its bound; the rows of the file grow by what was accepted and by nothing else: the accepted inputs alone make
 the same file, by import and over HTTP.
-What is found is left in a folder, which is named. The last line is `N tried, M found`.
+What finds something is left in a folder, whose name is printed. The last line is `N tried, M found`.
 
     python3 -m tests.fuzz crates/edihub/out/edihub [SEED [NUMBER]]"""
 import os
@@ -38,7 +37,7 @@ ROOM, ROOM_OF_STORE, TEXTS = 6 << 20, 14 << 20, 40
 # how long a command may take by the clock, beside other work, and how much processor time a command or a server may take, of small inputs
 # and for each megabyte of its inputs
 SECONDS, PROCESSOR_SECONDS, OF_MEGABYTE = 60, 1, 2
-# what says that memory gave out or that the store failed: with ample memory, and a disk that works, neither may come
+# lines that report that memory ran out or the store failed: with enough memory and a working disk neither may come
 STOPPED, NO_MEMORY = re.compile(rb"^stopped$", re.MULTILINE), re.compile(rb"^(store )?memory$", re.MULTILINE)
 TABLES = ("order", "line", "advice", "pallet", "content", "receipt", "remembered", "mail", "hub", "supplier", "prefix")
 # what any of the hub's replies to an upload is
@@ -119,7 +118,7 @@ def changed_segments(draw, text):
 
 
 def an_upload(draw):
-    """Who uploads, and bytes: most of them of no right interchange."""
+    """Returns an uploader and bytes, most of them not a valid interchange."""
     who, text = upload_of(draw)
     if draw.random() < 0.1:
         who, text = RETAILER, draw.choice((ORDERS, SECOND, SPELLED))
@@ -162,7 +161,7 @@ def some_prefixes(draw):
 
 
 class Found(Exception):
-    """Something is wrong, with these bytes."""
+    """Something is wrong with these bytes."""
 
 
 class Fuzz:

@@ -1,5 +1,5 @@
-"""Whether the text of each crate is in the toolchain's layout, which the gate asks of a crate before it proves it. `rt fmt` in the crate's
-folder writes it so.
+"""Checks that the files of each crate are as `rt fmt` lays them out; the gate refuses a crate that is not. Run `rt fmt` in the crate's
+folder.
 
     python3 -m tests.layout"""
 import os
@@ -32,7 +32,7 @@ def main(words):
         print("usage: python3 -m tests.layout")
         return 2
     if not shutil.which("rattle"):
-        # the gate looks at it all the same
+        # the gate checks it nevertheless
         print("no rattle here, so the layout is not looked at")
         return 0
     lines = out_of_layout()

@@ -4,9 +4,9 @@ builds it.
     python3 -m tests.prove PROGRAM [WORD ..]
 
 The program is run once, with these words, as it is built. Prints a line for each crate as it is proved: its place among all, its name
-and the seconds that it took, or `as before` where nothing has changed since it was proved; the program's own line has its seconds
-always. Where nothing ends for half a minute, a line says what is being proved and for how long, and of the program itself how many of
-its functions are checked. Of a crate that is not proved it prints what the check says, which stands in its out/log too."""
+and the seconds that it took, or `as before` if nothing has changed since it was proved; the program's own line always has its seconds.
+If nothing ends for half a minute, a line says what is being proved and for how long, and of the program itself how many of its
+functions are checked. If a crate is not proved it prints what the check says, which is in the crate's out/log too."""
 import os
 import re
 import shutil
@@ -36,7 +36,7 @@ class Proving:
             print(f"{self.done:3} of {self.number}  {crate:15} {took}", flush=True)
 
     def library(self, crate):
-        """Why it is not proved, or nothing."""
+        """Proves a library. Returns why that failed, or nothing."""
         if self.kept.is_proved(crate):
             self.tell(crate, "as before")
             self.proved.add(crate)
@@ -52,7 +52,7 @@ class Proving:
         return ""
 
     def libraries(self):
-        """Proves all libraries, each once those below it are proved. Why some are not, or nothing."""
+        """Proves all libraries, each once those below it are proved. Returns why some are not, or nothing."""
         running, failed, most = set(), [], lanes()
         with ThreadPoolExecutor(most) as pool:
             while True:
@@ -69,7 +69,7 @@ class Proving:
                     print(f"    still at {waited}", flush=True)
 
     def built(self, program, words):
-        """The status of proving, building and running the program itself."""
+        """Proves, builds and runs the program itself. Returns the status."""
         folder, begun = os.path.join(ROOT, "crates", program), time.time()
         os.makedirs(os.path.join(folder, "out"), exist_ok=True)
         log = os.path.join(folder, "out", "log")
@@ -87,13 +87,13 @@ class Proving:
 
 
 def said_of(crate):
-    """What the check of a crate printed, but for what it says of the libraries."""
+    """Returns what the check of a crate printed, without what it says of libraries."""
     with open(os.path.join(ROOT, "crates", crate, "out", "log"), encoding="utf-8") as lines:
         return "".join(it for it in lines if not it.startswith(("statements ", "logic ", "checked "))).rstrip("\n")
 
 
 def ended(child):
-    """Its status, where it ends soon."""
+    """Returns its status if it ends soon, else `None`."""
     try:
         return child.wait(SILENCE)
     except subprocess.TimeoutExpired:
@@ -101,7 +101,7 @@ def ended(child):
 
 
 def last_count(log):
-    """How many functions the log says are checked, if it says so."""
+    """Returns how many functions are checked according to the log, if it says."""
     with open(log, encoding="utf-8", errors="replace") as lines:
         counts = re.findall(r"(\d+ of \d+) functions checked|^checked .*, (\d+ of \d+)$", lines.read(), re.MULTILINE)
     return f", {next(filter(None, counts[-1]))} functions" if counts else ""

@@ -1,6 +1,6 @@
-"""`make run`: the example's ORDERS interchange becomes the supplier's mail. First from a build without any proof, within a minute, so that
-there is something to see; then the crates below `edirelay` are proved, a line for each; and then the proved program does it again. Its
-bytes have to be the same.
+"""`make run`: the example's ORDERS interchange becomes the supplier's mail. First by a build without any proof, within a minute, so that
+you see something; then the crates below `edirelay` are proved, with a line for each; then the proved program does it again. The bytes
+have to be the same.
 
     python3 -m tests.relay_first HUB OWNER MOMENT NUMBER"""
 import os
@@ -15,7 +15,7 @@ ORDER = os.path.join(EXAMPLES, "orders.edi")
 
 
 def printed(command, folder):
-    """What a command prints of the example's order. What it tells is passed on if it fails."""
+    """Returns what a command prints for the example's order. If it fails, its standard error is passed on."""
     with open(ORDER, "rb") as source:
         ran = subprocess.run(command, cwd=folder, stdin=source, stdout=subprocess.PIPE, stderr=subprocess.PIPE)
     if ran.returncode:

@@ -1,9 +1,9 @@
-"""The tables in code, as crates/hub_schema/specs/Schema.antt says them: a table, a column or a key is changed there, and written into
-crates/hub_schema/src/definitions.rt, from which the hub makes its tables and compares those of a file.
+"""Checks that the tables in code (crates/hub_schema/src/definitions.rt) are those of the definition (crates/hub_schema/specs/Schema.antt).
+Change a table, a column or a key in the definition, and write the code from it.
 
     python3 -m tests.schema [--write]
 
-Says where the two differ, with status 1; with `--write` it writes the code's tables anew."""
+Says where the two differ, with status 1; with `--write` it writes the code's tables again."""
 import os
 import re
 import sys
@@ -13,7 +13,7 @@ from tests.harness.tree import ROOT
 CRATE = os.path.join(ROOT, "crates", "hub_schema")
 DEFINITION, CODE = os.path.join(CRATE, "specs", "Schema.antt"), os.path.join(CRATE, "src", "definitions.rt")
 KINDS = {"bytes": "BLOB", "number": "INTEGER"}
-# the code's tables, and how many of them are of goods and messages
+# the code's tables, and how many of them are about goods and messages
 TABLES = re.compile(r"static TABLES: \[Definition; \d+\] = \[\n.*?^\];\n\nconst TRAFFIC: usize = \d+;\n", re.MULTILINE | re.DOTALL)
 
 
@@ -39,14 +39,14 @@ def term(words):
 
 
 def definitions():
-    """What the definition says of each table and list of tables, by its name."""
+    """Returns the definition of each table and list of tables, by its name."""
     text = re.sub(r"--.*", "", text_of(DEFINITION))
     found = re.findall(r"^(\w+_tables?) =(.*?)(?=^\S|\Z)", text, re.MULTILINE | re.DOTALL)
     return {name: term(re.findall(r"[()∷]|\[\]|\"\w+\"|[\w+]+", said)) for name, said in found}
 
 
 def table(form, _tree, name, columns, primary, keys=None):
-    """A table's lines in code."""
+    """Returns a table's lines in code."""
     named = [column[1] for _, column in columns]
     keys = [primary] if form == "keyed" else keys if isinstance(keys, list) else []
     lines = [",\n".join(f'        {column[1]} "{KINDS[kind]}"' for kind, column in columns)]

@@ -1,9 +1,9 @@
-"""`make split-commit`: whether the machine that stops at each call (trials/stopped_machine.py) finds what the contracts refuse.
+"""`make split-commit`: checks that the trial of a stopped machine (trials/stopped_machine.py) finds what the contracts refuse.
 
 The contracts refuse a commit in two transactions (`hub_writes/must-fail/commit_in_two_transactions.edit`). Here the program
 `trial_script` is built with that edit in a copy of the tree, by `rt try`, which proves nothing, and the machine is stopped at every
-third call of its files: some stop has to leave a message in part, and the trial has to say so. Of the program as it stands it has
-to say nothing.
+third call of its files: some stop has to leave part of a message, and the trial has to report it. Of the program without the edit it
+has to report nothing.
 
     python3 -m tests.split_commit"""
 import os
@@ -24,13 +24,13 @@ CALLS = range(24, 120, 3)
 
 
 def asked():
-    """What the trial runs the program on: words and a script each."""
+    """Returns the runs of the trial, each with its words and its script."""
     seen = [((), shown_after(number)) for number in range(ends()[-1] + 1)]
     return seen + [((which, str(number)), stopped_script(1)) for which in FILES for number in CALLS]
 
 
 def tried(room):
-    """What the program prints for each run that is asked for, built once and with no proof."""
+    """Returns what the program prints for each run. It is built once, without any proof."""
     runs, folder = asked(), os.path.join(room, "cases")
     os.mkdir(folder)
     for place, (words, script) in enumerate(runs):
@@ -49,7 +49,7 @@ def tried(room):
 
 
 def found(room, edit):
-    """What the trial says of the program, with the edit where one is named; nothing where all is right."""
+    """Returns what the trial reports of the program, with the edit if one is named; nothing if everything is right."""
     if edit:
         with open(os.path.join(ROOT, "crates", CRATE, "must-fail", edit), encoding="utf-8") as file:
             why = applied(file.read(), os.path.join(room, "crates", CRATE))

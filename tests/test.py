@@ -1,9 +1,10 @@
-"""`make test`: first what takes seconds: whether each file of a crate is in the toolchain's layout (layout.py), each public function has a
-wrong body (untried.py), the tables in code are those of the definition (schema.py), and each code means the same everywhere (codes.py);
-then the gate (rt ci), and what each crate took of the processors in it; and then, on the programs that the gate built, the cases and the
-trials of the files that PROGRAMS and TRIALS name. The last line is `N passed, M failed` over all.
+"""`make test`. First checks what takes seconds: that each file of a crate is in the toolchain's layout (layout.py), each public function
+has a wrong body (untried.py), the tables in code are those of the definition (schema.py), and each code means the same everywhere
+(codes.py).
+Then runs the gate (rt ci), and prints the processor time of each crate. Then runs the cases and trials named in PROGRAMS and TRIALS on
+the programs that the gate built. The last line is `N passed, M failed` over everything.
 
-With `--alone`, all but the gate, on the programs that stand. With `--anew`, nothing that an earlier gate proved is taken over.
+`--alone` leaves out the gate and uses the programs that are there. `--anew` reuses nothing that an earlier gate proved.
 
     python3 -m tests.test [--alone | --anew]"""
 import os
@@ -25,7 +26,7 @@ from tests.trials import stopped_program, units
 
 
 def built(crate):
-    """The program of a crate, where the gate leaves it."""
+    """Returns the path at which the gate leaves a crate's program."""
     return os.path.join(ROOT, "crates", crate, "out", crate)
 
 
@@ -52,7 +53,7 @@ OF_EDIHUB = (
     folder_feeding,
     units,
 )
-# what is tried on a program many times over: each says what is wrong, if anything
+# trials, which try a program many times over; each returns what is wrong, if anything
 TRIALS = [
     *(
         (built("edihub"), *trial)
@@ -70,14 +71,14 @@ TRIALS = [
 
 
 def gate(words):
-    """What rt ci counts, its output passed on, with what each crate took behind it."""
+    """Runs rt ci and passes its output on, then the processor time of each crate. Returns what it counted."""
     passed, failed = 0, 1
     for program, _ in PROGRAMS:
         if os.path.isfile(program):
             os.remove(program)
-    # a kit whose gate takes nothing over has no such word
+    # a kit whose gate never reuses proofs has no such word
     words = [it for it in words if it in subprocess.run(["rt", "help"], stdout=subprocess.PIPE, text=True, errors="replace").stdout]
-    # one job a check, and a check a processor: each job of a check would load what it stands on anew
+    # one job for each check, and one check for each processor, because each job of a check loads the crates below again
     one_job_each = {"RT_JOBS": str(len(os.sched_getaffinity(0))), **os.environ}
     try:
         child = subprocess.Popen(["rt", "ci", *words], cwd=ROOT, env=one_job_each, stdout=subprocess.PIPE, text=True, errors="replace")
@@ -99,7 +100,7 @@ def gate(words):
 
 
 def files_are_in_layout():
-    """Whether the gate will read each file as it is laid out, as a count of one: it takes no other, an hour later."""
+    """Whether each file is in the layout that the gate asks for, as a count of one. The gate itself would say it an hour later."""
     return (0, 1) if layout.main([]) else (1, 0)
 
 
@@ -126,7 +127,7 @@ def codes_mean_the_same():
 
 
 def run(program, case, folder):
-    """Why the case fails, or nothing."""
+    """Runs a case. Returns why it fails, or nothing."""
     for name, data in case.files.items():
         path = os.path.join(os.fsencode(folder), os.fsencode(name))
         os.makedirs(os.path.dirname(path), exist_ok=True)
@@ -158,7 +159,7 @@ def run(program, case, folder):
 
 
 def program_cases(program, of_program):
-    """How many cases of a program passed, and how many failed. They run side by side, each in a folder of its own."""
+    """Runs the cases of a program side by side, each in a folder of its own. Returns how many passed and failed."""
     if not os.path.isfile(program):
         print(f"{os.path.basename(program)} was not built, so none of its cases was run")
         return 0, 1

@@ -1,10 +1,10 @@
-"""`make hubs`: suppliers spread over three hubs behind HAProxy, as in `examples/hubs`, cannot tell it from one hub that has all of
-them.
+"""`make hubs`: suppliers spread over three hubs behind HAProxy, as in `examples/hubs`, cannot tell them from one hub that has all
+suppliers.
 
-Requests of ten suppliers and of the retailer are drawn by chance, damaged ones among them, and sent to one hub that has all ten, and
-to the three through the front, each to the hub of its supplier. Each answer is the same byte for byte, and so are then each
-supplier's status, its mailbox and every entry of it. Beside that the check of the registers finds the three apart, by their registers
-and by their files, and says what is not.
+Random requests of ten suppliers and of the retailer, some of them damaged, are sent to one hub that has all ten, and to the three
+through the front, each to the hub of its supplier. Each answer has to be the same byte for byte, and so have each supplier's status,
+its mailbox and every entry afterwards. The check of several registers has to find the three apart, by their registers and by their
+files, and to report registers that are not.
 
     python3 -m tests.three_hubs crates/edihub/out/edihub [SEED [NUMBER]]"""
 import asyncio
@@ -57,7 +57,7 @@ class Parties:
 
 
 def an_upload(draw, parties, place):
-    """Who uploads, and what, of suppliers of one hub: some of it damaged."""
+    """Returns an uploader and an upload, some of it damaged, for suppliers of one hub."""
     random_inputs.SUPPLIERS = parties.of_hub(place)
     who, text = random_inputs.upload_of(draw)
     if draw.random() < 0.2:
@@ -129,7 +129,7 @@ def shown(both):
 
 
 def compared(program, parties, folders, draw, number):
-    """What is wrong where both are asked so many requests, if anything."""
+    """Sends this many requests to both. Returns what is wrong, if anything."""
     ports = {}
     for place, folder in enumerate(folders, 1):
         with open(FILES[place - 1], encoding="ascii") as file:
@@ -167,7 +167,7 @@ def checked(*names):
 
 
 def apart(folders):
-    """What is wrong with the check of registers and of files, if anything."""
+    """Tries the check of registers and of files. Returns what is wrong, if anything."""
     ok = (0, f"ok {HUBS} hubs, 10 suppliers\n")
     if checked(*FILES) != ok or checked(*(os.path.join(folder, NAME) for folder in folders)) != ok:
         return f"registers or files that are apart: {checked(*FILES)}, {checked(*(os.path.join(folder, NAME) for folder in folders))}"

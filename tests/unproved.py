@@ -1,9 +1,9 @@
-"""`make case`: cases over a build of `edihub` or `trial_script` without any proof (unproved_build.py); the cases take seconds.
+"""`make case`: runs cases on a build of `edihub` or `trial_script` without any proof (unproved_build.py), in seconds.
 
     python3 -m tests.unproved GROUP [WORDS]
 
-The groups are those of GROUPS below; with words, the cases whose names have them. Cases that limit memory and large ones are left out,
-since the build checks each access and takes more of both memory and time. The last line is `N passed, M failed`."""
+GROUP is one of GROUPS below; WORDS select the cases whose names contain them. Large cases, and those that limit memory, are left
+out, because the build checks each access and takes more memory and time. The last line is `N passed, M failed`."""
 import sys
 
 from tests import test

@@ -48,7 +48,7 @@ BUILDS = {build.crate: build for build in (EDIHUB, SCRIPTS)}
 
 
 def sum_now(crate):
-    """A sum of all that the program is built of."""
+    """Returns a checksum of everything that the program is built from."""
     kept = Kept(crates(), [])
     return hashlib.sha256(repr((kept.texts(crate), kept.toolchain())).encode()).hexdigest()
 
@@ -61,7 +61,7 @@ def is_built(program, wanted):
 
 
 def is_copied(build, folder):
-    """Whether the program has been linked below the folder, and a copy of it runs."""
+    """Whether the program has been linked in the folder, and a copy of it runs."""
     for program in glob(os.path.join(folder, "**", "program"), recursive=True):
         try:
             shutil.copyfile(program, build.program())
@@ -75,7 +75,7 @@ def is_copied(build, folder):
 
 
 def make(build):
-    """Builds the program. Why it cannot be, or nothing."""
+    """Builds the program. Returns why that failed, or nothing."""
     os.makedirs(os.path.dirname(build.program()), exist_ok=True)
     with tempfile.TemporaryDirectory() as folder, tempfile.TemporaryFile() as log, tempfile.TemporaryFile() as script:
         script.write(build.script())
@@ -94,7 +94,7 @@ def make(build):
 
 
 def built(build):
-    """Builds the program where it is not there as the crates are now. Why it cannot be, or nothing."""
+    """Builds the program, unless it is there and no crate has changed since. Returns why that failed, or nothing."""
     wanted = sum_now(build.crate)
     if is_built(build.program(), wanted):
         return ""

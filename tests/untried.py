@@ -1,6 +1,7 @@
-"""Lists each public function of a library that no wrong body turns: `python3 -m tests.untried`. The last line is `N functions, M untried`.
+"""Lists each public function of a library that no wrong body changes: `python3 -m tests.untried`. The last line is
+`N functions, M untried`.
 
-A function is tried where an edit of `must-fail/` or `wrong/` changes its text, or where it stands in `untried.txt`, the table of those for
+A function counts as tried if an edit of `must-fail/` or `wrong/` changes its text, or if it is in `untried.txt`, the table of those for
 which no wrong body compiles or is wrong."""
 import os
 import sys
@@ -11,7 +12,7 @@ TABLE = os.path.join(tree.ROOT, "tests", "untried.txt")
 
 
 def libraries():
-    """The crates that give something out."""
+    """Returns the crates with public functions."""
     for crate in sorted(os.listdir(os.path.join(tree.ROOT, "crates"))):
         texts = crate_functions.sources(crate)
         if "src/lib.rt" in texts and not crate.endswith("_tests"):
@@ -26,7 +27,7 @@ def excused():
 
 
 def untried():
-    """All public functions with a body, and those of them that no edit touches, by their paths."""
+    """Returns all public functions with a body, and those that no edit changes, by their paths."""
     every, left = set(), set()
     for crate, texts in libraries():
         names = crate_functions.given_out(texts)
@@ -45,7 +46,7 @@ def untried():
 
 
 def check():
-    """What is wrong, a line each: functions that nothing turns, and rows of the table that say nothing."""
+    """Returns what is wrong, a line each: functions that no edit changes, and rows of the table without a function."""
     table = excused()
     every, left = untried()
     lines = [f"{it}: no edit turns it" for it in sorted(left - set(table))]

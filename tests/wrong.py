@@ -3,23 +3,23 @@ tree.
 
     python3 -m tests.wrong [--anew] [CRATE ..]
 
-An edit has lines `file:`, `old:` and `new:`. It is a wrong body, which its own crate has to refuse, or, where its first line is
-`refused by: CRATE`, a wrong definition, which that crate has to refuse: the crates between are built with it, each of them
-proved, and that one is checked.
+An edit has lines `file:`, `old:` and `new:`. It is a wrong body, which its own crate has to refuse, or, if its first line is
+`refused by: CRATE`, a wrong definition, which that crate has to refuse: the crates between are proved and built with it, and that one
+is checked.
 
-Wrong bodies of different functions are tried in one check: each function is proved by itself, over what the others promise, so
-a body is refused where the check says so of its own function. One whose function calls another that is refused waits for the
-next check. What is not refused so, or only by a proof that names what the edit took away, is tried again alone, by `rt must-fail`,
-and that counts.
+Wrong bodies of different functions are tried in one check: each function is proved by itself, from the contracts of the others, so
+a body is refused if the check says so of its own function. One whose function calls another that is refused waits for the next
+check. What is not refused in this way, or only by a proof that names what the edit removed, is tried again alone, by
+`rt must-fail`, whose verdict counts.
 
-What was refused is kept in crates/NAME/out/refused, under a sum of the edit and of what the verdict hangs on, comments left out, and is
-not tried again, and of what a library was proved in crates/NAME/out/proved: so a run goes on where the last one was stopped. A crate of
-which each edit was refused has its line in tests/refused.txt, with the number of its edits and a sum of theirs; of another
-crate each edit that was refused has one, with the beginning of its own sum. They are kept with the tree: while a sum is right,
-its edits are not tried again on any machine. `--anew` looks at none of this.
+What was refused is kept in crates/NAME/out/refused, under a checksum of the edit and of everything that the verdict depends on, without
+comments, and is not tried again; crates/NAME/out/proved does the same for libraries. So a run goes on where the last one was stopped. A
+crate whose edits were all refused has one line in tests/refused.txt, with their number and their checksum; of another crate each edit
+that was refused has a line. This file is kept with the tree: while a checksum is right, its edits are not tried again on any machine.
+`--anew` ignores all of this.
 
 Prints each edit that is not refused and each that is refused by names alone (which says little of the contract). The last line
-is `N refused, K of them by names alone, M not`, and the status is 1 where M is not 0."""
+is `N refused, K of them by names alone, M not`, and the status is 1 if M is not 0."""
 import functools
 import hashlib
 import os
@@ -39,7 +39,7 @@ from tests.harness.tree_copies import PARTS, copied, crates, lanes, library_prov
 BY_NAMES = r"(\./)?proofs/.*(has no field|is not in scope|has no `|was not admitted)"
 PLACE = re.compile(r"(?:note: )?(?:\./)?(\S+?):(\d+):\d+: ")
 REFUSED, NAMES_ALONE, NOT_REFUSED = "refused", "refused by names alone", "not refused"
-# so much of a sum tells an edit from all others
+# this much of a checksum distinguishes an edit from all others
 SHORT = 16
 # what was refused, as the tree keeps it
 TOLD = os.path.join(ROOT, "tests", "refused.txt")
@@ -48,7 +48,7 @@ TOLD = os.path.join(ROOT, "tests", "refused.txt")
 @dataclass(frozen=True)
 class Wrong:
     crate: str
-    # in which folder it stands, and its file's name
+    # its folder, and its file's name
     folder: str
     name: str
     text: str
@@ -80,10 +80,10 @@ def summed(crate, parts, seen, with_comments=False):
 
 
 class Kept:
-    """What earlier runs refused, by the sum of all that it was tried on."""
+    """What earlier runs refused, by a checksum of everything that the verdict depends on."""
 
     def __init__(self, below, anew):
-        """`anew`: the crates of which nothing is known."""
+        """`anew`: crates whose records are ignored."""
         self.below, self.lock, self.known = below, threading.Lock(), {}
         with open(TOLD if os.path.isfile(TOLD) else os.devnull, encoding="utf-8") as lines:
             told = [line.split() for line in lines]
@@ -100,12 +100,12 @@ class Kept:
 
     @functools.cache
     def sum_of(self, crate, with_comments=False):
-        """The sum of a crate's text, with lines of comments or without them, since no proof hangs on them."""
+        """Returns the checksum of a crate's text, with or without comments, on which no proof depends."""
         return summed(crate, PARTS, lambda _, text: text, with_comments)
 
     @functools.cache
     def promised(self, crate):
-        """The sum of what a crate promises to those above it: its definitions, and its functions without their bodies."""
+        """Returns the checksum of what a crate promises to those above it: its definitions, and its functions without their bodies."""
         return summed(crate, ("src", "specs"), lambda path, text: without_bodies(text) if path.endswith(".rt") else text)
 
     @functools.cache
@@ -121,8 +121,8 @@ class Kept:
         return [(it, self.sum_of(it, with_comments)) for it in sorted(self.below[crate] | {crate})]
 
     def tried_on(self, wrong):
-        """What the verdict on an edit hangs on: the crate that has to refuse it, and for a definition those between, whole; of all
-        others what they promise, since a proof sees no body of another crate."""
+        """Returns what the verdict on an edit depends on: all of the crate that has to refuse it, and for a definition of those between; of
+        other crates what they promise, because a proof sees no body of another crate."""
         judge = wrong.refused_by or wrong.crate
         whole = {judge, wrong.crate} | {it for it in self.below[judge] if wrong.crate in self.below[it]}
         return [(it, self.sum_of(it) if it in whole else self.promised(it)) for it in sorted(self.below[judge] | {judge})]
@@ -246,7 +246,7 @@ def bodies_tried(crate, bodies, keep):
 
 
 def tried_alone(room, crate, bodies):
-    """The same by `rt must-fail`."""
+    """Tries an edit by `rt must-fail`."""
     folder = os.path.join(room, "crates", crate, "must-fail")
     os.makedirs(folder)
     for it in bodies:
@@ -267,7 +267,7 @@ def verdict(said):
 
 
 def applied(text, folder):
-    """Applies an edit to a crate's files. Says why it cannot be."""
+    """Applies an edit to a crate's files. Returns why that failed, or nothing."""
     for path, old, new in pairs_of(text):
         if not path.startswith(tuple(f"{it}/" for it in PARTS)) or not os.path.isfile(os.path.join(folder, path)):
             return f"there is no file {path or '(none is named)'}"
@@ -296,7 +296,7 @@ def check_told(lines):
     judged = next((it for it in reversed(lines) if it.startswith("logic=")), lines[-1])
     if unread or not judged.startswith("logic=not-proved"):
         return NOT_REFUSED, f"it cannot be read: {unread or judged}"
-    # a goal that is looked for and not found is told as no error
+    # a goal whose proof was searched and not found is not reported as an error
     unfound = (it for it in lines if re.match(r"fn \S+: no proof: .*did not prove", it))
     first = next((it for it in errors if not re.match(BY_NAMES, it)), "") or next(unfound, "")
     return (REFUSED, first) if first else (NAMES_ALONE, (errors or [""])[0])
@@ -381,7 +381,7 @@ class Tried:
         return [(it, told, why)], "", ""
 
     def run(self):
-        """Tries all. Gives why it cannot, where a crate is not proved as it stands."""
+        """Tries everything. Returns why it cannot, if a crate is not proved as it is."""
         running, failed, most = set(), "", lanes()
         with ThreadPoolExecutor(most) as pool:
             while True:

@@ -1,6 +1,6 @@
 #!/bin/sh
 # Some days of one retailer with two suppliers and a third that joins, by the commands of edihub over a database file: sh day.sh PROGRAM.
-# The file, and those with the keys, are in a temporary folder, which is thrown away in the end.
+# The file, and those with the keys, are in a temporary folder, which is deleted in the end.
 set -eu
 program=$(cd "$(dirname "$1")" && pwd)/$(basename "$1")
 cd "$(dirname "$0")"
@@ -14,7 +14,7 @@ echo alpha-key-1 > alpha.key
 echo beta-key-1 > beta.key
 echo gamma-key-1 > gamma.key
 
-# says whose turn it is, and runs a command; a refusal (status 1) is part of the day
+# prints who acts now, and runs a command; a refusal (status 1) is part of the day
 edihub() {
     command=$1
     shift

@@ -28,7 +28,7 @@ import urllib.parse
 
 # the most bytes that a hub takes; the longest pause between two tries; how long an answer may take, through the front too
 LARGEST, LONGEST_PAUSE, TIMEOUT = 1_048_576, 60, 200
-# what is kept of a long name, so that there is room for more behind it
+# how much of a long name is kept, so that a number fits behind it
 NAME = 200
 WRITTEN = "is open for writing"
 
@@ -57,7 +57,7 @@ class Hub:
         self.path, self.fields = f"{it.path.rstrip('/')}/p/{caller}/interchanges", {"X-Hub-Key": key}
 
     def answer(self, data):
-        """The status and the body of the answer to an upload; 0 and the reason if there is none."""
+        """Returns the status and the body of the answer to an upload, or 0 and the reason if no answer came."""
         try:
             try:
                 self.connection.request("POST", self.path, data, self.fields)

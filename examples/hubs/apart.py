@@ -1,5 +1,5 @@
 #!/usr/bin/env python3
-"""Whether hubs side by side keep apart: no supplier stands in two of them, and no company prefix in one begins a prefix in another.
+"""Checks that hubs side by side are apart: no supplier is in two of them, and no company prefix in one begins a prefix in another.
 
     python3 apart.py register-1.toml register-2.toml register-3.toml
 
@@ -15,7 +15,7 @@ import tomllib
 
 
 class Hub:
-    """What a file says: the GLNs of the hub and of the retailer, and the prefixes of each supplier by its GLN."""
+    """The parties in a file: the GLNs of the hub and of the retailer, and the prefixes of each supplier by its GLN."""
 
     def __init__(self, name):
         self.name = name
@@ -32,7 +32,7 @@ def from_register(name):
 
 
 def from_database(name):
-    """The parties of a database file, of which a copy is opened, so that the file and the log beside it stay as they are."""
+    """Returns the parties of a database file. It opens a copy, so that the file and the log beside it stay as they are."""
     with tempfile.TemporaryDirectory() as folder:
         copy = shutil.copy(name, os.path.join(folder, "hub.db"))
         if os.path.exists(f"{name}-wal"):
@@ -47,7 +47,7 @@ def from_database(name):
 
 
 def glns_twice(hubs):
-    """A line for each GLN that stands in two hubs, other than as the hub in both or as the retailer in both."""
+    """Returns a line for each GLN that is in two hubs, other than as the hub in both or as the retailer in both."""
     seen = {}
     for hub in hubs:
         for gln, role in ((hub.hub, "hub"), (hub.retailer, "retailer"), *((gln, "supplier") for gln in hub.suppliers)):
@@ -57,7 +57,7 @@ def glns_twice(hubs):
 
 
 def prefixes_overlap(hubs):
-    """A line for each two prefixes in two hubs of which one begins the other."""
+    """Returns a line for each two prefixes in two hubs of which one begins the other."""
     prefixes = sorted((prefix, place, gln) for place, hub in enumerate(hubs) for gln, its in hub.suppliers.items() for prefix in its)
     for at, (prefix, place, gln) in enumerate(prefixes):
         for longer, other, whose in prefixes[at + 1 :]:

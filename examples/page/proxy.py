@@ -1,5 +1,5 @@
-"""A small reverse proxy for trying the page alone, on 127.0.0.1 and without TLS, so without Strict-Transport-Security: it serves the files
-of `page/` at `/`, passes `/p/` to the hub, and explains files at `/show`. For use set up one as docs/PAGE.md describes it."""
+"""A small reverse proxy, only for trying the page, on 127.0.0.1 and without TLS, so without Strict-Transport-Security: it serves the files
+of `page/` at `/`, passes `/p/` to the hub, and explains files at `/show`. docs/PAGE.md has the real one."""
 import http.client
 import os
 from http.server import BaseHTTPRequestHandler, ThreadingHTTPServer
@@ -18,7 +18,7 @@ LONGEST, PATIENCE = 1_048_576, 60
 
 
 class Proxy(ThreadingHTTPServer):
-    """Listens on a port of 127.0.0.1 (0: a free one), before a hub on another."""
+    """Listens on a port of 127.0.0.1 (0: a free one), in front of a hub on another."""
 
     daemon_threads = True
 

@@ -1,5 +1,5 @@
-"""`make page`: a hub of the example register with the orders of the example day, in a temporary folder, and a proxy before it that serves
-the page. For trying alone: it is thrown away in the end. `python3 try.py PROGRAM PORT [NOTE]`; the note is printed last."""
+"""`make page`: a hub of the example register with the orders of the example day, in a temporary folder, and a proxy in front of it that
+serves the page. Only for trying: it is deleted in the end. `python3 try.py PROGRAM PORT [NOTE]`; the note is printed last."""
 import os
 import signal
 import socket
@@ -51,7 +51,7 @@ def serving(program, file):
     child = subprocess.Popen([program, "serve", "--db", file, "--port", str(port), "--count", "1000000"], stdout=subprocess.PIPE)
     if not child.stdout.readline().startswith(b"listening"):
         raise OSError("the hub does not listen")
-    # a line comes for each connection; if nobody reads them the hub would wait once the pipe is full
+    # the hub prints a line for each connection; if nobody read them it would wait once the pipe is full
     threading.Thread(target=child.stdout.read, daemon=True).start()
     return child, port
 
@@ -72,7 +72,7 @@ def main(program, port, *notes):
 
 
 if __name__ == "__main__":
-    # being told to end is as ^C, so that the hub ends too; a shell's background would leave ^C out
+    # SIGTERM is handled like ^C, so that the hub ends too; in the background of a shell ^C would not arrive
     for told in (signal.SIGINT, signal.SIGTERM):
         signal.signal(told, signal.default_int_handler)
     main(os.path.abspath(sys.argv[1]), int(sys.argv[2]), *sys.argv[3:])
