@@ -176,15 +176,6 @@ def quoted(*path):
     return trial
 
 
-def head_of_a_list(reader, block, _section):
-    """The head of the answer to a list of one entry."""
-    folder = reader.new()
-    reader.run(ORDERED, folder)
-    with reader.serving(SERVE, folder) as (port, _):
-        head = answer(port, "mail/after/0").replace("\r\n", "\n").partition("\n\n")[0] + "\n"
-    hold(head == block, f"{head!r} is answered")
-
-
 def a_header(reader, block, _section):
     """The file with the key that the next block uses."""
     write(reader.folder, "alpha.header", block)
@@ -345,7 +336,7 @@ BLOCKS = {
     "README.md": {"UNH+1": "an order", "UNB+UNOC:3": "its mail", "make try": looked_up},
     "docs/ARCHITECTURE.md": {"doors ": PICTURE},
     "docs/CONTRIBUTING.md": {"grep -rn 'MailboxFull'": looked_up, "grep -rn 'WithoutLines'": looked_up},
-    "docs/FORMATS.md": {"UNA:": "the form of mail", "service component": shown_lines, "HTTP/1.1 200 OK": head_of_a_list},
+    "docs/FORMATS.md": {"UNA:": "the form of mail", "service component": shown_lines},
     "docs/INSTALL.md": {
         "make edihub": looked_up,
         "apt-get update": each_of_the_package,
