@@ -1,5 +1,6 @@
-"""Each command in README.md, CHANGELOG.md and docs/*.md has a trial here. Those of a block are run as they stand, in the order of the
-document; those in backticks are looked up. A block without a line of the table below is a failure, and so is a line without a block."""
+"""Each command in README.md, CHANGELOG.md and docs/*.md has a trial here. Those of a block are run as they are, in the order of the
+document; those in backticks are looked up. A block without a line of the table below is a failure, and so is a line without a block.
+Each link between documents has to lead somewhere."""
 import os
 import re
 import socket
@@ -435,9 +436,13 @@ def tried(document, program):
         return wrong, reader
 
 
+def documents():
+    return ["README.md", "CHANGELOG.md", *sorted(os.path.relpath(it, ROOT) for it in glob(os.path.join(ROOT, "docs", "*.md")))]
+
+
 def each_command(program):
     """What is wrong with a command of a document, if anything."""
-    names = ["README.md", "CHANGELOG.md", *sorted(os.path.relpath(it, ROOT) for it in glob(os.path.join(ROOT, "docs", "*.md")))]
+    names = documents()
     with ThreadPoolExecutor() as pool:
         found = list(pool.map(lambda it: tried(it, program), names))
     counts = [sum(getattr(reader, it) for _, reader in found) for it in ("ran", "looked_up")]
@@ -460,4 +465,31 @@ def page_is_served_alike(_program):
     return "" if told_by == used else f"PAGE.md has\n{told_by}and examples/front/nginx.conf\n{used}"
 
 
-TRIALS = [("each command of the documents", each_command), ("the page as documented and as in the front", page_is_served_alike)]
+def anchors(document):
+    """The anchors of a document: those that it names, and one for each heading, as GitHub makes them of its words."""
+    with open(os.path.join(ROOT, document), encoding="utf-8") as file:
+        text = file.read()
+    headings = re.findall(r"^#+ (.+)$", BLOCK.sub("", text), re.MULTILINE)
+    slugs = {re.sub(r"[^\w -]", "", it.lower()).replace(" ", "-") for it in headings}
+    return slugs | set(re.findall(r'<a id="([^"]+)">', text))
+
+
+def links_lead_somewhere(_program):
+    """What is wrong with a link of a document to a file of the tree or a section of a document, if anything."""
+    wrong = []
+    for document in documents():
+        with open(os.path.join(ROOT, document), encoding="utf-8") as file:
+            links = re.findall(r"\]\(([^)\s]+)\)", BLOCK.sub("", file.read()))
+        for link in sorted({it for it in links if not it.startswith("https:")}):
+            path, _, anchor = link.partition("#")
+            target = os.path.normpath(os.path.join(os.path.dirname(document), path)) if path else document
+            if not os.path.exists(os.path.join(ROOT, target)) or anchor and anchor not in anchors(target):
+                wrong.append(f"{document} links to {link}")
+    return "\n".join(wrong)
+
+
+TRIALS = [
+    ("each command of the documents", each_command),
+    ("each link of the documents", links_lead_somewhere),
+    ("the page as documented and as in the front", page_is_served_alike),
+]
