@@ -212,7 +212,7 @@ def alike():
         with open(os.path.join(EXAMPLES, "front", name), encoding="ascii") as file:
             head, _, rest = file.read().partition("\nglobal\n")[2].partition("frontend suppliers\n")
         head = head.replace("    ssl-default-bind-options ssl-min-ver TLSv1.2\n", "")
-        texts.append((head, rest[rest.index("    # the hub has these") :]))
+        texts.append((head, rest[rest.index("    # the hub has only these paths") :]))
     return None if texts[0] == texts[1] else "the two files of HAProxy are not alike"
 
 
