@@ -373,7 +373,8 @@ BLOCKS = {
     "docs/PAGE.md": {"root /srv": NGINX, "GLN;Name": "a list of suppliers", "location = /suppliers.csv": NGINX},
     "docs/PROMISES.md": {
         "pub fn step": quoted("crates", "hub_core", "src", "hub.rt"),
-        "StepsFrom left": quoted("crates", "hub_core", "specs", "Hub.antt"),
+        "pub record AnswersInput": quoted("crates", "hub_core", "specs", "Hub.antt"),
+        "SteppedOver old": quoted("crates", "hub_core", "specs", "Hub.antt"),
         "pub record Stepped": quoted("crates", "hub_core", "specs", "Steps.antt"),
         "ghost content": quoted("crates", "hub_store", "src", "store.rt"),
         "fn pallet": quoted("crates", "hub_store", "src", "store.rt"),
