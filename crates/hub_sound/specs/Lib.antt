@@ -1,0 +1,4 @@
+pub use Rattle.hub_rules.specs as HubRules
+pub mod Finding
+pub mod Goods
+pub mod Showing
