@@ -1,7 +1,7 @@
 //! Compares what is on the pallets of a supplier with the lines of its orders.
-ghost use Rattle.std.specs.Prelude.{◌≡◌, ◌+◌, ◌≤◌, ◌&&◌, ◌==◌, ℕ, List, None, IfOk, OnOk, IsTrue, not, is_some, find, if◌then◌else◌, option_map, option_copied};
+ghost use Rattle.std.specs.Prelude.{◌≡◌, ◌+◌, ◌&&◌, ◌==◌, ℕ, List, None, IfOk, OnOk, IsTrue, not, is_some, find};
+ghost use Rattle.std.specs.Prelude.{if◌then◌else◌, option_map, option_copied};
 ghost use Rattle.std.specs.List.{list_all};
-ghost use Rattle.edi_base.specs.Limits.{greatest};
 ghost use Rattle.hub_store.specs.Clean.{clean_line};
 ghost use Rattle.hub_tables.specs.Rows.{same};
 ghost use Rattle.hub_sound.specs.Goods as spec;

@@ -1,0 +1,84 @@
+-- What is counted of rows that were read.
+use Rattle.std.proofs.Common.{◌≡◌, ℕ, Bool, List, length, count_by, Ok, ap, ◌∙◌}
+use Rattle.hub_sound.specs.Finding.{Key}
+use Rattle.hub_tables.specs.Tables.{Tables}
+use Rattle.hub_verify.specs.AllRows.{Tells, IsRead}
+use Rattle.hub_verify.specs.Counts.{AreCounts, is_open, is_received, is_untaken}
+use Rattle.hub_verify.specs.declared.counts.Counts.{Counts}
+use Rattle.hub_verify.specs.declared.all_rows.Read.{Read as Found}
+use Rattle.hub_verify.specs.declared.all_rows.Read.TheVariants.{Rows}
+use Rattle.hub_verify.proofs.Crossing.{rows_are}
+use Rattle.hub_verify.proofs.Telling.{follows, then}
+
+module _ {S : Type 0} (content : S → Tables) (honest : S → Type 0) where
+  module _ {X : Type 0} (key_of : X → Key) (clean : X → Bool) (rows : Tables → List X) (old mid : S) (read : Found X) (xs : List X)
+      (is : read ≡ Rows xs) (was_read : Tells content honest (λ t. IsRead key_of clean (rows t)) old mid (Ok read)) where
+    pub counted : (n : ℕ) → n ≡ length xs → Tells content honest (λ t n. n ≡ length (rows t)) old mid (Ok n)
+    counted n count =
+        follows content honest (λ t. IsRead key_of clean (rows t)) (λ t n. n ≡ length (rows t)) old mid read n
+        (λ t h. count ∙ ap length (rows_are key_of clean (rows t) read xs is h)) was_read
+
+    pub counted_both : (p : X → Bool) (n : ℕ) → n ≡ length xs → (m : ℕ) → m ≡ count_by p xs
+        → Tells content honest (λ t (n : ℕ × ℕ). (n.0 ≡ length (rows t)) × (n.1 ≡ count_by p (rows t))) old mid (Ok (n, m))
+    counted_both p n count m some =
+        follows content honest (λ t. IsRead key_of clean (rows t))
+        (λ t (n : ℕ × ℕ). (n.0 ≡ length (rows t)) × (n.1 ≡ count_by p (rows t))) old mid read (n, m)
+        (λ t h. let same = rows_are key_of clean (rows t) read xs is h in (count ∙ ap length same, some ∙ ap (count_by p) same)) was_read
+
+  pub both : {X Y : Type 0} (one : Tables → X → Type 0) (two : Tables → Y → Type 0) (old mid new : S) (x : X) (y : Y)
+      → Tells content honest one old mid (Ok x) → Tells content honest two mid new (Ok y)
+      → Tells content honest (λ t y. one t x × two t y) old new (Ok y)
+  both one two old mid new x y a b = then content honest one two (λ t y. one t x × two t y) old mid new x (λ t h z it. (h, it)) a (Ok y) b
+
+  abbrev Keys : Tables → ℕ → Type 0
+  Keys t n = n ≡ length t.keys
+
+  abbrev Orders : Tables → ℕ → Type 0
+  Orders t n = n ≡ length t.orders
+
+  abbrev Lines : Tables → ℕ × ℕ → Type 0
+  Lines t n = (n.0 ≡ length t.lines) × (n.1 ≡ count_by is_open t.lines)
+
+  abbrev Pallets : Tables → ℕ × ℕ → Type 0
+  Pallets t n = (n.0 ≡ length t.pallets) × (n.1 ≡ count_by is_received t.pallets)
+
+  abbrev Entries : Tables → ℕ × ℕ → Type 0
+  Entries t n = (n.0 ≡ length t.mail) × (n.1 ≡ count_by is_untaken t.mail)
+
+  abbrev Messages : Tables → ℕ → Type 0
+  Messages t n = n ≡ length t.remembered
+
+  pub all_counted : (s0 s1 s2 s3 s4 s5 s6 : S) (a b : ℕ) (c d e : ℕ × ℕ) (f : ℕ)
+      → Tells content honest Keys s0 s1 (Ok a) → Tells content honest Orders s1 s2 (Ok b) → Tells content honest Lines s2 s3 (Ok c)
+      → Tells content honest Pallets s3 s4 (Ok d) → Tells content honest Entries s4 s5 (Ok e)
+      → Tells content honest Messages s5 s6 (Ok f)
+      → Tells content honest AreCounts s0 s6 (Ok (record {
+        suppliers = a;
+        orders = b;
+        lines = c.0;
+        open_lines = c.1;
+        pallets = d.0;
+        received_pallets = d.1;
+        entries = e.0;
+        untaken_entries = e.1;
+        remembered = f;
+      }))
+  all_counted s0 s1 s2 s3 s4 s5 s6 a b c d e f ka kb kc kd ke kf =
+      follows content honest (λ t n. Keys t a × (Orders t b × (Lines t c × (Pallets t d × (Entries t e × Messages t n)))))
+      AreCounts s0 s6 f _
+      (λ t h. record {
+        suppliers = h.0;
+        orders = h.1.0;
+        lines = h.1.1.0.0;
+        open_lines = h.1.1.0.1;
+        pallets = h.1.1.1.0.0;
+        received_pallets = h.1.1.1.0.1;
+        entries = h.1.1.1.1.0.0;
+        untaken_entries = h.1.1.1.1.0.1;
+        remembered = h.1.1.1.1.1;
+      })
+      (both Keys (λ t n. Orders t b × (Lines t c × (Pallets t d × (Entries t e × Messages t n)))) s0 s1 s6 a f ka
+      (both Orders (λ t n. Lines t c × (Pallets t d × (Entries t e × Messages t n))) s1 s2 s6 b f kb
+      (both Lines (λ t n. Pallets t d × (Entries t e × Messages t n)) s2 s3 s6 c f kc
+      (both Pallets (λ t n. Entries t e × Messages t n) s3 s4 s6 d f kd
+      (both Entries Messages s4 s5 s6 e f ke kf)))))

@@ -1,0 +1,10 @@
+use Rattle.hub_sound.specs.Finding.{pallet_key}
+use Rattle.hub_sound.specs.declared.finding.RowKind.TheVariants as kinds
+use Rattle.hub_store.specs.Clean.{clean_pallet}
+use Rattle.hub_verify.proofs.Telling.{told_read}
+use Rattle.hub_verify.proofs.clean.unclean_pallet.Goals as goal
+
+pub returns : goal.returns
+returns g c =
+    told_read g.S.AllRows.content g.S.AllRows.honest pallet_key clean_pallet (λ t. t.pallets) kinds.Pallet (λ t key it. it) c.args.store.now
+    c.every_pallet.new.self c.in_ok-read.read c.unclean_of.result c.unclean_of.ensures c.in_ok-read.ensures

@@ -1,0 +1,11 @@
+use Rattle.hub_sound.specs.Finding.{receipt_key}
+use Rattle.hub_sound.specs.declared.finding.RowKind.TheVariants as kinds
+use Rattle.hub_store.specs.Clean.{clean_receipt}
+use Rattle.hub_verify.proofs.Telling.{told_read}
+use Rattle.hub_verify.proofs.clean.unclean_receipt.Goals as goal
+
+pub returns : goal.returns
+returns g c =
+    told_read g.S.AllRows.content g.S.AllRows.honest receipt_key clean_receipt (λ t. t.receipts) kinds.Receipt (λ t key it. it)
+    c.args.store.now
+    c.every_receipt.new.self c.in_ok-read.read c.unclean_of.result c.unclean_of.ensures c.in_ok-read.ensures

@@ -1,0 +1,11 @@
+use Rattle.hub_sound.specs.Finding.{remembered_key}
+use Rattle.hub_sound.specs.declared.finding.RowKind.TheVariants as kinds
+use Rattle.hub_store.specs.Clean.{clean_remembered}
+use Rattle.hub_verify.proofs.Telling.{told_read}
+use Rattle.hub_verify.proofs.clean.unclean_remembered.Goals as goal
+
+pub returns : goal.returns
+returns g c =
+    told_read g.S.AllRows.content g.S.AllRows.honest remembered_key clean_remembered (λ t. t.remembered) kinds.Remembered (λ t key
+    it. it) c.args.store.now
+    c.every_remembered.new.self c.in_ok-read.read c.unclean_of.result c.unclean_of.ensures c.in_ok-read.ensures

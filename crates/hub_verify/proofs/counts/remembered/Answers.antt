@@ -1,0 +1,11 @@
+use Rattle.std.proofs.Common.{length, ap, ◌∙◌}
+use Rattle.hub_sound.specs.Finding.{remembered_key}
+use Rattle.hub_store.specs.Clean.{clean_remembered}
+use Rattle.hub_verify.proofs.Counting.{counted}
+use Rattle.hub_verify.proofs.counts.remembered.Goals as goal
+
+pub returns : goal.returns
+returns g c =
+    counted g.S.AllRows.content g.S.AllRows.honest remembered_key clean_remembered (λ t. t.remembered) c.args.store.now
+    c.every_remembered.new.self c.in_ok-read.read c.in_ok-rows.rows c.in_ok-rows.ensures
+    c.in_ok-read.ensures c.len.result c.len.ensures

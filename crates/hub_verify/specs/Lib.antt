@@ -1,0 +1,6 @@
+pub mod AllRows
+pub mod Clean
+pub mod Counts
+pub mod Cross
+pub mod Goods
+pub mod Verdict

@@ -1,0 +1,25 @@
+-- What is found of all rows.
+use Rattle.std.specs.Prelude.{◌≡◌, Bool, true, false, List, Option, None, Some}
+use Rattle.hub_sound.specs.Showing.{ShowsUnclean, ShowsUnsound}
+use Rattle.hub_sound.specs.HubRules.Laws.{SoundHub}
+use Rattle.hub_sound.specs.declared.finding.Finding.{Finding}
+use Rattle.hub_store.specs.Clean.{are_clean}
+use Rattle.hub_tables.specs.Tables.{Tables}
+use Rattle.hub_verify.specs.declared.verdict.Verdict.{Verdict as Judged}
+use Rattle.hub_verify.specs.declared.verdict.Verdict.TheVariants.{Sound, Unclean, Unsound}
+
+-- nothing was found, so this holds; or the row shows that the tables are not clean
+abbrev pub ToldUnclean : (Tables → Type 0) → Tables → Option Finding → Type 0
+ToldUnclean holds t None = holds t
+ToldUnclean holds t (Some found) = ShowsUnclean t found.kind found.key
+
+-- nothing was found, so this holds; or the row shows that the tables are not sound
+abbrev pub ToldUnsound : (Tables → Type 0) → Tables → Option Finding → Type 0
+ToldUnsound holds t None = holds t
+ToldUnsound holds t (Some found) = ShowsUnsound t found.kind found.key
+
+-- a sound start, or the row that shows it is none
+abbrev pub IsVerdict : Tables → Judged → Type 0
+IsVerdict t Sound = (are_clean t ≡ true) × SoundHub t
+IsVerdict t (Unclean found) = (are_clean t ≡ false) × ShowsUnclean t found.kind found.key
+IsVerdict t (Unsound found) = (are_clean t ≡ true) × (¬ SoundHub t) × ShowsUnsound t found.kind found.key

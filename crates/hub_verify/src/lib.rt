@@ -1,0 +1,15 @@
+//! Decides whether the rows of a hub are a sound start, and which row shows it if they are not.
+#![tactic(auto)]
+
+mod all_rows;
+mod clean;
+mod counts;
+mod cross;
+mod goods;
+mod verdict;
+mod whole;
+
+pub use all_rows::{AllRows, Read};
+pub use counts::{Counts, count};
+pub use verdict::Verdict;
+pub use whole::verify;

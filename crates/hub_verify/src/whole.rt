@@ -1,0 +1,37 @@
+//! Decides whether all rows are a sound start.
+ghost use Rattle.hub_tables.specs.Sets.{Rising};
+ghost use Rattle.hub_verify.specs.AllRows.{Tells};
+ghost use Rattle.hub_verify.specs.Verdict.{IsVerdict};
+
+use crate::all_rows::AllRows;
+use crate::clean::unclean_row;
+use crate::cross::unsound_row;
+use crate::goods::unsound_goods;
+use crate::verdict::Verdict;
+use hub_store::StoreFault;
+use std::alloc::Global;
+
+/// Returns `Sound` exactly if the rows are clean and a sound start; otherwise the row that shows it. It reads the tables one
+/// after another, and at no time keeps more of them than one table, or the rows of one supplier.
+///
+/// # Errors
+///
+/// Those of the rows. What was found before is then not told.
+pub fn verify<S: AllRows>(store: &mut S, alloc: Global) -> Result<Verdict, StoreFault>
+    ensures { Tells S.content S.honest (λ t verdict. Rising t → IsVerdict t verdict)
+        store.old store.new result }
+{
+    let unclean = unclean_row(store)?;
+    if let Some(found) = unclean {
+        return Ok(Verdict::Unclean(found));
+    }
+    let lacking = unsound_row(store, alloc)?;
+    if let Some(found) = lacking {
+        return Ok(Verdict::Unsound(found));
+    }
+    let misfit = unsound_goods(store, alloc)?;
+    if let Some(found) = misfit {
+        return Ok(Verdict::Unsound(found));
+    }
+    Ok(Verdict::Sound)
+}
