@@ -199,16 +199,16 @@ summed line (content ∷ contents) v = elim (decide (names line content)) [
           it.0,
           ap (λ b. sent_from (cond b (Some (with_more v content.quantity)) (Some v)) line.number line.line contents) e
               ∙ ap (λ b. sent_from (Some (cond b v (v + content.quantity))) line.number line.line contents) g ∙ it.1,
-          subst (Sums it.0) (sym (total e)) (more it.0 v content.quantity (sum_by (λ (c : ContentRow). c.quantity) (filter (names
-          line) contents)) (past v g) it.2),
+          subst (Sums it.0) (sym (total e)) (more it.0 v content.quantity
+              (sum_by (λ (c : ContentRow). c.quantity) (filter (names line) contents)) (past v g) it.2),
         )
     | inr g ↦
         let it = summed line contents (v + content.quantity) in (
           it.0,
           ap (λ b. sent_from (cond b (Some (with_more v content.quantity)) (Some v)) line.number line.line contents) e
               ∙ ap (λ b. sent_from (Some (cond b v (v + content.quantity))) line.number line.line contents) g ∙ it.1,
-          subst (Sums it.0) (sym (total e)) (subst (Sums it.0) (grouped v content.quantity (sum_by (λ (c : ContentRow). c.quantity)
-          (filter (names line) contents))) it.2),
+          subst (Sums it.0) (sym (total e)) (subst (Sums it.0) (grouped v content.quantity
+              (sum_by (λ (c : ContentRow). c.quantity) (filter (names line) contents))) it.2),
         )
   ]
   | inr e ↦
@@ -220,8 +220,9 @@ summed line (content ∷ contents) v = elim (decide (names line content)) [
       )
 ]
   where
-    total : names line content ≡ true → v + sum_by (λ (c : ContentRow). c.quantity) (filter (names line) (content ∷ contents)) ≡ v
-    + (content.quantity + sum_by (λ (c : ContentRow). c.quantity) (filter (names line) contents))
+    total : names line content ≡ true
+        → v + sum_by (λ (c : ContentRow). c.quantity) (filter (names line) (content ∷ contents))
+        ≡ v + (content.quantity + sum_by (λ (c : ContentRow). c.quantity) (filter (names line) contents))
     total e = ap (λ b. v + sum_by (λ (c : ContentRow). c.quantity)
         (cond b (content ∷ filter (names line) contents) (filter (names line) contents))) e
         ∙ ap (λ n. v + n) (sum_by-cons (λ (c : ContentRow). c.quantity) content (filter (names line) contents))
