@@ -249,23 +249,6 @@ fn cancel_request(alloc: Global, options: &ArgMatches<'_>) -> Result<Option<Requ
     }
 }
 
-// Returns the request of a command that makes one.
-fn request(
-    alloc: Global,
-    command: &str,
-    options: &ArgMatches<'_>,
-) -> Result<Option<Request>, AllocError>
-    requires { command.now ≡ codes "join" → ⊥ }
-    ensures { IfOk result (Finds (IsRequest command.now (rows_of (found_of options.now)))) }
-{
-    match command {
-        "status" => Ok(status_request(options)),
-        "mail" => Ok(mail_request(options)),
-        "cancel" => cancel_request(alloc, options),
-        _ => Ok(None),
-    }
-}
-
 // The texts of a join. The key is on the command line or in a file, of which this is the path.
 #[derive(Drop)]
 struct JoinTexts<'a> {
@@ -349,11 +332,38 @@ fn join_by_file<'a>(
     }
 }
 
+// What `join` asks, if the key is on the command line.
+fn join_request(alloc: Global, options: &ArgMatches<'_>) -> Result<Option<Request>, AllocError>
+    ensures { IfOk result (Finds (IsRequest (codes "join") (rows_of (found_of options.now)))) }
+{
+    match given_join(alloc, options)? {
+        Some(join) => Ok(Some(Request::Join(join))),
+        None => Ok(None),
+    }
+}
+
+// Returns the request of a command that makes one.
+fn request(
+    alloc: Global,
+    command: &str,
+    options: &ArgMatches<'_>,
+) -> Result<Option<Request>, AllocError>
+    ensures { IfOk result (Finds (IsRequest command.now (rows_of (found_of options.now)))) }
+{
+    match command {
+        "status" => Ok(status_request(options)),
+        "mail" => Ok(mail_request(options)),
+        "cancel" => cancel_request(alloc, options),
+        "join" => join_request(alloc, options),
+        _ => Ok(None),
+    }
+}
+
 fn join_task<'a>(alloc: Global, options: &ArgMatches<'a>) -> Result<Option<HubTask<'a>>, AllocError>
     ensures { IfOk result (Finds (IsTask (codes "join") (rows_of (found_of options.now)))) }
 {
-    if let Some(join) = given_join(alloc, options)? {
-        return Ok(Some(HubTask::Ask(Request::Join(join))));
+    if let Some(request) = join_request(alloc, options)? {
+        return Ok(Some(HubTask::Ask(request)));
     }
     match join_by_file(alloc, options)? {
         Some(join) => Ok(Some(HubTask::JoinByFile(join))),
