@@ -37,18 +37,21 @@ export function keepSent(caller, facts, settled) {
 /** @param {string} caller @returns {import("./hub/sending.js").Facts[]} */
 export const sentOf = (caller) => namesUnder(keyOf("sent", caller, "")).map(get).filter((it) => it !== null);
 
-/** Whether the tab keeps anything for this GLN. @param {string} caller */
+/** Whether the tab keeps anything for this GLN.
+ * @param {string} caller */
 export const hasWork = (caller) => hasDrafts(caller) || sentOf(caller).length > 0;
 
 const all = () => KINDS.flatMap((it) => namesUnder(`${PREFIX}${it}.`));
 
-/** Keeps a list of suppliers that the planner gave to this tab. @param {string} caller @param {{ file: string, text: string }} list */
+/** Keeps a list of suppliers that the planner gave to this tab.
+ * @param {string} caller @param {{ file: string, text: string }} list */
 export const keepSuppliers = (caller, list) => put(keyOf("suppliers", caller, ""), list);
 
 /** @param {string} caller @returns {{ file: string, text: string } | null} */
 export const suppliersOf = (caller) => get(keyOf("suppliers", caller, ""));
 
-/** Forgets what the tab keeps for other GLNs. @param {string} caller */
+/** Forgets what the tab keeps for other GLNs.
+ * @param {string} caller */
 export function forgetOthers(caller) {
   const own = KINDS.map((it) => `${PREFIX}${it}.${caller}.`);
   all().filter((key) => !own.some((it) => key.startsWith(it))).forEach(drop);

@@ -11,14 +11,16 @@ const NAME = "edihub.sign-in";
 /** @typedef {"supplier" | "retailer"} Role */
 /** @typedef {{ gln: string, key: string, role: Role, used: number }} SignIn a locked tab has an empty key */
 
-/** Whether a text can be a key. @param {string} key */
+/** Whether a text can be a key.
+ * @param {string} key */
 export const isKey = (key) => /^[\x21-\x7e]{8,64}$/.test(key);
 
 /** Keeps it, if the browser has a place for it: else a reload signs out.
  * @param {Omit<SignIn, "used">} signIn */
 export const keepSignIn = ({ gln, key, role }) => put(NAME, { gln, key, role, used: Date.now() });
 
-/** What is kept of this tab, or null. @returns {SignIn | null} */
+/** What is kept of this tab, or null.
+ * @returns {SignIn | null} */
 export function keptSignIn() {
   const { gln, key, role, used } = get(NAME) ?? {};
   const right = isGln(String(gln)) && (key === "" || isKey(String(key))) && ["supplier", "retailer"].includes(role);

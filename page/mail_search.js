@@ -21,7 +21,8 @@ export class MailSearch {
   #lastListed = 0;
   #left = 0;
   #running = Promise.resolve();
-  /** Whether the last search came to its end; null before the first. @type {boolean | null} */
+  /** Whether the last search came to its end; null before the first.
+   * @type {boolean | null} */
   isComplete = null;
 
   /** @param {Session} session */
@@ -53,7 +54,8 @@ export class MailSearch {
     }
   }
 
-  /** An entry, which counts if it has to be asked for. @param {number} number */
+  /** An entry, which counts if it has to be asked for.
+   * @param {number} number */
   async entry(number) {
     const known = this.session.entries.get(number);
     if (known) return known;

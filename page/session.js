@@ -7,6 +7,7 @@ import { Hub, Refused } from "./hub/client.js";
 import { withExactOrders } from "./hub/order_numbers.js";
 import { readList, readStatus } from "./hub/replies.js";
 import { SentList } from "./hub/sent_list.js";
+import { phrases } from "./language.js";
 import { MailSearch } from "./mail_search.js";
 import { readInterchange } from "./edi/envelope.js";
 import { readOrder } from "./edi/order.js";
@@ -124,7 +125,7 @@ const isNothing = () => false;
 async function answered(ask, isRight) {
   try {
     const text = await ask();
-    if (!isRight(text)) throw new Error(`it begins with ${JSON.stringify(text.slice(0, 40))}`);
+    if (!isRight(text)) throw new Error(phrases.session.begins(JSON.stringify(text.slice(0, 40))));
     return 200;
   } catch (why) {
     if (why instanceof Refused && ["denied", "unknown"].includes(why.body)) return why.status;

@@ -7,9 +7,11 @@ import { isSafePlace } from "./hub/place.js";
 import { watchUse } from "./idle.js";
 import { hasDrafts, hasWork } from "./kept.js";
 import { forgetSignIn, keepOn, keptSignIn } from "./kept_sign_in.js";
+import { beginLanguage, chooseLanguage, phrases } from "./language.js";
 import { lockTab } from "./lock.js";
 import { Banner } from "./parts/banner.js";
-import { button, element, heading, link, saying } from "./parts/dom.js";
+import { append, button, element, heading, link, saying } from "./parts/dom.js";
+import { languageChoice } from "./parts/language_choice.js";
 import { askToLeave } from "./parts/leaving.js";
 import { clockTime } from "./parts/sending_panel.js";
 import { answerScreen } from "./screens/answer.js";
@@ -70,14 +72,15 @@ const BELONGS = {
   search: "overview",
   "cancel-lines": "supplier",
 };
-/** @type {Record<string, [string, string][]>} */
+/** @type {Record<string, ("today" | "mailbox" | "despatch" | "status" | "sent" | "upload" | "overview" | "supplier" | "cancel")[]>} */
 const MENUS = {
-  supplier: [["today", "Today"], ["mailbox", "Mailbox"], ["despatch", "Despatch"], ["status", "Status"], ["sent", "Sent"]],
-  retailer: [["upload", "Upload"], ["overview", "Overview"], ["supplier", "Status"], ["cancel", "Cancel"], ["sent", "Sent"]],
+  supplier: ["today", "mailbox", "despatch", "status", "sent"],
+  retailer: ["upload", "overview", "supplier", "cancel", "sent"],
 };
 
 const main = /** @type {HTMLElement} */ (document.getElementById("main"));
 const top = /** @type {HTMLElement} */ (document.getElementById("top"));
+const foot = /** @type {HTMLElement} */ (document.getElementById("foot"));
 const banner = new Banner(/** @type {HTMLElement} */ (document.getElementById("banner")), main);
 // how many documents have no answer, in the menu
 const without = element("span", {});
@@ -99,23 +102,22 @@ function keptSession() {
   return kept?.key ? new Session(new Hub(kept.gln, kept.key), kept.role) : null;
 }
 
-/** Goes to a screen, or loads it again; asks first if typed work is left. @param {string} to */
+/** Goes to a screen, or loads it again; asks first if typed work is left.
+ * @param {string} to */
 async function go(to) {
   const here = location.hash === `#${to}`;
-  if (!(await mayLeave(here ? "Reload" : "Leave"))) return;
+  if (!(await mayLeave(here ? phrases.start.reload : phrases.start.leave))) return;
   if (here) show();
   else location.hash = to;
 }
 
 const formWithWork = () => /** @type {HTMLElement | null} */ (main.querySelector("[data-typed]"));
 
-const KEPT = "This tab keeps what you typed: open the screen again, and it is there. It is gone when you sign out or close the tab.";
-
 /** @param {string} label of the button that leaves */
 async function mayLeave(label) {
   const form = formWithWork();
   if (!form) return true;
-  asking ??= askToLeave(`${form.dataset.typed} is not sent yet`, KEPT, label).finally(() => (asking = null));
+  asking ??= askToLeave(phrases.start.notSentYet(form.dataset.typed ?? ""), phrases.start.kept, label).finally(() => (asking = null));
   if (!(await asking)) return false;
   delete form.dataset.typed;
   return true;
@@ -126,7 +128,8 @@ function fill(screen) {
   address = location.href;
   leave = screen.leave ?? (() => {});
   document.title = `${screen.title} · edihub`;
-  main.replaceChildren(...screen.content.filter((it) => it instanceof Node));
+  main.replaceChildren();
+  append(main, screen.content.filter((it) => it instanceof Node));
   const first = screen.focus ?? /** @type {HTMLElement | null} */ (main.querySelector("h1"));
   first?.focus({ preventScroll: true });
   scrollTo(0, 0);
@@ -142,11 +145,12 @@ async function show() {
   banner.fail();
   const [name, ...words] = location.hash.slice(1).split("/");
   const screens = SCREENS[session.role];
-  const chosen = Object.hasOwn(screens, name) ? name : MENUS[session.role][0][0];
+  const chosen = Object.hasOwn(screens, name) ? name : MENUS[session.role][0];
   menuItem = BELONGS[chosen] ?? chosen;
   drawTop(menuItem);
   main.setAttribute("aria-busy", "true");
-  const next = await screenOrFailure(() => screens[chosen]({ session, go }, ...words.map(decodeURIComponent)));
+  const context = { session, go };
+  const next = await screenOrFailure(() => screens[chosen](context, ...words.map(decodeURIComponent)));
   await session.hub.ready();
   // another screen may have been asked for meanwhile
   if (now === shown) fill(next);
@@ -159,8 +163,8 @@ async function screenOrFailure(make) {
   try {
     return await make();
   } catch (why) {
-    const again = button("Try again", show, { class: "primary" });
-    return { title: "No answer", content: [heading("No answer"), failure(why), again] };
+    const again = button(phrases.common.tryAgain, show, { class: "primary" });
+    return { title: phrases.start.noAnswer, content: [heading(phrases.start.noAnswer), failure(why), again] };
   }
 }
 
@@ -182,7 +186,7 @@ function signedIn(begun) {
   listen();
   // a screen that the address names is gone to, as after a reload
   const [name] = location.hash.slice(1).split("/");
-  go(Object.hasOwn(SCREENS[begun.role], name) ? location.hash.slice(1) : MENUS[begun.role][0][0]);
+  go(Object.hasOwn(SCREENS[begun.role], name) ? location.hash.slice(1) : MENUS[begun.role][0]);
 }
 
 // The page is loaded again, so that nothing of the session stays in memory; what would be lost is asked for first.
@@ -196,18 +200,19 @@ async function signOut() {
 
 async function mayForget() {
   const lost = session && loss(session);
-  return !lost || askToLeave(...lost, "Sign out");
+  return !lost || askToLeave(...lost, phrases.common.signOut);
 }
 
-/** What signing out would lose, and what that means. @param {Session} session @returns {[string, string] | null} */
+/** What signing out would lose, and what that means.
+ * @param {Session} session @returns {[string, string] | null} */
 function loss({ sent, hub }) {
   const [open] = sent.unsettled;
   const typed = formWithWork()?.dataset.typed;
-  if (open) return [`${open.facts.what} has no answer yet`, "If you sign out, the same cannot be sent again from here."];
-  if (typed) return [`${typed} is not sent yet`, "If you sign out, what you typed is gone."];
-  if (sent.next?.facts.kind === "file") return ["Files are not sent yet", "If you sign out, you have to choose them again."];
-  if (sent.next) return [`${sent.next.facts.what} is not sent yet`, "If you sign out, what waits for its turn is not sent."];
-  return hasDrafts(hub.caller) ? ["There are drafts", "You typed something that is not sent. If you sign out, it is gone."] : null;
+  if (open) return [phrases.start.noAnswerYet(open.facts.what), phrases.start.notAgain];
+  if (typed) return [phrases.start.notSentYet(typed), phrases.start.typedGone];
+  if (sent.next?.facts.kind === "file") return [phrases.start.filesNotSent, phrases.start.chooseAgain];
+  if (sent.next) return [phrases.start.notSentYet(sent.next.facts.what), phrases.start.waitingGone];
+  return hasDrafts(hub.caller) ? [phrases.start.drafts, phrases.start.draftsGone] : null;
 }
 
 function lock() {
@@ -229,17 +234,29 @@ function broughtBack({ persisted }) {
   location.reload();
 }
 
-/** @param {string} chosen */
+/** @param {string} language */
+async function changeLanguage(language) {
+  if (!(await mayLeave(phrases.start.leave))) return drawTop(menuItem);
+  chooseLanguage(language);
+  banner.clear();
+  show();
+}
+
+/** What is around the screen.
+ * @param {string} chosen */
 function drawTop(chosen) {
+  /** @type {HTMLElement} */ (document.querySelector("a.skip")).textContent = phrases.start.skip;
+  // a locked tab keeps what was typed as it is
+  foot.replaceChildren(...(session?.hub.isLocked ? [] : [languageChoice(changeLanguage)]));
   const brand = element("span", { class: "brand" }, "edihub");
   if (!session || session.hub.isLocked) return top.replaceChildren(element("div", { class: "bar-top" }, brand));
-  const items = MENUS[session.role].map(([to, label]) =>
-    link([label, to === "sent" ? without : null], to, { "aria-current": to === chosen ? "page" : null }),
+  const items = MENUS[session.role].map((to) =>
+    link([phrases.menu[to], to === "sent" ? without : null], to, { "aria-current": to === chosen ? "page" : null }),
   );
-  const side = session.role === "supplier" ? "Supplier " : "Retailer ";
+  const side = `${phrases.start.sides[session.role]} `;
   const who = element("span", { class: "who" }, side, element("span", { class: "digits" }, session.hub.caller));
-  const menu = element("nav", { "aria-label": "Screens" }, ...items);
-  top.replaceChildren(element("div", { class: "bar-top" }, brand, menu, who, button("Sign out", signOut, { class: "quiet" })));
+  const menu = element("nav", { "aria-label": phrases.start.screens }, ...items);
+  top.replaceChildren(element("div", { class: "bar-top" }, brand, menu, who, button(phrases.common.signOut, signOut, { class: "quiet" })));
 }
 
 // What was sent from a screen that was left, and how many have no answer.
@@ -248,19 +265,19 @@ function drawSent() {
   banner.place.hidden = session.hub.isLocked;
   banner.draw(session.sent.sendings);
   const count = session.sent.unsettled.length;
-  without.textContent = count ? ` (${count} without answer)` : "";
+  without.textContent = count ? ` ${phrases.start.withoutAnswer(count)}` : "";
 }
 
 /** @param {unknown} why */
 function failure(why) {
-  if (why instanceof Broken) return saying("warn", `${inWords(why.reason)} Nothing is lost: try again ${laterInWords(why.wait)}.`);
+  if (why instanceof Broken) return saying("warn", `${inWords(why.reason)} ${tryAgain(why.wait)}`);
   const denied = why instanceof Refused && why.status === 403;
-  if (denied) return saying("bad", "Denied: the hub does not know this GLN with this key any more. Sign out and in again.");
-  return saying("bad", `Something went wrong: ${why instanceof Error ? why.message : why}`);
+  if (denied) return saying("bad", phrases.start.denied);
+  return saying("bad", phrases.start.wentWrong(why instanceof Error ? why.message : String(why)));
 }
 
 /** @param {number} wait milliseconds */
-const laterInWords = (wait) => (wait ? `after ${clockTime(Date.now() + wait)}` : "in a moment");
+const tryAgain = (wait) => (wait ? phrases.start.tryAfter(clockTime(Date.now() + wait)) : phrases.start.tryInAMoment);
 
 // Links to screens ask before typed work is left, and load the screen again that is shown.
 document.addEventListener("click", (event) => {
@@ -274,7 +291,7 @@ addEventListener("hashchange", async (event) => {
     // the link that skips the menu is no screen
     history.replaceState(null, "", event.oldURL);
     main.focus();
-  } else if (await mayLeave("Leave")) show();
+  } else if (await mayLeave(phrases.start.leave)) show();
   else history.pushState(null, "", address);
 });
 // what an action of a screen did not expect
@@ -287,4 +304,5 @@ addEventListener("beforeunload", (event) => {
 addEventListener("pageshow", broughtBack);
 watchUse(lock, keepOn);
 listen();
+beginLanguage();
 show();

@@ -11,14 +11,16 @@ function guarded(act, otherwise) {
   }
 }
 
-/** Keeps something; false if there was no room. @param {string} name @param {unknown} content */
+/** Keeps something; false if there was no room.
+ * @param {string} name @param {unknown} content */
 export const put = (name, content) =>
   guarded(() => {
     sessionStorage.setItem(name, JSON.stringify(content));
     return true;
   }, false);
 
-/** What is kept under a name, or null. @param {string} name */
+/** What is kept under a name, or null.
+ * @param {string} name */
 export const get = (name) => guarded(() => JSON.parse(sessionStorage.getItem(name) ?? "null"), null);
 
 /** @param {string} name */
@@ -26,5 +28,6 @@ export const drop = (name) => guarded(() => sessionStorage.removeItem(name), und
 
 export const dropAll = () => guarded(() => sessionStorage.clear(), undefined);
 
-/** The names that begin with this. @param {string} prefix */
+/** The names that begin with this.
+ * @param {string} prefix */
 export const namesUnder = (prefix) => guarded(() => Object.keys(sessionStorage).filter((it) => it.startsWith(prefix)), []);

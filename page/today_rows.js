@@ -54,13 +54,15 @@ function dueOf(entry, today) {
   return { day: dayOf(entry.order.date, entry.order.format), isWanted: false, isLate: false };
 }
 
-/** Overdue ones first, then by day; those without a day last. @template {Due} Row @param {Row[]} rows */
+/** Overdue ones first, then by day; those without a day last.
+ * @template {Due} Row @param {Row[]} rows */
 export function inTurn(rows) {
   const rank = (/** @type {Row} */ it) => Number(`${it.isLate ? 0 : 1}${it.day || "99999999"}`);
   return [...rows].sort((a, b) => rank(a) - rank(b));
 }
 
-/** The lines of each order. @param {StatusLine[]} lines */
+/** The lines of each order.
+ * @param {StatusLine[]} lines */
 function grouped(lines) {
   /** @type {Map<string, StatusLine[]>} */
   const orders = new Map();

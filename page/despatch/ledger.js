@@ -9,7 +9,8 @@ import { wholeNumber } from "../parts/field.js";
 /** @type {WeakMap<StatusLine, string>} names are asked for very often */
 const NAMES = new WeakMap();
 
-/** A line of an order, as one name. @param {StatusLine} line */
+/** A line of an order, as one name.
+ * @param {StatusLine} line */
 export function nameOf(line) {
   const name = NAMES.get(line) ?? `${line.order}\n${line.line}`;
   if (!NAMES.has(line)) NAMES.set(line, name);
@@ -30,7 +31,8 @@ export class Ledger extends EventTarget {
   /** @type {StatusLine[]} the lines of the chosen orders */
   lines = [];
 
-  /** What is open now. @param {StatusLine[]} lines */
+  /** What is open now.
+   * @param {StatusLine[]} lines */
   know(lines) {
     this.#open = new Map(lines.map((it) => [nameOf(it), it.open]));
   }
@@ -40,13 +42,15 @@ export class Ledger extends EventTarget {
     return { open: this.#open.get(name) ?? 0, placed: this.#placed.get(name) ?? 0 };
   }
 
-  /** What is open of a line and on no pallet; less than 0 if more is on pallets than is open. @param {StatusLine} line */
+  /** What is open of a line and on no pallet; less than 0 if more is on pallets than is open.
+   * @param {StatusLine} line */
   left(line) {
     const { open, placed } = this.tally(nameOf(line));
     return open - placed;
   }
 
-  /** Notes that more of a line is on a pallet, or less. @param {string} name @param {number} more */
+  /** Notes that more of a line is on a pallet, or less.
+   * @param {string} name @param {number} more */
   place(name, more) {
     this.#placed.set(name, (this.#placed.get(name) ?? 0) + more);
     if (!this.#changed.size) queueMicrotask(() => this.#tell());
@@ -113,13 +117,15 @@ export class Load {
     return this.typed.map((line) => ({ line, quantity: quantityIn(this.text(line)) })).filter((it) => it.quantity > 0);
   }
 
-  /** Puts nothing but this on it. @param {{ line: StatusLine, quantity: number }[]} contents */
+  /** Puts nothing but this on it.
+   * @param {{ line: StatusLine, quantity: number }[]} contents */
   replace(contents) {
     this.keepOnly([]);
     for (const { line, quantity } of contents) this.set(line, quantity);
   }
 
-  /** Forgets what was typed for other lines. @param {StatusLine[]} lines */
+  /** Forgets what was typed for other lines.
+   * @param {StatusLine[]} lines */
   keepOnly(lines) {
     const kept = new Set(lines.map(nameOf));
     for (const name of [...this.#texts.keys()]) if (!kept.has(name)) this.#set(name, "");

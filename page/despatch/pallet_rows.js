@@ -3,7 +3,8 @@
 
 import { isSscc } from "../edi/identifiers.js";
 import { ssccOf } from "../edi/sscc.js";
-import { readRows } from "../parts/csv.js";
+import { ALL_PHRASES, phrases } from "../language.js";
+import { placesOfTitles, readRows } from "../parts/csv.js";
 import { wholeNumber } from "../parts/field.js";
 
 /** @typedef {{ order: string, line: number }} Line */
@@ -13,7 +14,7 @@ import { wholeNumber } from "../parts/field.js";
 /** The most pallets of a form. */
 export const MOST_PALLETS = 500;
 
-const TITLES = [["order", "order number"], ["line"], ["quantity"], ["pallet", "sscc"]];
+const TITLES = ALL_PHRASES.map(({ rows }) => [rows.order, rows.line, rows.quantity, rows.pallet]);
 const WITHOUT_TITLES = [0, 1, 2, 3];
 
 /** What the rows say, and what is wrong with each row that does not fit. A row without a quantity says nothing.
@@ -22,9 +23,9 @@ const WITHOUT_TITLES = [0, 1, 2, 3];
 export function readPalletRows(text, lines, pallets) {
   const all = readRows(text);
   const titles = all[0].map((it) => it.toLowerCase());
-  const named = TITLES.map((words) => titles.findIndex((it) => words.includes(it)));
+  const named = placesOfTitles(titles, TITLES);
   const hasTitles = named.some((it) => it >= 0);
-  if (hasTitles && named.includes(-1)) return { rows: [], wrong: ["Row 1: name the columns Order, Line, Quantity and Pallet."] };
+  if (hasTitles && named.includes(-1)) return { rows: [], wrong: [phrases.palletRows.nameTheColumns] };
   const places = hasTitles ? named : WITHOUT_TITLES;
   const find = finder(lines);
   /** @type {{ rows: PalletRow[], wrong: string[] }} */
@@ -35,8 +36,8 @@ export function readPalletRows(text, lines, pallets) {
     if ((hasTitles && at === 0) || cells.every((it) => it === "")) return;
     const row = readRow(places.map((it) => cells[it] ?? ""), find);
     const name = row && typeof row === "object" ? `${row.place} ${row.pallet}` : "";
-    const wrong = typeof row === "string" ? row : seen.has(name) ? `the same line and pallet are in row ${seen.get(name)} too.` : "";
-    if (wrong) read.wrong.push(`Row ${at + 1}: ${wrong}`);
+    const wrong = typeof row === "string" ? row : seen.has(name) ? phrases.palletRows.twice(seen.get(name) ?? 0) : "";
+    if (wrong) read.wrong.push(phrases.common.row(at + 1, wrong));
     else if (row && typeof row === "object") read.rows.push(row);
     if (name && !wrong) seen.set(name, at + 1);
   });
@@ -54,9 +55,9 @@ function finder(lines) {
   const places = new Map(lines.map((it, place) => [key(it.order.trim(), it.line), place]));
   return (order, line) => {
     const same = orders.get(order);
-    if (!same) return `no order ${order} has something open.`;
-    if (same.size > 1) return `several orders are called ${order}, but for blanks at the end. Type their quantities instead.`;
-    return places.get(key(order, line)) ?? `order ${order} has no line ${line} with something open.`;
+    if (!same) return phrases.palletRows.noOrder(order);
+    if (same.size > 1) return phrases.palletRows.severalOrders(order);
+    return places.get(key(order, line)) ?? phrases.palletRows.noLine(order, line);
   };
 }
 
@@ -65,11 +66,11 @@ function finder(lines) {
  * @returns {PalletRow | string | null} */
 function readRow([order, line, quantity, pallet], find) {
   if (quantity === "" || wholeNumber(quantity) === 0) return null;
-  if (!order) return "the order is missing.";
-  if (Number.isNaN(wholeNumber(line))) return line ? `“${line}” is not a line number.` : "the line number is missing.";
+  if (!order) return phrases.palletRows.orderMissing;
+  if (Number.isNaN(wholeNumber(line))) return line ? phrases.common.notALineNumber(line) : phrases.palletRows.lineMissing;
   const place = find(order, wholeNumber(line));
   if (typeof place === "string") return place;
-  if (Number.isNaN(wholeNumber(quantity))) return `“${quantity}” is not a whole number.`;
+  if (Number.isNaN(wholeNumber(quantity))) return phrases.palletRows.notWhole(quantity);
   const which = readPallet(pallet);
   return which === null ? wrongPallet(pallet) : { place, quantity: wholeNumber(quantity), pallet: which };
 }
@@ -83,18 +84,18 @@ function readPallet(text) {
 
 /** @param {string} text */
 function wrongPallet(text) {
-  if (!text) return "the pallet is missing.";
-  if (/^\d[.,]\d+E\+\d+$/i.test(text)) return `the spreadsheet shortened the SSCC to ${text}. Format its column as text.`;
-  if (/^\d{17,18}$/.test(ssccOf(text))) return `${text} is not an SSCC: look for a wrong digit.`;
-  return `“${text}” is not a pallet. Give its number in the form, from 1 to ${MOST_PALLETS}, or its SSCC.`;
+  if (!text) return phrases.palletRows.palletMissing;
+  if (/^\d[.,]\d+E\+\d+$/i.test(text)) return phrases.palletRows.shortened(text);
+  if (/^\d{17,18}$/.test(ssccOf(text))) return phrases.palletRows.notAnSscc(text);
+  return phrases.palletRows.notAPallet(text, MOST_PALLETS);
 }
 
 /** @param {PalletRow[]} rows @param {string[]} pallets */
 function wrongNumbers(rows, pallets) {
   const names = [...new Set(rows.map((it) => it.pallet))];
-  const most = Math.max(0, ...names.filter((it) => typeof it === "number"));
+  const most = Math.max(0, ...names.map((it) => (typeof it === "number" ? it : 0)));
   const gap = Array.from({ length: most }, (_, place) => place + 1).find((it) => it > pallets.length && !names.includes(it));
-  if (gap) return [`No row is for pallet ${gap}: number the pallets without gaps.`];
+  if (gap) return [phrases.palletRows.gap(gap)];
   const others = names.filter((it) => typeof it === "string" && !pallets.includes(it));
-  return Math.max(pallets.length, most) + others.length > MOST_PALLETS ? [`These are more than ${MOST_PALLETS} pallets.`] : [];
+  return Math.max(pallets.length, most) + others.length > MOST_PALLETS ? [phrases.palletRows.tooMany(MOST_PALLETS)] : [];
 }

@@ -1,6 +1,8 @@
 // @ts-check
 // Dates as interchanges spell them, and as a person reads them.
 
+import { dateFormat } from "../words/figures.js";
+
 /** @param {number} number @param {number} [places] */
 const padded = (number, places = 2) => String(number).padStart(places, "0");
 
@@ -8,10 +10,12 @@ const padded = (number, places = 2) => String(number).padStart(places, "0");
  * @param {Date} date */
 export const day = (date) => padded(date.getFullYear(), 4) + padded(date.getMonth() + 1) + padded(date.getDate());
 
-/** HHMM. @param {Date} date */
+/** HHMM.
+ * @param {Date} date */
 export const minute = (date) => padded(date.getHours()) + padded(date.getMinutes());
 
-/** SS. @param {Date} date */
+/** SS.
+ * @param {Date} date */
 export const second = (date) => padded(date.getSeconds());
 
 /** Whether CCYYMMDD (102) or CCYYMMDDHHMM (203) names a day of the Gregorian calendar, and a minute of it.
@@ -29,21 +33,23 @@ function daysOf(year, month) {
   return month === 2 ? (leap ? 29 : 28) : [4, 6, 9, 11].includes(month) ? 30 : 31;
 }
 
-const MONTHS = ["January", "February", "March", "April", "May", "June", "July", "August", "September", "October", "November", "December"];
-
-/** `3 June 2025`, or `3 June 2025, 09:15`, or the text as it stands where it is no date.
+/** `3 June 2025`, or `3 June 2025, 09:15`, as the page's language has it, or the text as it stands if it is not a date.
  * @param {string} text @param {string} format */
 export function dateInWords(text, format) {
   if (!isDate(text, format)) return text;
-  const date = `${Number(text.slice(6, 8))} ${MONTHS[Number(text.slice(4, 6)) - 1]} ${text.slice(0, 4)}`;
-  return format === "203" ? `${date}, ${text.slice(8, 10)}:${text.slice(10)}` : date;
+  const [year, month, of] = [text.slice(0, 4), text.slice(4, 6), text.slice(6, 8)].map(Number);
+  const at = new Date(Date.UTC(2000, month - 1, of, Number(text.slice(8, 10)), Number(text.slice(10))));
+  at.setUTCFullYear(year, month - 1, of);
+  const date = dateFormat("dateStyle", "long").format(at);
+  return format === "203" ? `${date}, ${dateFormat("timeStyle", "short").format(at)}` : date;
 }
 
 /** A moment as a number by which moments are sorted, to the minute; a day is its first minute, and what is no date comes before all.
  * @param {string} text @param {string} format */
 export const moment = (text, format) => (isDate(text, format) ? Number(text.padEnd(12, "0")) : 0);
 
-/** The same of a UNB's date and time. @param {string} date @param {string} time */
+/** The same of a UNB's date and time.
+ * @param {string} date @param {string} time */
 export const preparedMoment = (date, time) => moment(`20${date}${time}`, "203");
 
 /** The date and time of a UNB, whose year has two digits.

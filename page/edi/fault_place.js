@@ -8,7 +8,8 @@ const USUAL = "UNA:+.? '";
 const CHARACTERS_BEFORE = 60;
 const CHARACTERS_AFTER = 30;
 
-/** The beginnings of the segments, and the end of the last one. @param {string} text */
+/** The beginnings of the segments, and the end of the last one.
+ * @param {string} text */
 function borders(text) {
   const from = text.search(/[^\r\n]|$/);
   const hasService = text.startsWith("UNA", from);
@@ -38,7 +39,8 @@ export function placeOfSegment(text, segment) {
   return { line: lineOf(text, places[at]), before: before.join(""), it: written(at), after };
 }
 
-/** The place of a byte, counted from 0. @param {string} text @param {number} offset @returns {Place} */
+/** The place of a byte, counted from 0.
+ * @param {string} text @param {number} offset @returns {Place} */
 export function placeOfByte(text, offset) {
   const before = text.slice(Math.max(0, offset - CHARACTERS_BEFORE), offset);
   const after = text.slice(offset + 1, offset + 1 + CHARACTERS_AFTER);

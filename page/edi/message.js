@@ -35,7 +35,8 @@ export const lineGroups = (segments) => partsOf(segments, "LIN", ["LIN", "CPS", 
 /** @param {Segment[]} segments */
 const unitParts = (segments) => partsOf(segments, "CPS", ["CPS", "UNT"]);
 
-/** A quantity, or null where it is none. @param {Segment} segment */
+/** A quantity, or null where it is none.
+ * @param {Segment} segment */
 export function quantityOf(segment) {
   const [, text, unit] = [1, 2, 3].map((it) => component(segment, 1, it));
   const right = text.length <= 35 && /^\d+([.,]0+)?$/.test(text) && ["", "PCE"].includes(unit);
@@ -43,7 +44,8 @@ export function quantityOf(segment) {
   return right && quantity <= GREATEST ? quantity : null;
 }
 
-/** The one quantity of this kind in a line group, or null. @param {Segment[]} group @param {string} kind */
+/** The one quantity of this kind in a line group, or null.
+ * @param {Segment[]} group @param {string} kind */
 export function oneQuantity(group, kind) {
   const found = all(group, "QTY", kind);
   return found.length === 1 ? quantityOf(found[0]) : null;
@@ -52,7 +54,8 @@ export function oneQuantity(group, kind) {
 /** @param {string} text */
 const isLineNumber = (text) => /^\d{1,6}$/.test(text) && Number(text) > 0;
 
-/** The article of a line group, and its line number and action as they stand there; null where it is no line. @param {Segment[]} group */
+/** The article of a line group, and its line number and action as they stand there; null where it is no line.
+ * @param {Segment[]} group */
 export function lineOf([line]) {
   const subLine = line.elements[3]?.some((it) => it !== "");
   const right = isLineNumber(component(line, 1)) && isGtin(component(line, 3)) && component(line, 3, 2) === "SRV" && !subLine;
@@ -97,13 +100,15 @@ export function readHeader({ type, version, segments }, kind) {
   return { document, function: purpose, date, format, buyer: buyer ?? "", supplier };
 }
 
-/** Whether the control, where there is one, counts the lines. @param {Segment[]} segments */
+/** Whether the control, where there is one, counts the lines.
+ * @param {Segment[]} segments */
 function isCounted(segments) {
   const controls = all(segments, "CNT", "2");
   return controls.length === 0 || (controls.length === 1 && isCount(component(controls[0], 1, 2), all(segments, "LIN").length));
 }
 
-/** Whether the summary begins once, and no line stands behind it. @param {Segment[]} segments */
+/** Whether the summary begins once, and no line stands behind it.
+ * @param {Segment[]} segments */
 export function hasSummary(segments) {
   const at = segments.findIndex((it) => it.tag === "UNS");
   const alone = all(segments, "UNS").length === 1 && component(segments[at], 1) === "S";

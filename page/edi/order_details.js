@@ -2,6 +2,7 @@
 // Reads what a buyer wrote beside numbers and quantities: descriptions, article numbers, packs, prices, addresses, dates, contracts and
 // free texts (EANCOM 2002, ORDERS D.01B). The hub passes all of it on unread, so none of it decides whether an order is valid.
 
+import { phrases } from "../language.js";
 import { component, segmentText } from "./segments.js";
 import { isDate } from "./dates.js";
 import { headerOf, lineGroups } from "./message.js";
@@ -19,20 +20,6 @@ import { headerOf, lineGroups } from "./message.js";
 
 const DATES = ["137", "2", "10", "61", "63", "64", "76"];
 const PARTIES = ["BY", "SU", "DP", "UC", "IV"];
-/** @type {Record<string, string>} */
-const CHARACTERISTICS = { 13: "Quality", 35: "Colour", 38: "Grade", 98: "Size" };
-/** @type {Record<string, string>} codes of GS1 */
-const ITEM_KINDS = {
-  CU: "consumer unit",
-  DU: "despatch unit",
-  IN: "invoicing unit",
-  RC: "returnable container",
-  SG: "standard group of products",
-  TU: "traded unit",
-  VQ: "variable quantity product",
-};
-/** @type {Record<string, string>} */
-const SUBJECTS = { AAI: "", ZZZ: "", DEL: "Delivery: ", PUR: "Purchasing: " };
 const GS1 = "9";
 
 /** A segment whose components are taken one by one. What nobody takes, the page does not show in words. */
@@ -55,7 +42,8 @@ class Reading {
     return this.peek(element, place);
   }
 
-  /** Takes a component if it is one of these. @param {string[]} known @param {number} element @param {number} [place] */
+  /** Takes a component if it is one of these.
+   * @param {string[]} known @param {number} element @param {number} [place] */
   takeIf(known, element, place = 1) {
     return known.includes(this.peek(element, place)) ? this.take(element, place) : "";
   }
@@ -79,7 +67,7 @@ function readDescription(it, details) {
   const words = it.peek(3, 4) + it.peek(3, 5);
   if (!words) return readItemKind(it, details);
   it.take(1);
-  const characteristic = CHARACTERISTICS[it.takeIf(Object.keys(CHARACTERISTICS), 2)];
+  const characteristic = phrases.characteristics[it.takeIf(Object.keys(phrases.characteristics), 2)];
   const text = it.takeAll(3, 4, 5).join(" ");
   const language = it.take(3, 6);
   details.descriptions.push((characteristic ? `${characteristic}: ` : "") + text + (language ? ` (${language})` : ""));
@@ -88,11 +76,11 @@ function readDescription(it, details) {
 
 /** @param {Reading} it @param {Details} details */
 function readItemKind(it, details) {
-  const isKnown = it.peek(1) === "C" && Object.hasOwn(ITEM_KINDS, it.peek(3)) && it.peek(3, 3) === GS1;
+  const isKnown = it.peek(1) === "C" && Object.hasOwn(phrases.itemKinds, it.peek(3)) && it.peek(3, 3) === GS1;
   if (!isKnown) return false;
   it.take(1);
   it.take(3, 3);
-  details.itemKinds.push(ITEM_KINDS[it.take(3)]);
+  details.itemKinds.push(phrases.itemKinds[it.take(3)]);
   return true;
 }
 
@@ -183,7 +171,7 @@ function readContract(it, details) {
 function readText(it, details) {
   const text = it.takeAll(4, 1, 5).join(" ");
   if (!text) return false;
-  const subject = SUBJECTS[it.takeIf(Object.keys(SUBJECTS), 1)] ?? "";
+  const subject = phrases.subjects[it.takeIf(Object.keys(phrases.subjects), 1)] ?? "";
   it.take(2);
   it.take(5);
   details.texts.push(subject + text);

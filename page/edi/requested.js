@@ -12,5 +12,6 @@ export function requestedDay({ segments }) {
   return days.find(Boolean) ?? "";
 }
 
-/** The day of a date or moment as CCYYMMDD, or "". @param {string} text @param {string} format */
+/** The day of a date or moment as CCYYMMDD, or "".
+ * @param {string} text @param {string} format */
 export const dayOf = (text, format) => (isDate(text, format) ? text.slice(0, 8) : "");

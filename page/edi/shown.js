@@ -8,7 +8,8 @@
 
 const FAULT = /^refused ([EM]\d\d) [^\n]*?(?: at (?:offset (\d+) line \d+ )?segment (\d+))?$/;
 
-/** What the lines say, or null if they are not such lines. @param {string} text @returns {Shown | null} */
+/** What the lines say, or null if they are not such lines.
+ * @param {string} text @returns {Shown | null} */
 export function readShown(text) {
   const lines = text.replace(/\n$/, "").split("\n");
   const fault = readFault(lines[0]);

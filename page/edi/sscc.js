@@ -17,7 +17,8 @@ export function ssccOf(text) {
   return withCheckDigit(scanned ? scanned[1] : plain);
 }
 
-/** How many serial numbers a prefix has under each extension digit. @param {string} prefix */
+/** How many serial numbers a prefix has under each extension digit.
+ * @param {string} prefix */
 export const serialsUnder = (prefix) => 10 ** (16 - prefix.length);
 
 // The position of an SSCC among all under its prefix: by extension digit, then by serial number.

@@ -1,10 +1,13 @@
 // @ts-check
 // Distinguishes answers of the hub from those of its front (docs/SUPPLIER.md), and from what is not an answer at all.
 
+import { phrases } from "../language.js";
+
 /** @typedef {"connection" | "patience" | "cut" | "slow" | "too many" | "busy" | "stopped" | "away" | "unreadable" | "reload"} Reason
  * why there is no answer */
 
-/** Why this is no answer of the hub, or "" if it may be one. @param {number} status @param {string} body @returns {Reason | ""} */
+/** Why this is no answer of the hub, or "" if it may be one.
+ * @param {number} status @param {string} body @returns {Reason | ""} */
 export function reasonOf(status, body) {
   if (status === 408) return "slow";
   if (status === 429) return "too many";
@@ -15,7 +18,8 @@ export function reasonOf(status, body) {
 
 const DENIALS = ["403 denied", "404 unknown", "405 method", "411 length"];
 
-/** Whether the hub, or its front, says by this that it did nothing. @param {number} status @param {string} body */
+/** Whether the hub, or its front, says by this that it did nothing.
+ * @param {number} status @param {string} body */
 export const isDenial = (status, body) => status === 413 || DENIALS.includes(`${status} ${body}`);
 
 const LONGEST_WAIT = 24 * 3600 * 1000;
@@ -28,19 +32,5 @@ export function waitOf(field, now = Date.now()) {
   return asked > 0 ? Math.min(asked, LONGEST_WAIT) : 0;
 }
 
-/** @type {Record<Reason, string>} */
-const REASONS = {
-  connection: "The connection broke.",
-  patience: "No answer came for four minutes.",
-  cut: "Only a part of it reached the hub (400).",
-  slow: "It took too long to reach the hub: your connection is slow (408).",
-  "too many": "Too many requests came from your network address (429).",
-  busy: "The hub is busy (503).",
-  stopped: "The hub stopped while it worked on it (503).",
-  away: "The hub is away (502 or 504).",
-  unreadable: "What came back is not an answer of the hub.",
-  reload: "The page was loaded again before an answer came.",
-};
-
 /** @param {Reason} reason */
-export const inWords = (reason) => REASONS[reason];
+export const inWords = (reason) => phrases.reasons[reason];

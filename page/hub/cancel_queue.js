@@ -38,7 +38,8 @@ export class CancelQueue extends SendingQueue {
 /** @type {WeakMap<import("./sent_list.js").SentList, CancelQueue>} */
 const QUEUES = new WeakMap();
 
-/** The queue of a session, which goes on when its screen is left. @param {import("./sent_list.js").SentList} list */
+/** The queue of a session, which goes on when its screen is left.
+ * @param {import("./sent_list.js").SentList} list */
 export function cancelQueueOf(list) {
   const queue = QUEUES.get(list) ?? new CancelQueue(list);
   QUEUES.set(list, queue);

@@ -2,6 +2,7 @@
 // The hub's HTTP paths, as one caller asks them. A body is a string with one character for each byte.
 
 import { reasonOf, waitOf } from "./answers.js";
+import { within } from "./patience.js";
 
 /** There is no answer: whether it was done is not known, and the same may be asked again, after the wait that was asked for. */
 export class Broken extends Error {
@@ -75,7 +76,6 @@ export class Hub {
   /** @param {string} path @param {Uint8Array} [body] @param {AbortSignal} [stop] by which the person stops it */
   async #ask(path, body, stop) {
     const key = await this.#key;
-    const patience = AbortSignal.timeout(PATIENCE);
     let status, text, wait;
     try {
       const response = await fetch(`/p/${this.caller}/${path}`, {
@@ -86,7 +86,7 @@ export class Hub {
         credentials: "omit",
         redirect: "error",
         referrerPolicy: "no-referrer",
-        signal: stop ? AbortSignal.any([patience, stop]) : patience,
+        signal: within(PATIENCE, stop),
       });
       status = response.status;
       text = textOfBytes(await response.arrayBuffer());
@@ -136,7 +136,8 @@ export class Hub {
     return this.#read(`status/${supplier}`);
   }
 
-  /** The same by one request, which can be stopped. @param {string} supplier a GLN @param {AbortSignal} stop */
+  /** The same by one request, which can be stopped.
+   * @param {string} supplier a GLN @param {AbortSignal} stop */
   statusOnce(supplier, stop) {
     return this.#ask(`status/${supplier}`, undefined, stop);
   }

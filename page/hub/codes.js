@@ -4,7 +4,7 @@
 /** @typedef {{ meaning: string, cause: string, remedy: string }} Words */
 
 /** @type {Record<string, Words>} */
-const CODES = {
+export const CODES = {
   E01: {
     meaning: "The file is longer than 1,048,576 bytes.",
     cause: "Too many messages are in one file.",
@@ -266,27 +266,3 @@ const CODES = {
     remedy: "Set up another hub for further suppliers.",
   },
 };
-
-/** @type {Words} */
-const UNKNOWN = {
-  meaning: "The page does not know this code.",
-  cause: "The hub is newer than the page.",
-  remedy: "Look it up in docs/CODES.md of the hub's version.",
-};
-
-/** @param {string} code */
-export const wordsOf = (code) => CODES[code] ?? UNKNOWN;
-
-/** @type {Record<string, string>} */
-export const OUTCOMES = {
-  accepted: "Accepted: the hub has taken it, and keeps it.",
-  repeated: "The hub had it already: it was accepted before, and nothing was done twice.",
-  refused: "Refused: nothing was changed.",
-};
-
-/** @type {Record<string, string>} */
-export const ANSWERS = { W: "waiting", A: "accepted", N: "not accepted", C: "changed" };
-/** @type {Record<string, string>} */
-export const PALLET_STATES = { A: "announced", R: "received", C: "received, corrected" };
-/** @type {Record<string, string>} */
-export const TYPES = { ORDERS: "Order", RECADV: "Receiving advice", ORDRSP: "Answer to an order", DESADV: "Despatch advice" };

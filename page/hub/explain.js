@@ -3,6 +3,7 @@
 // needs no key, and a site need not serve it.
 
 import { textOfBytes } from "./client.js";
+import { within } from "./patience.js";
 
 /** @typedef {"absent" | "busy" | "long" | "broken"} Why why there is no explanation */
 
@@ -20,7 +21,7 @@ async function ask(body) {
       credentials: "omit",
       redirect: "error",
       referrerPolicy: "no-referrer",
-      signal: AbortSignal.timeout(PATIENCE),
+      signal: within(PATIENCE),
     });
     return { text: textOfBytes(await response.arrayBuffer()), why: whyNot(response.status) };
   } catch {
@@ -36,12 +37,14 @@ function whyNot(status) {
   return status === 404 || status === 405 ? "absent" : "broken";
 }
 
-/** Why files are not explained here, or "" if they are. @returns {Promise<Why | "">} */
+/** Why files are not explained here, or "" if they are.
+ * @returns {Promise<Why | "">} */
 export async function whyNotHere() {
   const { text, why } = await ask();
   // a site that answers each path with its page does not serve this one
   return why || (text === SERVED ? "" : "absent");
 }
 
-/** The lines about an interchange, or why there are none. @param {Uint8Array} interchange */
+/** The lines about an interchange, or why there are none.
+ * @param {Uint8Array} interchange */
 export const explain = (interchange) => ask(interchange);

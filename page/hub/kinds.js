@@ -15,7 +15,8 @@ export const KINDS = {
   cancellation: { ask: (hub, bytes) => hub.cancel(bytes), read: readCancellation },
 };
 
-/** The verdict on all messages of a file: refused or repeated if each of them is. @param {string} reply @returns {Verdict | null} */
+/** The verdict on all messages of a file: refused or repeated if each of them is.
+ * @param {string} reply @returns {Verdict | null} */
 export function readFile(reply) {
   const read = readUpload(reply);
   if (!read) return null;

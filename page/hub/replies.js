@@ -1,6 +1,8 @@
 // @ts-check
 // What the hub replies. A line that is not understood is handed on raw, and never guessed at.
 
+import { phrases } from "../language.js";
+
 /** @typedef {{ reference: string, type: string, outcome: "accepted" | "repeated" | "refused", code: string }} MessageReply */
 /** @typedef {{ number: number, type: string, document: string }} MailEntry */
 /** @typedef {"W" | "A" | "N" | "C"} AnswerLetter */
@@ -9,7 +11,8 @@
 /** @typedef {{ sscc: string, gtin: string, state: "A" | "R" | "C", despatched: number, accepted: number, returned: number,
  *   destroyed: number, difference: number }} StatusPallet */
 
-/** The lines of a reply, without the line feed that ends each. @param {string} text */
+/** The lines of a reply, without the line feed that ends each.
+ * @param {string} text */
 const linesOf = (text) => text.replace(/\n$/, "").split("\n");
 
 /** The reply to an upload: of a refused interchange its code, else what became of each message; null where it is no such reply.
@@ -33,7 +36,9 @@ function messageReply(line) {
   return { reference: found[1], type: found[2], outcome, code: found[4] ?? "" };
 }
 
-/** The verdict on the one message of an upload. @param {string} text */
+/** The verdict on the one message of an upload.
+ * @param {string} text
+ * @returns {{ outcome: MessageReply["outcome"], code: string } | null} */
 export function readUploadOfOne(text) {
   const read = readUpload(text);
   if (read?.code) return { outcome: "refused", code: read.code };
@@ -73,7 +78,7 @@ export function readStatus(text) {
   /** @type {{ lines: StatusLine[], pallets: StatusPallet[], raw: string[] }} */
   const status = { lines: [], pallets: [], raw: [] };
   const rows = linesOf(text);
-  for (const row of rows[rows.length - 1] === "end" ? rows.slice(0, -1) : [...rows, "(the report has no end)"]) {
+  for (const row of rows[rows.length - 1] === "end" ? rows.slice(0, -1) : [...rows, phrases.replies.noEnd]) {
     const line = LINE.exec(row);
     const pallet = PALLET.exec(row);
     if (line) status.lines.push(statusLine(line));

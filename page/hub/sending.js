@@ -48,7 +48,8 @@ export class Sending extends EventTarget {
     return isSettled(this.state) ? KINDS[this.facts.kind].read(this.facts.reply) : null;
   }
 
-  /** Lets something happen; false if it does not count in this state. @param {Happening} event @param {Partial<Facts>} [facts] */
+  /** Lets something happen; false if it does not count in this state.
+   * @param {Happening} event @param {Partial<Facts>} [facts] */
   happen(event, facts = {}) {
     const state = after(this.state, event);
     if (!state) return false;
@@ -57,7 +58,8 @@ export class Sending extends EventTarget {
     return true;
   }
 
-  /** Sends this text; from now on it does not change. @param {string} text @param {Partial<Facts>} [facts] */
+  /** Sends this text; from now on it does not change.
+   * @param {string} text @param {Partial<Facts>} [facts] */
   async send(text, facts = {}) {
     if (this.happen("send", { ...facts, text, sentAt: Date.now() })) await this.#run();
   }

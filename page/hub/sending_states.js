@@ -31,7 +31,8 @@ export const TRANSITIONS = {
   denied: {},
 };
 
-/** The state after an event, or null if the event does not count in this state. @param {State} state @param {Event} event */
+/** The state after an event, or null if the event does not count in this state.
+ * @param {State} state @param {Event} event */
 export const after = (state, event) => TRANSITIONS[state][event] ?? null;
 
 /** @param {...State} states */

@@ -24,12 +24,14 @@ export class SentList extends EventTarget {
     this.sendings = kept.map((it) => this.#made(it.state === "unanswered" || !isUnsettled(it.state) ? it : interrupted(it)));
   }
 
-  /** A document that is not sent yet; it is listed once it is. @param {Kind} kind @param {string} what @param {string} [file] */
+  /** A document that is not sent yet; it is listed once it is.
+   * @param {Kind} kind @param {string} what @param {string} [file] */
   begin(kind, what, file = "") {
     return this.#made({ id: newReference(), kind, what, file });
   }
 
-  /** A document of a queue, which waits until its turn comes. @param {Kind} kind @param {string} what @param {string} [file] */
+  /** A document of a queue, which waits until its turn comes.
+   * @param {Kind} kind @param {string} what @param {string} [file] */
   enqueue(kind, what, file = "") {
     const sending = this.begin(kind, what, file);
     this.queued.push(sending);
@@ -65,7 +67,8 @@ export class SentList extends EventTarget {
     this.dispatchEvent(new Event("change"));
   }
 
-  /** What was not taken is a draft again, unless something else was typed there meanwhile. @param {Sending} sending */
+  /** What was not taken is a draft again, unless something else was typed there meanwhile.
+   * @param {Sending} sending */
   #endDraft({ state, facts }) {
     const { draft } = facts;
     const { caller } = this.hub;

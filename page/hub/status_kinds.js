@@ -10,7 +10,8 @@ export const isOpen = (line) => line.open > 0;
 /** @param {StatusLine} line */
 export const isUnanswered = (line) => line.answer === "W";
 
-/** Whether it is announced and not received. @param {StatusPallet} pallet */
+/** Whether it is announced and not received.
+ * @param {StatusPallet} pallet */
 export const isAnnounced = (pallet) => pallet.state === "A";
 
 /** @param {StatusPallet} pallet */

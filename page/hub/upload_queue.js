@@ -52,7 +52,8 @@ export class UploadQueue extends SendingQueue {
   }
 }
 
-/** How many messages of each type a file has, or "" if the page cannot read it. @param {string} text */
+/** How many messages of each type a file has, or "" if the page cannot read it.
+ * @param {string} text */
 export function contentInWords(text) {
   const messages = readAnySpelling(text)?.messages ?? [];
   const types = messages.map((it) => it.type);

@@ -15,10 +15,12 @@ function svgElement(name, attributes, ...children) {
   return made;
 }
 
-/** How many modules wide a symbol is, with its quiet zones. @param {string} text */
+/** How many modules wide a symbol is, with its quiet zones.
+ * @param {string} text */
 export const modulesOf = (text) => widthsOf(symbolValues(text)).reduce((sum, it) => sum + it, 2 * QUIET_ZONE);
 
-/** The bars as a path, a module being one unit wide. @param {string} text */
+/** The bars as a path, a module being one unit wide.
+ * @param {string} text */
 export function barPath(text) {
   let at = QUIET_ZONE;
   const bars = widthsOf(symbolValues(text)).map((width, place) => {

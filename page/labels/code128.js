@@ -20,7 +20,8 @@ const CHECK = 103;
 // from this many digits on, code set C is shorter
 const FEWEST = 4;
 
-/** How many digits follow from a place on. @param {string} text @param {number} at */
+/** How many digits follow from a place on.
+ * @param {string} text @param {number} at */
 const digitsFrom = (text, at) => /^\d*/.exec(text.slice(at))?.[0].length ?? 0;
 
 /** The values of the symbol characters of a text of printable ASCII, from the start character to the stop character.
@@ -46,5 +47,6 @@ export function symbolValues(text, isGs1 = true) {
  * @param {number[]} values */
 const checkValue = (values) => values.reduce((sum, value, place) => sum + value * Math.max(1, place), 0) % CHECK;
 
-/** The widths of the bars and spaces of a symbol in modules, beginning with a bar. @param {number[]} values */
+/** The widths of the bars and spaces of a symbol in modules, beginning with a bar.
+ * @param {number[]} values */
 export const widthsOf = (values) => values.flatMap((it) => [...WIDTHS[it]].map(Number));

@@ -16,7 +16,8 @@ const joined = (...fields) => ({
 /** @param {string} sscc */
 export const ssccString = (sscc) => joined(["00", sscc]);
 
-/** GTIN and count of what is on the pallet. The count comes last, because its length varies. @param {Content} content */
+/** GTIN and count of what is on the pallet. The count comes last, because its length varies.
+ * @param {Content} content */
 export const contentString = ({ gtin, count }) => joined(["02", gtin], ["37", String(count)]);
 
 /** What is on a pallet, if it is one article and its count fits; else null.

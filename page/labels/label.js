@@ -1,6 +1,7 @@
 // @ts-check
 // A pallet's label: texts above, then the symbol of its content if it is one article, and the SSCC at the bottom.
 
+import { phrases } from "../language.js";
 import { element, figure } from "../parts/dom.js";
 import { barCode } from "./bar_code.js";
 import { contentOf, contentString, ssccString } from "./element_strings.js";
@@ -25,10 +26,10 @@ export function label({ unit, name, from, to, despatch }, size, articles, isCopy
   const pieces = unit.lines.reduce((sum, it) => sum + it.quantity, 0);
   const count = new Set(unit.lines.map((it) => it.gtin)).size;
   const what = content ? [fact("CONTENT", content.gtin), fact("COUNT", figure(content.count))] : [];
-  const several = content ? [] : [fact("Content", `${figure(count)} ${count === 1 ? "article" : "articles"}, ${figure(pieces)} pieces`)];
-  const named = article ? [fact("Article", [article.description, article.number].filter(Boolean).join(", "))] : [];
-  const parties = element("div", { class: "label-parties" }, party("From", from), party("To", to));
-  const facts = [fact("SSCC", unit.sscc), ...what, ...several, ...named, fact("Despatch", despatch)];
+  const several = content ? [] : [fact(phrases.label.content, phrases.label.several(count, pieces))];
+  const named = article ? [fact(phrases.label.article, [article.description, article.number].filter(Boolean).join(", "))] : [];
+  const parties = element("div", { class: "label-parties" }, party(phrases.common.from, from), party(phrases.common.to, to));
+  const facts = [fact("SSCC", unit.sscc), ...what, ...several, ...named, fact(phrases.label.despatch, despatch)];
   return element(
     "section",
     { class: isCopy ? "label copy" : "label", "data-size": size.name, "aria-label": name },

@@ -7,7 +7,8 @@ import { detailsOfEntry } from "../articles.js";
 /** @typedef {import("../session.js").Session} Session */
 /** @typedef {import("../edi/order_details.js").Party} Party */
 
-/** The numbers of the orders of these lines. @param {{ order: string }[]} lines */
+/** The numbers of the orders of these lines.
+ * @param {{ order: string }[]} lines */
 export const ordersIn = (lines) => new Set(lines.map((it) => it.order));
 
 /** @param {Party} party */

@@ -12,5 +12,6 @@ export const SIZES = [
   { name: "A5", width: 148, module: 0.625, bar: 40 },
 ];
 
-/** Whether a symbol with its quiet zones is no wider than the label. @param {string} text @param {Size} size */
+/** Whether a symbol with its quiet zones is no wider than the label.
+ * @param {string} text @param {Size} size */
 export const fits = (text, { width, module }) => modulesOf(text) * module <= width;

@@ -1,8 +1,8 @@
 // @ts-check
 // Reads the answers to an order's lines from rows of a spreadsheet: line number, answer and quantity.
 
-import { readRows } from "./csv.js";
-import { figure } from "./dom.js";
+import { ALL_PHRASES, phrases } from "../language.js";
+import { placesOfTitles, readRows } from "./csv.js";
 import { wholeNumber } from "./field.js";
 
 /** @typedef {import("../edi/response.js").Answer} Answer */
@@ -10,17 +10,12 @@ import { wholeNumber } from "./field.js";
 /** @typedef {{ line: number, answer: Answer, quantity: string }} AnswerRow */
 
 /** @type {Record<string, Answer>} */
-const WORDS = {
-  accept: "accepted",
-  accepted: "accepted",
-  refuse: "refused",
-  refused: "refused",
-  "not accepted": "refused",
-  change: "changed",
-  changed: "changed",
-};
+const WORDS = {};
+for (const { rows } of ALL_PHRASES) {
+  for (const [answer, words] of Object.entries(rows.answers)) words.forEach((it) => (WORDS[it] = /** @type {Answer} */ (answer)));
+}
 // the titles that name the columns, and where these are in rows without titles: alone, or as the page writes them
-const TITLES = [["line"], ["your answer", "answer"], ["changed to", "quantity"]];
+const TITLES = ALL_PHRASES.map(({ rows }) => [rows.line, rows.answer, rows.changedTo]);
 const ALONE = [0, 1, 2];
 const AS_WRITTEN = [0, 4, 5];
 
@@ -30,9 +25,9 @@ const AS_WRITTEN = [0, 4, 5];
 export function readAnswers(text, lines) {
   const rows = readRows(text);
   const titles = rows[0].map((it) => it.toLowerCase());
-  const named = TITLES.map((words) => titles.findIndex((it) => words.includes(it)));
+  const named = placesOfTitles(titles, TITLES);
   const hasTitles = named[0] >= 0;
-  if (hasTitles && named.includes(-1)) return { answers: [], wrong: ["Row 1: name the columns Line, Your answer and Changed to."] };
+  if (hasTitles && named.includes(-1)) return { answers: [], wrong: [phrases.answerRows.nameTheColumns] };
   const places = hasTitles ? named : titles.length > ALONE.length ? AS_WRITTEN : ALONE;
   /** @type {AnswerRow[]} */
   const answers = [];
@@ -42,9 +37,9 @@ export function readAnswers(text, lines) {
   rows.forEach((cells, at) => {
     if ((hasTitles && at === 0) || cells.every((it) => it === "")) return;
     const [line, word, quantity] = places.map((it) => cells[it] ?? "");
-    const read = seen.has(line) ? `Line ${line} is in an earlier row too.` : readRow({ line, word, quantity }, lines);
+    const read = seen.has(line) ? phrases.answerRows.twice(line) : readRow({ line, word, quantity }, lines);
     seen.add(line);
-    if (typeof read === "string") wrong.push(`Row ${at + 1}: ${read}`);
+    if (typeof read === "string") wrong.push(phrases.common.row(at + 1, read));
     else if (read) answers.push(read);
   });
   return { answers, wrong };
@@ -55,25 +50,35 @@ export function readAnswers(text, lines) {
  * @returns {AnswerRow | string | null} */
 function readRow({ line, word, quantity }, lines) {
   const known = lines.find((it) => it.line === wholeNumber(line));
-  if (Number.isNaN(wholeNumber(line))) return line ? `“${line}” is not a line number.` : "The line number is missing.";
-  if (!known) return `The order has no line ${line}.`;
+  if (Number.isNaN(wholeNumber(line))) return line ? phrases.common.notALineNumber(line) : phrases.answerRows.lineMissing;
+  if (!known) return phrases.answerRows.noLine(line);
   const answer = word ? WORDS[word.toLowerCase()] : "changed";
-  if (!known.waits) return isAsKnown(known, word, quantity) ? null : `Line ${line} waits no more: it is ${known.known}.`;
+  if (!known.waits) return isAsKnown(known, word, quantity) ? null : phrases.answerRows.waitsNoMore(line, known.known);
   if (!word && !quantity) return null;
-  if (!answer) return `“${word}” is not an answer to line ${line}. Write accepted, refused or changed.`;
+  if (!answer) return phrases.answerRows.notAnAnswer(word, line);
   const wrong = wrongQuantity(known, answer, quantity);
-  return wrong ? `Line ${line}: ${wrong}` : { line: known.line, answer, quantity: answer === "changed" ? quantity : "" };
+  return wrong ? phrases.answerRows.ofLine(line, wrong) : { line: known.line, answer, quantity: answer === "changed" ? quantity : "" };
 }
 
-/** Whether a row says what the page wrote of a line that does not wait.
+/** Whether a row says what the page wrote of a line that does not wait, in any language.
  * @param {KnownLine} line @param {string} word @param {string} quantity */
-const isAsKnown = ({ known }, word, quantity) => quantity === "" && (word === "" || word.toLowerCase() === known);
+function isAsKnown({ known }, word, quantity) {
+  const letters = lettersOf(known);
+  return quantity === "" && (word === "" || lettersOf(word).some((it) => letters.includes(it)));
+}
+
+/** The letters of the answers that a word names in some language.
+ * @param {string} word */
+function lettersOf(word) {
+  const isWord = (/** @type {string} */ it) => it.toLowerCase() === word.toLowerCase();
+  return ALL_PHRASES.flatMap(({ answers }) => Object.keys(answers).filter((it) => isWord(answers[it])));
+}
 
 /** @param {KnownLine} line @param {Answer} answer @param {string} text */
 function wrongQuantity({ ordered, least, most }, answer, text) {
   const quantity = wholeNumber(text);
   const isWithin = quantity >= least && quantity <= most;
-  if (answer === "changed") return isWithin ? "" : `give a whole number from ${figure(least)} to ${figure(most)}.`;
+  if (answer === "changed") return isWithin ? "" : phrases.answerRows.giveANumber(least, most);
   const whole = answer === "accepted" ? ordered : 0;
-  return text === "" || quantity === whole ? "" : `${answer} with the quantity ${text}. Write changed, or leave the quantity out.`;
+  return text === "" || quantity === whole ? "" : phrases.answerRows.withQuantity(phrases.rows.written[answer], text);
 }

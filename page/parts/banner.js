@@ -2,6 +2,7 @@
 // Says above every screen how a document is doing whose own screen was left, and what else failed. Each has a place of its own, so that no
 // failure replaces a button that sends again.
 
+import { phrases } from "../language.js";
 import { againButton, clockTime, pauseInWords, verdictNotice } from "./sending_panel.js";
 import { button, element, link, notice, saying } from "./dom.js";
 
@@ -30,7 +31,8 @@ export class Banner {
     this.failures.replaceChildren(...failures);
   }
 
-  /** Says of each document that its screen does not show what becomes of it. @param {Sending[]} sendings */
+  /** Says of each document that its screen does not show what becomes of it.
+   * @param {Sending[]} sendings */
   draw(sendings) {
     for (const it of sendings) {
       const shown = this.screen.querySelector(`[data-sending="${it.facts.id}"]`) !== null;
@@ -70,12 +72,12 @@ export class Banner {
 /** @param {Sending} sending @param {() => void} dismiss @returns {Node[]} */
 function inShort(sending, dismiss) {
   const { what, state, sentAt } = sending.facts;
-  if (state === "sending" || state === "resending") return [saying("plain", `${what} is being sent.`)];
+  if (state === "sending" || state === "resending") return [saying("plain", phrases.banner.isBeingSent(what))];
   if (state === "held" || state === "pausing") return [saying("warn", `${what}: ${pauseInWords(sending)}`)];
   if (state === "unanswered") {
-    const words = `${what} was sent, and no answer came. Sending the very same again is safe.`;
+    const words = phrases.banner.noAnswer(what);
     return [notice("warn", element("p", {}, words), againButton(sending))];
   }
-  const about = element("p", { class: "lead" }, `${what}, sent at ${clockTime(sentAt)}: `, link("Sent", "sent"));
-  return [about, ...verdictNotice(sending), button("Close this notice", dismiss, { class: "quiet" })];
+  const about = element("p", { class: "lead" }, `${phrases.banner.sentAt(what, clockTime(sentAt))} `, link(phrases.sent.title, "sent"));
+  return [about, ...verdictNotice(sending), button(phrases.banner.close, dismiss, { class: "quiet" })];
 }

@@ -9,16 +9,19 @@ const NUMERIC = /^[\d.,][\d\s.,:/eE-]*$/;
 const PLAIN = /^(0|[1-9]\d{0,10})$/;
 const MARK = "'";
 
-/** A text that a spreadsheet leaves alone, by a mark before it. @param {string} text */
+/** A text that a spreadsheet leaves alone, by a mark before it.
+ * @param {string} text */
 export const asText = (text) => MARK + text;
 
-/** A text with the mark, if a spreadsheet would take it for something else. @param {string} text */
+/** A text with the mark, if a spreadsheet would take it for something else.
+ * @param {string} text */
 export function harmless(text) {
   const changes = FORMULA.test(text) || text.startsWith(MARK) || (NUMERIC.test(text) && !PLAIN.test(text));
   return changes ? asText(text) : text;
 }
 
-/** What separates cells where this language is spoken: `;` if numbers have a decimal comma. @param {string} language */
+/** What separates cells where this language is spoken: `;` if numbers have a decimal comma.
+ * @param {string} language */
 export const separatorOf = (language) => (new Intl.NumberFormat(language).format(1.5).includes(",") ? ";" : ",");
 
 /** @param {string} cell @param {string} separator */
@@ -30,8 +33,17 @@ function quoted(cell, separator) {
 /** @param {string[][]} rows @param {string} separator */
 export const csvText = (rows, separator) => rows.map((row) => row.map((it) => quoted(it, separator)).join(separator) + END).join("");
 
-/** The separator of a text that was copied from a spreadsheet (tabs) or from a file. @param {string} text */
+/** The separator of a text that was copied from a spreadsheet (tabs) or from a file.
+ * @param {string} text */
 const separatorIn = (text) => ["\t", ";"].find((it) => text.split(/[\r\n]/, 1)[0].includes(it)) ?? ",";
+
+/** Where the columns are that the titles name, in the one language that knows most of them: -1 for one that is not there.
+ * @param {string[]} titles in small letters @param {string[][][]} languages the words of each column, language by language */
+export function placesOfTitles(titles, languages) {
+  const all = languages.map((columns) => columns.map((words) => titles.findIndex((it) => words.includes(it))));
+  const known = (/** @type {number[]} */ places) => places.filter((it) => it >= 0).length;
+  return all.reduce((best, it) => (known(it) > known(best) ? it : best));
+}
 
 /** The rows of a text, each cell without blanks around it and without the mark; empty rows stay, so that rows can be counted.
  * @param {string} text

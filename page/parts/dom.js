@@ -1,6 +1,8 @@
 // @ts-check
 // Elements of the page. Texts are only ever put in as texts, so that markup in them stays what it is: data.
 
+export { figure } from "../words/figures.js";
+
 /** @typedef {Node | string | number | null | undefined | false} Child */
 /** @typedef {Record<string, string | number | boolean | null | undefined | EventListener>} Attributes */
 
@@ -36,35 +38,32 @@ export function button(label, onclick, attributes = {}) {
 /** @param {Child | Child[]} label @param {string} to a screen, with its words @param {Attributes} [attributes] */
 export const link = (label, to, attributes = {}) => element("a", { href: `#${to}`, ...attributes }, label);
 
-/** A text whose blanks count, as those of order numbers do. @param {string} text */
+/** A text whose blanks count, as those of order numbers do.
+ * @param {string} text */
 export const exact = (text) => element("span", { class: "exact" }, text);
 
-/** A list of terms and what they are. @param {[string, Child][]} rows */
+/** A list of terms and what they are.
+ * @param {[string, Child][]} rows */
 export function terms(rows) {
   const row = (/** @type {[string, Child]} */ [term, what]) => element("div", {}, element("dt", {}, term), element("dd", {}, what));
   return element("dl", { class: "terms" }, ...rows.map(row));
 }
 
-const FIGURES = new Intl.NumberFormat("en-GB");
-
-/** @param {number} number */
-export const figure = (number) => FIGURES.format(number);
-
-/** So many of a thing, as `1 line` or `2 lines`. @param {number} count @param {string} noun */
-export const counted = (count, noun) => `${figure(count)} ${noun}${count === 1 ? "" : "s"}`;
-
 let identifiers = 0;
 
-/** An identifier that no other element of this page has. @param {string} name */
+/** An identifier that no other element of this page has.
+ * @param {string} name */
 export const newId = (name) => `${name}-${(identifiers += 1)}`;
 
-/** The heading of a screen, which has the focus when the screen comes. @param {...Child} children */
+/** The heading of a screen, which has the focus when the screen comes.
+ * @param {...Child} children */
 export const heading = (...children) => element("h1", { tabindex: "-1" }, ...children);
 
 /** @param {...Child} children */
 export const actions = (...children) => element("div", { class: "actions" }, ...children);
 
-/** A notice of one paragraph. @param {string} kind @param {...Child} words */
+/** A notice of one paragraph.
+ * @param {string} kind @param {...Child} words */
 export const saying = (kind, ...words) => notice(kind, element("p", {}, ...words));
 
 /** Gives a live region its words, unless it has them: what did not change is not spoken again.
@@ -73,5 +72,6 @@ export function sayOnce(region, words) {
   if (region.textContent !== words) region.textContent = words;
 }
 
-/** A notice of one kind: `good`, `bad`, `warn` or `plain`. @param {string} kind @param {...(Child | Child[])} children */
+/** A notice of one kind: `good`, `bad`, `warn` or `plain`.
+ * @param {string} kind @param {...(Child | Child[])} children */
 export const notice = (kind, ...children) => element("div", { class: `notice ${kind}` }, ...children);

@@ -2,6 +2,7 @@
 // Files that are made in the tab: an interchange, or the rows of a table.
 
 import { bytesOf } from "../hub/client.js";
+import { phrases } from "../language.js";
 import { button, element } from "./dom.js";
 
 // by which spreadsheets know UTF-8
@@ -20,7 +21,8 @@ export const downloadButton = (label, name, text) =>
 
 /** @param {string} caption of the table @param {() => string} write */
 export function csvButton(caption, write) {
-  const name = `${caption.toLowerCase().replace(/[^a-z0-9]+/g, "-").replace(/^-|-$/g, "")}.csv`;
+  const plain = caption.toLowerCase().normalize("NFD").replace(/[\u0300-\u036f]/g, "");
+  const name = `${plain.replace(/[^a-z0-9]+/g, "-").replace(/^-|-$/g, "")}.csv`;
   const save = () => download(name, MARK + write(), "text/csv;charset=utf-8");
-  return button("Download CSV", save, { class: "quiet csv no-print", "aria-label": `Download CSV: ${caption}` });
+  return button(phrases.download.csv, save, { class: "quiet csv no-print", "aria-label": phrases.download.csvOf(caption) });
 }

@@ -2,8 +2,9 @@
 // Shows a fault that `edihub show` found in a file: its code in words, and the place in the file that shows it.
 
 import { placeOfByte, placeOfSegment } from "../edi/fault_place.js";
+import { phrases } from "../language.js";
 import { codeInWords } from "./code.js";
-import { counted, element, figure } from "./dom.js";
+import { element } from "./dom.js";
 
 /** @typedef {import("../edi/shown.js").Fault} Fault */
 /** @typedef {import("../edi/fault_place.js").Place} Place */
@@ -16,27 +17,30 @@ export function faultInWords(fault, text) {
 /** @param {Fault} fault @param {string} text */
 function placeInWords({ segment, offset }, text) {
   const place = offset === null ? placeOfSegment(text, segment ?? 0) : placeOfByte(text, offset);
-  const where = place ? `Line ${figure(place.line)} of the file, segment ${figure(segment ?? 0)}` : `Segment ${figure(segment ?? 0)}`;
-  const byte = offset === null ? "" : `, after ${counted(offset, "byte")}: ${characterInWords(text[offset] ?? "")}`;
+  const { inFile, inSegment, afterBytes } = phrases.faultInWords;
+  const where = place ? inFile(place.line, segment ?? 0) : inSegment(segment ?? 0);
+  const byte = offset === null ? "" : `, ${afterBytes(offset, characterInWords(text[offset] ?? ""))}`;
   const words = element("p", { class: "fault-where" }, `${where}${byte}.`);
   if (!place) return [words];
-  const mark = element("mark", {}, visible(place.it).replace("\n", "\u240a") || "(the end of the file)");
+  const mark = element("mark", {}, visible(place.it).replace("\n", "\u240a") || `(${phrases.characters.end})`);
   const shown = [visible(place.before), mark, visible(place.after)];
-  return [words, element("pre", { class: "raw", tabindex: "0", "aria-label": "The place in the file" }, ...shown)];
+  return [words, element("pre", { class: "raw", tabindex: "0", "aria-label": phrases.faultInWords.place }, ...shown)];
 }
 
 // the control characters that come in files by mistake
-/** @type {Record<string, string>} */
-const NAMES = { "\t": "a tab", "\n": "a line break", "\r": "a line break", "\0": "a zero byte", " ": "a blank" };
+/** @type {Record<string, "tab" | "lineBreak" | "zeroByte" | "blank">} */
+const NAMES = { "\t": "tab", "\n": "lineBreak", "\r": "lineBreak", "\0": "zeroByte", " ": "blank" };
 
 /** @param {string} character "" at the end of the file */
 function characterInWords(character) {
-  if (!character) return "the end of the file";
+  const { end, printed, notPrinted, ...names } = phrases.characters;
+  if (!character) return end;
   const code = `0x${character.charCodeAt(0).toString(16).toUpperCase().padStart(2, "0")}`;
   const isPrinted = /[\x21-\x7e\xa1-\xff]/.test(character);
-  return `${NAMES[character] ?? (isPrinted ? `the character ${character}` : "a character that is not printed")} (${code})`;
+  return `${names[NAMES[character]] ?? (isPrinted ? printed(character) : notPrinted)} (${code})`;
 }
 
-/** A text whose control characters can be seen. @param {string} text */
+/** A text whose control characters can be seen.
+ * @param {string} text */
 const visible = (text) =>
   text.replace(/[\x00-\x09\x0b-\x1f\x7f-\x9f]/g, (it) => (it < " " ? String.fromCharCode(0x2400 + it.charCodeAt(0)) : "\ufffd"));

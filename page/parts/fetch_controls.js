@@ -1,7 +1,8 @@
 // @ts-check
 // Fetches the statuses of suppliers by a press, shows how far that is, and stops it by another.
 
-import { actions, button, counted, element, figure, newId, sayOnce } from "./dom.js";
+import { phrases } from "../language.js";
+import { actions, button, element, newId, sayOnce } from "./dom.js";
 import { clockTime } from "./sending_panel.js";
 
 /** @typedef {import("../suppliers/planner.js").Planner} Planner */
@@ -13,7 +14,7 @@ export class FetchControls {
     const id = newId("progress");
     this.fetch = button("", () => this.begin(planner.list.suppliers.map((it) => it.gln)), { class: "primary" });
     this.again = button("", () => this.begin(this.failed), {});
-    this.stop = button("Stop", () => this.end(), {});
+    this.stop = button(phrases.fetchControls.stop, () => this.end(), {});
     this.bar = /** @type {HTMLProgressElement} */ (element("progress", { id }));
     this.count = element("label", { for: id });
     this.progress = element("div", { class: "progress" }, this.count, this.bar);
@@ -45,28 +46,25 @@ export class FetchControls {
     const [count, failed] = [list.suppliers.length, this.failed.length];
     const wasStop = document.activeElement === this.stop;
     this.element.hidden = !count;
-    this.fetch.textContent = `Fetch the status of ${inSuppliers(count)}`;
+    this.fetch.textContent = phrases.fetchControls.fetch(count);
     this.fetch.hidden = round.isRunning;
-    this.again.textContent = `Fetch those that failed again (${figure(failed)})`;
+    this.again.textContent = phrases.fetchControls.again(failed);
     this.again.hidden = round.isRunning || !failed;
     this.stop.hidden = this.progress.hidden = !round.isRunning;
     this.bar.max = Math.max(1, round.total);
     this.bar.value = round.done;
-    this.count.textContent = `${figure(round.done)} of ${figure(round.total)} fetched`;
+    this.count.textContent = phrases.fetchControls.count(round.done, round.total);
     sayOnce(this.said, this.inWords());
     if (wasStop && this.stop.hidden) this.said.focus({ preventScroll: true });
   }
 
   inWords() {
     const { done, total, failed, until, isRunning } = this.planner.round;
-    if (until) return `The hub asks to wait until ${clockTime(until)}. The page goes on by itself then.`;
-    if (isRunning) return `Fetching ${inSuppliers(total)}, one after another…`;
-    if (!total) return "Nothing is fetched yet.";
-    if (done < total) return `Stopped after ${figure(done)} of ${figure(total)}. What was fetched stays.`;
-    if (!failed) return `Fetched ${inSuppliers(total)}.`;
-    return `Fetched ${figure(total - failed)} of ${inSuppliers(total)}. ${figure(failed)} failed: the table says why.`;
+    if (until) return phrases.fetchControls.waits(clockTime(until));
+    if (isRunning) return phrases.fetchControls.fetching(total);
+    if (!total) return phrases.fetchControls.nothingYet;
+    if (done < total) return phrases.fetchControls.stopped(done, total);
+    if (!failed) return phrases.fetchControls.fetched(total);
+    return phrases.fetchControls.someFailed(total - failed, total, failed);
   }
 }
-
-/** @param {number} count */
-const inSuppliers = (count) => counted(count, "supplier");

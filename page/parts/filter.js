@@ -1,10 +1,12 @@
 // @ts-check
 // Filters the rows of a table by a text and a choice.
 
+import { phrases } from "../language.js";
 import { element, newId } from "./dom.js";
 import { Field } from "./field.js";
 
-/** Whether the words have the text in them; capitals and small letters count as the same. @param {string} text @param {string[]} words */
+/** Whether the words have the text in them; capitals and small letters count as the same.
+ * @param {string} text @param {string[]} words */
 const includes = (text, words) => words.join(" ").toLowerCase().includes(text.toLowerCase());
 
 /** @template Row */
@@ -20,11 +22,12 @@ export class Filter {
     this.select = /** @type {HTMLSelectElement} */ (element("select", { id }, ...options));
     this.text.input.addEventListener("input", changed);
     this.select.addEventListener("change", changed);
-    const choice = element("div", { class: "field" }, element("label", { for: id }, "Shown"), this.select);
+    const choice = element("div", { class: "field" }, element("label", { for: id }, phrases.filter.shown), this.select);
     this.element = element("div", { class: "filter no-print" }, this.text.element, choice);
   }
 
-  /** The rows that fit. @param {Row[]} rows */
+  /** The rows that fit.
+   * @param {Row[]} rows */
   of(rows) {
     const fits = this.kinds[this.select.selectedIndex][2];
     return rows.filter((it) => fits(it) && includes(this.text.trimmed, this.words(it)));

@@ -18,7 +18,8 @@ export class FilteredTable {
     this.table.show(this.filter.of(this.rows));
   }
 
-  /** Shows these rows in the place of others, filtered and sorted as it is. @param {Row[]} rows */
+  /** Shows these rows in the place of others, filtered and sorted as it is.
+   * @param {Row[]} rows */
   show(rows) {
     this.rows = rows;
     this.table.showAgain(this.filter.of(rows));

@@ -1,7 +1,9 @@
 // @ts-check
-// Reads what was typed into a form, and puts it back. Each field has a name made of the legends around it and its own label, so that what
-// was typed for one order line or pallet never comes to another. Fields within `data-apart` are left out: the form itself keeps what they
-// say.
+// Reads what was typed into a form, and puts it back. Each field has a name made of its own `data-field` and those of the groups around it,
+// so that what was typed for one order line or pallet never comes to another, in whatever language the page is. Fields within `data-apart`
+// are left out: the form itself keeps what they say.
+
+import { phrases } from "../language.js";
 
 /** @typedef {Record<string, string | boolean>} FormContent */
 /** @typedef {HTMLInputElement | HTMLSelectElement} Input */
@@ -25,25 +27,35 @@ const inputs = (root) => /** @type {Input[]} */ (all(root, "input:not([type=file
 /** @param {Input} input @returns {input is HTMLInputElement} */
 const isChoice = (input) => ["radio", "checkbox"].includes(input.type);
 
-// The fields with their names. Labels are looked up in the form, which need not be in the page yet.
-/** @param {Element} root @returns {[string, Input][]} */
-function named(root) {
-  const labels = new Map(all(root, "label[for]").map((it) => [it.getAttribute("for"), it.textContent]));
-  const label = (/** @type {Input} */ it) => labels.get(it.id) ?? it.closest("label")?.textContent ?? "";
-  const own = (/** @type {Input} */ it) => (isChoice(it) && it.hasAttribute("value") ? it.value : label(it));
-  return inputs(root).map((it) => [[...legends(it, root), own(it)].join("\n"), it]);
-}
+/** The fields with their names.
+ * @param {Element} root @returns {[string, Input][]} */
+const named = (root) => inputs(root).map((it) => [[...groups(it, root), it.dataset.field ?? ""].join("\n"), it]);
 
 /** @param {Input} input @param {Element} root */
-function legends(input, root) {
+function groups(input, root) {
   const names = [];
   for (let at = input.closest("fieldset"); at && at !== root; at = at.parentElement?.closest("fieldset") ?? null) {
-    names.unshift(at.querySelector("legend")?.textContent ?? "");
+    names.unshift(at.dataset.field ?? "");
   }
   return names;
 }
 
-/** What each field has now. @param {Element} root @returns {FormContent} */
+/** A field's name as a person reads it. Its parts are names of phrases, each with what is filled in behind `/`, or else texts.
+ * @param {string} name */
+export const fieldInWords = (name) => name.split("\n").map(partInWords).join(": ");
+
+/** @param {string} part */
+function partInWords(part) {
+  const [path, ...filled] = part.split("/");
+  /** @type {any} */
+  let found = phrases;
+  for (const it of path.split(".")) found = Object.hasOwn(Object(found), it) ? found[it] : undefined;
+  if (typeof found === "function") return String(found(...filled));
+  return typeof found === "string" ? found : part;
+}
+
+/** What each field has now.
+ * @param {Element} root @returns {FormContent} */
 export const contentOf = (root) => Object.fromEntries(named(root).map(([name, it]) => [name, valueOf(it)]));
 
 /** @param {Input} input */

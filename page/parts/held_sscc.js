@@ -21,7 +21,7 @@ export class HeldSsccs {
 
   /** The SSCCs that forms of this browser hold, in this tab or another, and those that another tab has sent since this form opened. */
   async all() {
-    const { held = [] } = (await navigator.locks?.query()) ?? {};
+    const { held = [] } = (await navigator.locks?.query()) ?? /** @type {LockManagerSnapshot} */ ({});
     const names = held.flatMap(({ name = "" }) => (name.startsWith(`${NAME}.`) ? [name.slice(NAME.length + 1)] : []));
     return [...names, ...this.#sentElsewhere];
   }
@@ -39,7 +39,8 @@ export class HeldSsccs {
     });
   }
 
-  /** Lets go of all but these. @param {string[]} ssccs */
+  /** Lets go of all but these.
+   * @param {string[]} ssccs */
   keepOnly(ssccs) {
     for (const [sscc, end] of this.#own) {
       if (ssccs.includes(sscc)) continue;
@@ -48,7 +49,8 @@ export class HeldSsccs {
     }
   }
 
-  /** Tells the other tabs that these were sent. @param {string[]} ssccs */
+  /** Tells the other tabs that these were sent.
+   * @param {string[]} ssccs */
   announce(ssccs) {
     this.#channel.postMessage(ssccs);
   }

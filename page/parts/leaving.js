@@ -1,6 +1,7 @@
 // @ts-check
 // Asks before typed work is left.
 
+import { phrases } from "../language.js";
 import { actions, button, element, newId } from "./dom.js";
 
 /** Whether to leave. Escape, and Enter of a scanner, stay.
@@ -15,7 +16,7 @@ export function askToLeave(what, then, label) {
       { class: "card ask", "aria-labelledby": id },
       element("h2", { id }, what),
       element("p", {}, then),
-      actions(button("Stay", close("stay"), { class: "primary" }), button(label, close("leave"))),
+      actions(button(phrases.leaving.stay, close("stay"), { class: "primary" }), button(label, close("leave"))),
     )
   );
   const opener = /** @type {HTMLElement | null} */ (document.activeElement);

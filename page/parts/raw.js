@@ -1,16 +1,19 @@
 // @ts-check
 // What stands in an interchange, as it stands there.
 
+import { phrases } from "../language.js";
 import { element, notice } from "./dom.js";
 
-/** The segments of a text, one a line, so that one can read them. @param {string} text */
+/** The segments of a text, one a line, so that one can read them.
+ * @param {string} text */
 export const oneALine = (text) => text.replace(/((?:\?.|[^?'])*')/gs, "$1\n").trimEnd();
 
-/** What the page does not understand. @param {string} words @param {string} text */
+/** What the page does not understand.
+ * @param {string} words @param {string} text */
 export const notUnderstood = (words, text) => notice("warn", element("p", {}, words), element("pre", { class: "raw" }, text));
 
 /** @param {string} text */
-const rawText = (text) => element("pre", { class: "raw", tabindex: "0", "aria-label": "Interchange" }, oneALine(text));
+const rawText = (text) => element("pre", { class: "raw", tabindex: "0", "aria-label": phrases.common.interchange }, oneALine(text));
 
 /** @param {string} summary @param {string} text @param {boolean} [open] */
 export function rawDetails(summary, text, open = false) {

@@ -4,11 +4,12 @@
 
 import { dropDraft, draftOf, keepDraft } from "../kept.js";
 import { isSettled, isUnsent, isUnsettled } from "../hub/sending_states.js";
+import { phrases } from "../language.js";
 import { actions, button, element, notice, saying } from "./dom.js";
 import { enterMoves } from "./enter_moves.js";
-import { contentOf, putBack } from "./form_content.js";
+import { contentOf, fieldInWords, putBack } from "./form_content.js";
 import { preview } from "./preview.js";
-import { FIRST, sendingRegion, tell } from "./sending_panel.js";
+import { sendingRegion, tell } from "./sending_panel.js";
 import { Summary } from "./summary.js";
 
 /** @typedef {import("../hub/kinds.js").Verdict} Verdict */
@@ -34,9 +35,9 @@ import { Summary } from "./summary.js";
 
 // the name of what is in no field, which no field has
 const APART = "apart";
-const BACK = "What you typed here before is back. It was not sent. ";
 
-/** The form, with the draft that the tab keeps of it. @param {FormWords} words */
+/** The form, with the draft that the tab keeps of it.
+ * @param {FormWords} words */
 export async function sendingForm(words) {
   const form = new SendingForm(words);
   await form.takeDraft();
@@ -50,7 +51,7 @@ class SendingForm {
     this.list = words.context.session.sent;
     this.caller = words.context.session.hub.caller;
     this.sending = this.begin();
-    const checkButton = button(`Check ${words.noun}`, () => this.review(), { class: "primary" });
+    const checkButton = button(phrases.sendingForm.check(words.noun), () => this.review(), { class: "primary" });
     const shown = preview(() => words.write(this.stamp()));
     this.fields = /** @type {HTMLFieldSetElement} */ (
       element("fieldset", { class: "bare" }, ...words.content, shown, actions(checkButton))
@@ -74,7 +75,8 @@ class SendingForm {
     return sending;
   }
 
-  /** What was typed. @returns {FormContent} */
+  /** What was typed.
+   * @returns {FormContent} */
   get content() {
     const { apart } = this.words;
     return { ...contentOf(this.fields), ...(apart && { [APART]: apart.content() }) };
@@ -89,11 +91,11 @@ class SendingForm {
     if (!draft) return;
     await this.words.prepare?.(draft);
     const { [APART]: apart, ...typed } = draft;
-    const missing = putBack(this.fields, typed).map((it) => it.replaceAll("\n", ": "));
+    const missing = putBack(this.fields, typed).map(fieldInWords);
     if (apart) missing.push(...((await this.words.apart?.putBack(apart)) ?? []));
-    const scratch = button("Start from scratch", () => this.discard(), { class: "quiet" });
-    const lost = missing.length ? `It had something that is not in the form any more: ${missing.join(", ")}. ` : "";
-    this.restored.replaceChildren(notice("plain", element("p", {}, BACK, lost, scratch)));
+    const scratch = button(phrases.sendingForm.fromScratch, () => this.discard(), { class: "quiet" });
+    const lost = missing.length ? `${phrases.sendingForm.lost(missing.join(", "))} ` : "";
+    this.restored.replaceChildren(notice("plain", element("p", {}, `${phrases.sendingForm.isBack} `, lost, scratch)));
     this.note();
   }
 
@@ -124,7 +126,7 @@ class SendingForm {
   review() {
     this.note();
     const waits = this.list.unsettled.length > 0;
-    this.first.replaceChildren(...(waits ? [saying("warn", FIRST)] : []));
+    this.first.replaceChildren(...(waits ? [saying("warn", phrases.sending.first)] : []));
     if (waits || !this.words.check() || this.words.write(this.stamp()) === null) return;
     if (!this.sending.happen("review")) return;
     // an earlier refusal was of what the form said before

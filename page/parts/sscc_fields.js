@@ -3,10 +3,9 @@
 
 import { isPrefix } from "../edi/identifiers.js";
 import { nextSscc, serialsUnder } from "../edi/sscc.js";
+import { phrases } from "../language.js";
 import { Field, check, focusFirstWrong } from "./field.js";
 import { HeldSsccs } from "./held_sscc.js";
-
-const WRONG_PREFIX = "A company prefix has 4 to 12 digits.";
 
 export class SsccFields {
   /** @param {import("../session.js").Session} session @param {() => string[]} taken used ones and those of the form */
@@ -15,15 +14,17 @@ export class SsccFields {
     this.taken = taken;
     this.held = new HeldSsccs();
     this.prefix = new Field({
-      label: "Your GS1 company prefix",
-      hint: "4 to 12 digits. With it the page proposes the next SSCC. It stays in this tab.",
+      label: phrases.ssccFields.prefix,
+      field: "ssccFields.prefix",
+      hint: phrases.ssccFields.prefixHint,
       value: session.prefix,
       inputmode: "numeric",
       maxlength: 12,
     });
     this.first = new Field({
-      label: "First serial number",
-      hint: "Optional. The page proposes SSCCs from this number on; otherwise after your last one.",
+      label: phrases.ssccFields.first,
+      field: "ssccFields.first",
+      hint: phrases.ssccFields.firstHint,
       value: session.firstSerial,
       inputmode: "numeric",
       maxlength: 12,
@@ -38,16 +39,16 @@ export class SsccFields {
     const prefix = this.prefix.trimmed;
     const first = this.first.trimmed;
     if (first === "") return "";
-    if (!/^\d{1,12}$/.test(first)) return "A serial number has digits alone.";
-    if (!isPrefix(prefix)) return prefix ? "" : "Give your company prefix too: the serial number comes after it.";
+    if (!/^\d{1,12}$/.test(first)) return phrases.ssccFields.digitsAlone;
+    if (!isPrefix(prefix)) return prefix ? "" : phrases.ssccFields.prefixToo;
     if (Number(first) < serialsUnder(prefix)) return "";
-    return `After the prefix ${prefix} a serial number has at most ${16 - prefix.length} digits.`;
+    return phrases.ssccFields.tooLong(prefix, 16 - prefix.length);
   }
 
   check() {
     const prefix = this.prefix.trimmed;
-    const right = [check(this.prefix, prefix === "" || isPrefix(prefix) ? "" : WRONG_PREFIX), check(this.first, this.#wrongFirst)];
-    return right.every(Boolean);
+    const wrong = prefix === "" || isPrefix(prefix) ? "" : phrases.ssccFields.wrongPrefix;
+    return [check(this.prefix, wrong), check(this.first, this.#wrongFirst)].every(Boolean);
   }
 
   /** Takes what was typed for the forms that follow in this tab. Whether it is right. */
@@ -59,7 +60,7 @@ export class SsccFields {
 
   /** Says at the prefix, if nothing else is wrong, that it is needed. */
   askForPrefix() {
-    if (this.check()) this.prefix.say("Give your company prefix, so that the page can propose an SSCC.");
+    if (this.check()) this.prefix.say(phrases.ssccFields.prefixNeeded);
     focusFirstWrong(this.fields);
   }
 

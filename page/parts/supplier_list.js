@@ -1,24 +1,24 @@
 // @ts-check
 // Says where the list of suppliers comes from, and takes another one.
 
-import { counted, element, figure, notice } from "./dom.js";
+import { phrases } from "../language.js";
+import { element, notice } from "./dom.js";
 import { dropZone } from "./drop_zone.js";
 
 /** @typedef {import("../suppliers/list.js").SupplierList} SupplierList */
 
-const CHOICE = {
-  label: "Choose a list of suppliers, or drop it here",
-  hint: "A CSV file with a row for each supplier: GLN and name. The tab keeps it until you sign out or close the tab.",
+const choice = () => ({
+  label: phrases.supplierList.choose,
+  hint: phrases.supplierList.chooseHint,
   accept: ".csv,.txt",
   multiple: false,
-};
-const NO_LIST = "There is no list of suppliers yet. Without one, ask for each supplier under Status, by its GLN.";
+});
 const MOST_WRONG = 5;
 
 /** @param {SupplierList} list @returns {{ element: HTMLElement, draw: () => void }} */
 export function supplierListPart(list) {
   const said = element("div", { class: "happened", role: "status", tabindex: "-1" });
-  const summary = element("summary", {}, "Use another list");
+  const summary = element("summary", {}, phrases.supplierList.useAnother);
   const take = async (/** @type {File[]} */ [file]) => {
     if (!file) return;
     await list.choose(file);
@@ -26,7 +26,7 @@ export function supplierListPart(list) {
     details.open = !list.suppliers.length;
     said.focus({ preventScroll: true });
   };
-  const zone = dropZone(CHOICE, take);
+  const zone = dropZone(choice(), take);
   const details = /** @type {HTMLDetailsElement} */ (element("details", { class: "list", open: !list.file }, summary, zone));
   let drawn = "";
   const draw = () => {
@@ -34,7 +34,7 @@ export function supplierListPart(list) {
     if (state === drawn) return;
     drawn = state;
     said.replaceChildren(element("p", { class: "lead" }, inWords(list)), ...(list.wrong.length ? [whatIsWrong(list.wrong)] : []));
-    summary.textContent = list.file ? "Use another list" : "Give a list";
+    summary.textContent = list.file ? phrases.supplierList.useAnother : phrases.supplierList.give;
   };
   draw();
   return { element: element("section", {}, said, details), draw };
@@ -42,13 +42,13 @@ export function supplierListPart(list) {
 
 /** @param {SupplierList} list */
 function inWords({ suppliers, file, isBeside }) {
-  if (!file) return NO_LIST;
-  return `${counted(suppliers.length, "supplier")} in ${file}${isBeside ? ", which is beside this page" : ""}.`;
+  if (!file) return phrases.supplierList.none;
+  return isBeside ? phrases.supplierList.besidePage(suppliers.length, file) : phrases.supplierList.inFile(suppliers.length, file);
 }
 
 /** @param {string[]} wrong */
 function whatIsWrong(wrong) {
   const more = wrong.length - MOST_WRONG;
-  const rows = [...wrong.slice(0, MOST_WRONG), ...(more > 0 ? [`… and ${figure(more)} more`] : [])];
-  return notice("warn", element("p", {}, "This was left out:"), element("ul", {}, ...rows.map((it) => element("li", {}, it))));
+  const rows = [...wrong.slice(0, MOST_WRONG), ...(more > 0 ? [phrases.supplierList.more(more)] : [])];
+  return notice("warn", element("p", {}, phrases.supplierList.leftOut), element("ul", {}, ...rows.map((it) => element("li", {}, it))));
 }

@@ -2,6 +2,7 @@
 // A table whose rows are sorted by its headings or a choice, filtered from outside, summed below, and downloaded as CSV as they are shown.
 // On a narrow page each row is a card, whose cells name their column.
 
+import { phrases } from "../language.js";
 import { asText, csvText, harmless, separatorOf } from "./csv.js";
 import { append, element, figure } from "./dom.js";
 import { csvButton } from "./download.js";
@@ -10,7 +11,7 @@ import { SortChoice } from "./sort_choice.js";
 /** @typedef {import("./dom.js").Child} Child */
 /**
  * @template Row
- * @typedef {{ title: string, cell: (row: Row) => Child | Child[], value?: (row: Row) => string | number, number?: boolean,
+ * @typedef {{ name?: string, title: string, cell: (row: Row) => Child | Child[], value?: (row: Row) => string | number, number?: boolean,
  *   sum?: boolean, kind?: string, csv?: false | ((row: Row) => string | number) }} Column `csv` is what a file says instead of the cell;
  * a column without a title, or with `csv: false`, is not in the file
  */
@@ -19,7 +20,7 @@ import { SortChoice } from "./sort_choice.js";
 export class Table {
   /** @param {{ caption: string, columns: Column<Row>[], rows: Row[], kind?: string, empty?: string, sums?: boolean, most?: number }} words
    * the first `most` rows are drawn; the file and the sums have all */
-  constructor({ caption, columns, rows, kind = "", empty = "Nothing here.", sums = false, most = Infinity }) {
+  constructor({ caption, columns, rows, kind = "", empty = phrases.table.nothing, sums = false, most = Infinity }) {
     this.columns = columns;
     this.rows = rows;
     this.empty = empty;
@@ -53,7 +54,8 @@ export class Table {
     return element("th", { role: "columnheader", scope: "col", class: kind, "aria-sort": "none" }, sort);
   }
 
-  /** Sorts by a heading that was pressed. @param {number} place */
+  /** Sorts by a heading that was pressed.
+   * @param {number} place */
   sort(place) {
     this.sortBy(place, this.sortedBy === place && !this.falls);
   }
@@ -84,7 +86,8 @@ export class Table {
     (focused.isConnected ? focused : same)?.focus({ preventScroll: true });
   }
 
-  /** Shows these rows, in the order that is chosen. @param {Row[]} rows */
+  /** Shows these rows, in the order that is chosen.
+   * @param {Row[]} rows */
   show(rows) {
     this.rows = rows;
     const value = this.columns[this.sortedBy]?.value;
@@ -97,11 +100,12 @@ export class Table {
     const drawn = sorted.slice(0, this.most);
     this.body.replaceChildren(...(drawn.length ? drawn.map((row) => this.#row(row)) : [none]));
     this.more.hidden = drawn.length === sorted.length;
-    this.more.textContent = `These are the first ${figure(drawn.length)} of ${figure(sorted.length)}. The file has all of them.`;
+    this.more.textContent = phrases.table.first(drawn.length, sorted.length);
     this.foot?.replaceChildren(...(rows.length > 1 ? [this.#sums(rows)] : []));
   }
 
-  /** The rows as they are shown, under the headings and without the sums. @param {string} [language] */
+  /** The rows as they are shown, under the headings and without the sums.
+   * @param {string} [language] */
   csv(language = navigator.language) {
     const columns = this.columns.flatMap((it, place) => (it.title && it.csv !== false ? [place] : []));
     const rows = this.shown.map((row) => columns.map((place) => this.#written(row, place)));
@@ -142,7 +146,7 @@ export class Table {
   #sums(rows) {
     const sum = (/** @type {Column<Row>} */ { sum: summed, value }) =>
       summed && value ? figure(rows.reduce((all, row) => all + Number(value(row)), 0)) : "";
-    return this.#filled(this.columns.map((it, place) => (place === 0 ? `Sum of ${figure(rows.length)}` : sum(it))));
+    return this.#filled(this.columns.map((it, place) => (place === 0 ? phrases.table.sumOf(rows.length) : sum(it))));
   }
 }
 

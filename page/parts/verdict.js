@@ -3,15 +3,16 @@
 
 import { namesInFile } from "../edi/document_names.js";
 import { inWords } from "../hub/answers.js";
-import { OUTCOMES, TYPES } from "../hub/codes.js";
 import { readUpload } from "../hub/replies.js";
+import { phrases } from "../language.js";
 import { codeInWords } from "./code.js";
 import { element } from "./dom.js";
 import { againButton, denial, pauseInWords } from "./sending_panel.js";
 
 /** @typedef {import("../hub/sending.js").Sending} Sending */
 
-/** The verdict, which is drawn again when it changes. @param {Sending} sending @param {() => Node[]} [more] after an answer
+/** The verdict, which is drawn again when it changes.
+ * @param {Sending} sending @param {() => Node[]} [more] after an answer
  * @param {string | null} [role] null if something else speaks of many at once */
 export function verdictPlace(sending, more, role = "status") {
   const place = element("div", { class: "verdict", role, tabindex: "-1", "data-sending": sending.facts.id });
@@ -28,23 +29,25 @@ export function verdictPlace(sending, more, role = "status") {
 /** @param {Sending} sending @param {() => Node[]} [more] */
 export function verdictInWords(sending, more = () => []) {
   const { state, reply, reason } = sending.facts;
-  if (state === "review") return [element("p", {}, "Waiting for its turn…")];
-  if (state === "sending" || state === "resending") return [element("p", {}, "Being sent…")];
+  if (state === "review") return [element("p", {}, phrases.common.waits)];
+  if (state === "sending" || state === "resending") return [element("p", {}, phrases.verdict.beingSent)];
   if (state === "held" || state === "pausing") return [element("p", {}, pauseInWords(sending))];
   if (state === "denied") return [element("p", { class: "result refused" }, denial(reply))];
   if (state !== "unanswered") return [...answer(sending), element("p", { class: "said" }, element("code", {}, reply.trim())), ...more()];
   const why = reason ? inWords(reason) : denial(reply);
-  return [element("p", {}, `No answer. It may have arrived or not. ${why}`), againButton(sending)];
+  return [element("p", {}, phrases.verdict.noAnswer(why)), againButton(sending)];
 }
 
 /** @param {Sending} sending */
 function answer({ verdict, facts }) {
   const result = (/** @type {string} */ outcome, /** @type {string} */ code, /** @type {string} */ before = "") =>
-    element("p", { class: `result ${outcome}` }, before, OUTCOMES[outcome], code ? " " : null, code ? codeInWords(code) : null);
+    element("p", { class: `result ${outcome}` }, before, phrases.outcomes[outcome], code ? " " : null, code ? codeInWords(code) : null);
   const messages = facts.kind === "file" ? readUpload(facts.reply)?.messages ?? [] : [];
   if (!messages.length) return verdict ? [result(verdict.outcome, verdict.code)] : [];
   const names = namesInFile(facts.text);
   const about = (/** @type {string} */ type, /** @type {import("../edi/document_names.js").Names | undefined} */ named) =>
-    named?.document ? ` (${TYPES[type] ?? type} ${named.document}, supplier ${named.supplier})` : "";
-  return messages.map((it) => result(it.outcome, it.code, `Message ${it.reference}${about(it.type, names.get(it.reference))}: `));
+    named?.document ? ` ${phrases.verdict.about(phrases.types[type] ?? type, named.document, named.supplier)}` : "";
+  const before = (/** @type {import("../hub/replies.js").MessageReply} */ { reference, type }) =>
+    `${phrases.verdict.message(reference)}${about(type, names.get(reference))}: `;
+  return messages.map((it) => result(it.outcome, it.code, before(it)));
 }

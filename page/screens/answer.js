@@ -5,7 +5,7 @@ import { articlesOf } from "../articles.js";
 import { interchangeText } from "../edi/envelope.js";
 import { day } from "../edi/dates.js";
 import { responseText } from "../edi/response.js";
-import { ANSWERS } from "../hub/codes.js";
+import { phrases } from "../language.js";
 import { articleCell, articleColumn } from "../parts/article.js";
 import { actions, button, element, figure, heading, link, newId, saying } from "../parts/dom.js";
 import { proposedNumber, wrongNumber } from "../parts/document_number.js";
@@ -20,7 +20,7 @@ import { pasteAnswers } from "./paste_answers.js";
 /** @typedef {import("../edi/response.js").Answer} Answer */
 /** @typedef {ReturnType<typeof linesWithStatus>[number]} Line */
 
-const CHOICES = /** @type {[Answer, string][]} */ ([["accepted", "Accept"], ["refused", "Refuse"], ["changed", "Change"]]);
+const CHOICES = /** @type {Answer[]} */ (["accepted", "refused", "changed"]);
 
 /** A line of the form, of which the answer is chosen. */
 class LineAnswer {
@@ -28,12 +28,14 @@ class LineAnswer {
   constructor(line) {
     this.line = line;
     const name = newId("answer");
-    this.radios = CHOICES.map(([value, label]) => radio(name, value, label));
-    const label = `Changed quantity of line ${line.line}`;
-    this.quantity = new Field({ label, hidden: true, inputmode: "numeric", maxlength: 9, class: "short" });
+    this.radios = CHOICES.map((it) => radio(name, it));
+    const label = phrases.answer.changedQuantity(line.line);
+    const field = `answer.changedQuantity/${line.line}`;
+    this.quantity = new Field({ label, field, hidden: true, inputmode: "numeric", maxlength: 9, class: "short" });
     this.quantity.input.addEventListener("input", () => this.choose("changed"));
-    const legend = element("legend", { class: "spoken" }, `Answer to line ${line.line}`);
-    this.choices = element("fieldset", { class: "choices" }, legend, ...this.radios.map((it) => it.element));
+    const legend = element("legend", { class: "spoken" }, phrases.answer.answerToLine(line.line));
+    const words = { class: "choices", "data-field": `answer.answerToLine/${line.line}` };
+    this.choices = element("fieldset", words, legend, ...this.radios.map((it) => it.element));
     this.choices.addEventListener("change", () => this.quantity.say(""));
   }
 
@@ -43,7 +45,7 @@ class LineAnswer {
 
   /** What the hub knows of the answer, in words. */
   get known() {
-    return ANSWERS[this.line.status?.answer ?? ""] ?? "not known";
+    return phrases.answers[this.line.status?.answer ?? ""] ?? phrases.answer.notKnown;
   }
 
   /** @returns {Answer | null} */
@@ -63,40 +65,41 @@ class LineAnswer {
   }
 
   check() {
-    if (!this.waits) return check(this.quantity, `This line waits no more: it is ${this.known}.`);
+    if (!this.waits) return check(this.quantity, phrases.answer.waitsNoMore(this.known));
     if (this.answer !== "changed") return check(this.quantity, "");
     const { least, most } = this.bounds;
     const quantity = wholeNumber(this.quantity.value);
     const right = quantity >= least && quantity <= most;
-    return check(this.quantity, right ? "" : `Give a whole number from ${figure(least)} to ${figure(most)}.`);
+    return check(this.quantity, right ? "" : phrases.answer.giveANumber(least, most));
   }
 }
 
-/** @param {string} name @param {Answer} value @param {string} label */
-function radio(name, value, label) {
-  const input = /** @type {HTMLInputElement} */ (element("input", { type: "radio", name, value }));
-  return { input, element: element("label", { class: "choice" }, input, element("span", {}, label)) };
+/** @param {string} name @param {Answer} value */
+function radio(name, value) {
+  const words = { type: "radio", name, value, "data-field": `answer.choices.${value}` };
+  const input = /** @type {HTMLInputElement} */ (element("input", words));
+  return { input, element: element("label", { class: "choice" }, input, element("span", {}, phrases.answer.choices[value])) };
 }
 
 /** @param {import("../start.js").Context} context @param {string} word the entry's number */
 export async function answerScreen(context, word) {
   const entry = await context.session.entry(Number(word));
-  if (!entry?.order || !entry.interchange) return { title: "No order", content: [heading("This entry is no order")] };
+  if (!entry?.order || !entry.interchange) return { title: phrases.answer.noOrder, content: [heading(phrases.answer.entryIsNoOrder)] };
   const { session } = context;
   const { order, interchange } = entry;
   const answers = linesWithStatus(order, (await session.status()).lines).map((it) => new LineAnswer(it));
   const lines = table(answers, order.document, articlesOf(session));
-  const hint = "As you like; proposed from the clock.";
-  const document = new Field({ label: "Number of your answer", hint, value: proposedNumber(), maxlength: 35 });
+  const hint = phrases.answer.numberHint;
+  const document = new Field({ label: phrases.answer.number, field: "answer.number", hint, value: proposedNumber(), maxlength: 35 });
   const wrong = element("div", { role: "alert" });
   const next = element("div", {});
   const waiting = () => answers.filter((it) => it.waits);
-  const title = `Answer order ${numberInWords(order.document)}`;
+  const title = phrases.answer.answerOrder(numberInWords(order.document)).join("");
   const form = await sendingForm({
     context,
     kind: "document",
-    what: () => `Your answer to order ${numberInWords(order.document)}`,
-    noun: "answer",
+    what: () => phrases.answer.what(numberInWords(order.document)),
+    noun: phrases.answer.noun,
     draft: `answer/${word}`,
     content: [tools(waiting()), pasteAnswers(answers), lines, wrong, document.element],
     check: () => checked(waiting(), document, wrong),
@@ -113,9 +116,9 @@ export async function answerScreen(context, word) {
   return {
     title,
     content: [
-      element("p", { class: "back" }, link(["‹ Order ", documentNumber(order.document)], `entry/${word}`)),
-      heading("Answer order ", documentNumber(order.document)),
-      ...(waiting().length ? [form] : [saying("plain", "No line of this order waits for an answer."), lines]),
+      element("p", { class: "back" }, link(["‹ ", ...phrases.answer.order(documentNumber(order.document))], `entry/${word}`)),
+      heading(...phrases.answer.answerOrder(documentNumber(order.document))),
+      ...(waiting().length ? [form] : [saying("plain", phrases.answer.noneWaits), lines]),
       next,
     ],
   };
@@ -125,13 +128,13 @@ export async function answerScreen(context, word) {
 function tools(waiting) {
   const all = (/** @type {Answer} */ answer) => () => waiting.forEach((it) => it.choose(answer));
   return actions(
-    button(waiting.length === 1 ? "Accept the line" : `Accept all ${waiting.length} lines`, all("accepted"), { class: "accept-all" }),
-    button("Refuse all", all("refused"), { class: "quiet refuse-all" }),
+    button(phrases.answer.acceptAll(waiting.length), all("accepted"), { class: "accept-all" }),
+    button(phrases.answer.refuseAll, all("refused"), { class: "quiet refuse-all" }),
   );
 }
 
 /** @param {LineAnswer} it */
-const answerInFile = (it) => (it.waits ? it.answer ?? "" : it.known);
+const answerInFile = (it) => (it.waits ? it.answer && phrases.rows.written[it.answer] : it.known) ?? "";
 /** @param {LineAnswer} it */
 const quantityInFile = (it) => (it.waits && it.answer === "changed" ? it.quantity.trimmed : "");
 
@@ -139,16 +142,16 @@ const quantityInFile = (it) => (it.waits && it.answer === "changed" ? it.quantit
 function table(answers, order, articles) {
   const article = (/** @type {LineAnswer} */ { line: { gtin, line } }) => articleCell(gtin, articles.of({ gtin, order, line }));
   return new Table({
-    caption: "Lines of the order, each with your answer",
+    caption: phrases.answer.caption,
     kind: "answers",
     rows: answers,
     columns: [
-      { title: "Line", cell: (it) => it.line.line },
+      { title: phrases.common.line, cell: (it) => it.line.line },
       articleColumn((/** @type {LineAnswer} */ it) => it.line.gtin, article),
-      { title: "Ordered", cell: (it) => figure(it.line.quantity), number: true },
-      { title: "Open", cell: (it) => (it.line.status ? figure(it.line.status.open) : "–"), number: true },
-      { title: "Your answer", kind: "choice-cell", cell: (it) => (it.waits ? it.choices : it.known), csv: answerInFile },
-      { title: "Changed to", cell: (it) => (it.waits ? it.quantity.element : ""), csv: quantityInFile },
+      { title: phrases.common.ordered, cell: (it) => figure(it.line.quantity), number: true },
+      { title: phrases.common.open, cell: (it) => (it.line.status ? figure(it.line.status.open) : "–"), number: true },
+      { title: phrases.answer.yourAnswer, kind: "choice-cell", cell: (it) => (it.waits ? it.choices : it.known), csv: answerInFile },
+      { title: phrases.answer.changedTo, cell: (it) => (it.waits ? it.quantity.element : ""), csv: quantityInFile },
     ],
   }).element;
 }
@@ -163,7 +166,7 @@ function checked(waiting, document, wrong) {
   const fields = [...waiting.map((it) => it.quantity), document];
   const right = waiting.map((it) => it.check()).every(Boolean) && check(document, wrongNumber(document.value));
   const some = waiting.some((it) => it.answer);
-  wrong.replaceChildren(...(some ? [] : [saying("bad", "Choose an answer for at least one line.")]));
+  wrong.replaceChildren(...(some ? [] : [saying("bad", phrases.answer.chooseOne)]));
   if (!right) focusFirstWrong(fields);
   else if (!some) waiting[0].radios[0].input.focus();
   return right && some;
@@ -194,16 +197,16 @@ async function showAtItsPlace(session, code, { order, answers, document }) {
   const right = given.map((it) => it.check()).every(Boolean);
   const changed = given.filter((it) => it.answer === "changed");
   const ofQuantity = right && ["B08", "M08"].includes(code);
-  if (ofQuantity) changed.forEach((it) => it.quantity.say("The hub does not take one of the changed quantities."));
-  if (code === "M02") document.say("The hub does not take this number.");
+  if (ofQuantity) changed.forEach((it) => it.quantity.say(phrases.answer.wrongQuantities));
+  if (code === "M02") document.say(phrases.common.numberNotTaken);
   focusFirstWrong([...given.map((it) => it.quantity), document]);
 }
 
 /** @param {number} entry */
 function nextSteps(entry) {
   return actions(
-    link("Announce a despatch", `despatch/${entry}`, { class: "button primary" }),
-    link("Back to the order", `entry/${entry}`, { class: "button" }),
-    link("Mailbox", "mailbox", { class: "button quiet" }),
+    link(phrases.common.announceADespatch, `despatch/${entry}`, { class: "button primary" }),
+    link(phrases.answer.backToTheOrder, `entry/${entry}`, { class: "button" }),
+    link(phrases.mailbox.title, "mailbox", { class: "button quiet" }),
   );
 }

@@ -2,6 +2,7 @@
 // A cancellation: a quantity of an order line that is still open.
 
 import { cancellationText } from "../hub/cancellation.js";
+import { phrases } from "../language.js";
 import { cancellationInWords } from "../parts/cancellation_words.js";
 import { actions, button, element, figure, heading, link } from "../parts/dom.js";
 import { wrongNumber } from "../parts/document_number.js";
@@ -19,12 +20,14 @@ export async function cancelScreen(context, ...words) {
   const [supplier = session.supplier, order = "", line = ""] = words;
   const wrong = supplier && wrongGln(supplier);
   const open = supplier && order && !wrong ? await openOf(session, supplier, order, Number(line)) : null;
-  const hint = open === null ? "At most what is open." : `${figure(open)} are open.`;
+  const hint = open === null ? phrases.cancel.atMostOpen : phrases.cancel.areOpen(open);
+  const short = { inputmode: "numeric", class: "short" };
+  const { supplier: ofSupplier, order: ofOrder, line: ofLine, quantity: ofQuantity } = phrases.cancel;
   const fields = {
-    supplier: new Field({ label: "The supplier's GLN", value: supplier, inputmode: "numeric", maxlength: 20 }),
-    order: new Field({ label: "Order number", value: order, maxlength: 35 }),
-    line: new Field({ label: "Line", value: line, inputmode: "numeric", maxlength: 6, class: "short" }),
-    quantity: new Field({ label: "Quantity to cancel", hint, inputmode: "numeric", maxlength: 9, class: "short" }),
+    supplier: new Field({ label: ofSupplier, field: "cancel.supplier", value: supplier, inputmode: "numeric", maxlength: 20 }),
+    order: new Field({ label: ofOrder, field: "cancel.order", value: order, maxlength: 35 }),
+    line: new Field({ label: ofLine, field: "cancel.line", value: line, maxlength: 6, ...short }),
+    quantity: new Field({ label: ofQuantity, field: "cancel.quantity", hint, maxlength: 9, ...short }),
   };
   const all = Object.values(fields);
   fields.supplier.say(wrong);
@@ -33,7 +36,7 @@ export async function cancelScreen(context, ...words) {
     context,
     kind: "cancellation",
     what: () => cancellationInWords({ order: fields.order.value, line: fields.line.trimmed, quantity: fields.quantity.trimmed }),
-    noun: "cancellation",
+    noun: phrases.cancel.noun,
     draft: ["cancel", ...words].join("/"),
     content: all.map((it) => it.element),
     check: () => checked(fields, all),
@@ -41,19 +44,19 @@ export async function cancelScreen(context, ...words) {
     write: ({ reference }) => bodyOf(fields, reference),
     settled: ({ outcome, code }) => {
       if (outcome !== "refused") next.replaceChildren(nextSteps(fields.supplier.trimmed, go));
-      else if (PLACES[code]) fields[PLACES[code]].say(`The hub refused this (${code}).`);
+      else if (PLACES[code]) fields[PLACES[code]].say(phrases.cancel.hubRefused(code));
       focusFirstWrong(all);
     },
   });
-  const content = [heading("Cancel a quantity"), element("div", { class: "narrow" }, form, next)];
-  return { title: "Cancel", content, focus: wrong ? fields.supplier.input : undefined };
+  const content = [heading(phrases.cancel.heading), element("div", { class: "narrow" }, form, next)];
+  return { title: phrases.cancel.title, content, focus: wrong ? fields.supplier.input : undefined };
 }
 
 /** @param {string} supplier @param {(to: string) => void} go */
 function nextSteps(supplier, go) {
   return actions(
-    link("Status of this supplier", `supplier/${supplier}`, { class: "button primary" }),
-    button("Another cancellation", () => go(`cancel/${supplier}`)),
+    link(phrases.common.statusOfThisSupplier, `supplier/${supplier}`, { class: "button primary" }),
+    button(phrases.cancel.another, () => go(`cancel/${supplier}`)),
   );
 }
 
@@ -61,9 +64,8 @@ function nextSteps(supplier, go) {
  * @returns {import("../parts/summary.js").SummaryWords} */
 function summaryOf({ supplier, order, line, quantity }, open) {
   const [ofLine, pieces] = [wholeNumber(line.value), wholeNumber(quantity.value)].map(figure);
-  const of = `, line ${ofLine}, of supplier ${supplier.trimmed}.`;
-  const left = open === null ? "" : ` ${figure(open)} were open when this screen was opened.`;
-  return { lead: [`You are cancelling ${pieces} of order `, documentNumber(order.value), of, left] };
+  const left = open === null ? "" : ` ${phrases.cancel.wereOpen(open)}`;
+  return { lead: [...phrases.cancel.lead(pieces, documentNumber(order.value), ofLine, supplier.trimmed), left] };
 }
 
 /** @param {import("../session.js").Session} session @param {string} supplier @param {string} order @param {number} line */
@@ -78,8 +80,8 @@ function checked(fields, all) {
   const right = [
     check(fields.supplier, wrongGln(fields.supplier.trimmed)),
     check(fields.order, wrongNumber(fields.order.value)),
-    check(fields.line, line >= 1 && line <= 999_999 ? "" : "A line is a number from 1 to 999,999."),
-    check(fields.quantity, wholeNumber(fields.quantity.value) >= 1 ? "" : "Give a whole number from 1 on."),
+    check(fields.line, line >= 1 && line <= 999_999 ? "" : phrases.cancel.wrongLine),
+    check(fields.quantity, wholeNumber(fields.quantity.value) >= 1 ? "" : phrases.cancel.fromOne),
   ].every(Boolean);
   if (!right) focusFirstWrong(all);
   return right;

@@ -3,13 +3,13 @@
 
 import { Articles } from "../articles.js";
 import { cancelQueueOf } from "../hub/cancel_queue.js";
+import { phrases } from "../language.js";
 import { cancellationInWords, severalInWords } from "../parts/cancellation_words.js";
-import { actions, button, counted, element, figure, heading, link, saying } from "../parts/dom.js";
+import { actions, button, element, heading, link, saying } from "../parts/dom.js";
 import { enterMoves } from "../parts/enter_moves.js";
 import { Field, check, focusFirstWrong, wholeNumber } from "../parts/field.js";
 import { wrongGln } from "../parts/gln.js";
 import { orderInWords } from "../parts/order_number.js";
-import { FIRST } from "../parts/sending_panel.js";
 import { Summary } from "../parts/summary.js";
 import { Table } from "../parts/table.js";
 import { ChosenLines } from "../suppliers/chosen_lines.js";
@@ -21,11 +21,11 @@ import { lineColumns } from "./status.js";
 /** @typedef {import("../hub/cancel_queue.js").CancelQueue} CancelQueue */
 /** @typedef {StatusLine & { field: Field }} Row */
 
-const WITHOUT = ["Refused", "Cancelled", "Shares"];
+const WITHOUT = ["refused", "cancelled", "shares"];
 
 /** @param {import("../start.js").Context} context @param {string} [supplier] */
 export async function cancelLinesScreen({ session }, supplier = "") {
-  const title = "Cancel lines";
+  const title = phrases.cancelLines.title;
   const wrong = wrongGln(supplier);
   if (wrong) return { title, content: [heading(title), saying("bad", wrong)] };
   const name = (await plannerOf(session)).list.nameOf(supplier);
@@ -34,17 +34,17 @@ export async function cancelLinesScreen({ session }, supplier = "") {
   const results = new CancelResults(queue, supplier);
   const lines = chosen.chosen.length ? (await session.status(supplier)).lines : [];
   const form = new CancelForm({ supplier, name, queue, chosen, results, lines });
-  const back = element("p", { class: "back" }, link("‹ Status of this supplier", `supplier/${supplier}`));
+  const back = element("p", { class: "back" }, link(`‹ ${phrases.common.statusOfThisSupplier}`, `supplier/${supplier}`));
   const shown = form.rows.length ? form.element : null;
   const none = noneChosen(form, queue.of(supplier).length);
-  const content = [back, heading(name ? `${title} of ${name}` : title), shown, none, results.element];
+  const content = [back, heading(name ? phrases.cancelLines.titleOf(name) : title), shown, none, results.element];
   return { title, content, leave: results.follow() };
 }
 
 /** @param {CancelForm} form @param {number} sent */
 function noneChosen({ rows, gone }, sent) {
-  const left = gone.length ? `Nothing is open any more, so this is left out: ${gone.join("; ")}. ` : "";
-  const none = rows.length || sent ? "" : "No line is chosen. Tick lines in the status of this supplier.";
+  const left = gone.length ? `${phrases.cancelLines.gone(gone.join("; "))} ` : "";
+  const none = rows.length || sent ? "" : phrases.cancelLines.noneChosen;
   return left || none ? saying("plain", left, none) : null;
 }
 
@@ -60,20 +60,21 @@ class CancelForm {
     this.rows = this.#rowsOf(lines);
     this.gone = this.#dropGone(lines);
     this.first = element("div", { role: "alert" });
-    const checkButton = button("Check cancellations", () => this.review(), { class: "primary" });
-    const all = button("Fill in all that is open", () => this.fillAll(), { class: "quiet" });
-    const table = new Table({ caption: "Lines to cancel", kind: "lines answers", columns: columns(), rows: this.rows });
+    const checkButton = button(phrases.cancelLines.check, () => this.review(), { class: "primary" });
+    const all = button(phrases.cancelLines.fillAll, () => this.fillAll(), { class: "quiet" });
+    const table = new Table({ caption: phrases.cancelLines.caption, kind: "lines answers", columns: columns(), rows: this.rows });
     this.fields = /** @type {HTMLFieldSetElement} */ (
       element("fieldset", { class: "bare" }, actions(all), table.element, actions(checkButton))
     );
-    this.summary = new Summary("cancellations", () => this.send(), () => this.edit());
+    this.summary = new Summary(phrases.cancelLines.noun, () => this.send(), () => this.edit());
     const parts = [this.fields, this.first, this.summary.element];
     this.element = element("form", { novalidate: true, onsubmit: (event) => event.preventDefault() }, ...parts);
     enterMoves(this.fields, checkButton);
     this.note();
   }
 
-  /** The chosen lines that are open, without those that wait for their turn already. @param {StatusLine[]} lines @returns {Row[]} */
+  /** The chosen lines that are open, without those that wait for their turn already.
+   * @param {StatusLine[]} lines @returns {Row[]} */
   #rowsOf(lines) {
     const waiting = this.queue.of(this.supplier).filter((it) => it.sending.state === "review");
     const isSent = (/** @type {StatusLine} */ it) => waiting.some(({ line }) => line.order === it.order && line.line === it.line);
@@ -83,7 +84,7 @@ class CancelForm {
 
   /** @param {StatusLine} line */
   #field(line) {
-    const label = `Quantity to cancel of order ${orderInWords(line)}, line ${line.line}`;
+    const label = phrases.cancelLines.quantityOf(orderInWords(line), line.line);
     const value = this.chosen.of(line)?.quantity ?? "";
     const field = new Field({ label, hidden: true, value, inputmode: "numeric", maxlength: 9, class: "short" });
     field.input.addEventListener("input", () => {
@@ -100,13 +101,13 @@ class CancelForm {
       lines.some(({ order, line, open }) => open > 0 && order === it.order && line === it.line);
     const gone = this.chosen.chosen.filter((it) => !isOpen(it));
     gone.forEach((it) => this.chosen.drop(it));
-    return gone.map((it) => `order ${orderInWords(it)}, line ${it.line}`);
+    return gone.map((it) => phrases.common.orderLine(orderInWords(it), it.line));
   }
 
   /** Notes whether there is typed work. */
   note() {
     const count = this.given.length;
-    if (count) this.element.dataset.typed = `Your cancellation of ${counted(count, "line")}`;
+    if (count) this.element.dataset.typed = phrases.cancelLines.what(count);
     else delete this.element.dataset.typed;
   }
 
@@ -130,7 +131,7 @@ class CancelForm {
     const waits = this.queue.list.unsettled.length > 0;
     const right = this.rows.map(({ field, open }) => check(field, wrongQuantity(field.trimmed, open))).every(Boolean);
     const none = right && !this.given.length;
-    const wrong = waits ? saying("warn", FIRST) : none ? saying("bad", "Give a quantity for at least one line.") : null;
+    const wrong = waits ? saying("warn", phrases.sending.first) : none ? saying("bad", phrases.cancelLines.giveOne) : null;
     this.first.replaceChildren(...(wrong ? [wrong] : []));
     if (!right) focusFirstWrong(this.rows.map((it) => it.field));
     else if (none) this.rows[0].field.input.focus();
@@ -142,9 +143,9 @@ class CancelForm {
   inSummary() {
     const { given } = this;
     const rows = given.map(({ line, quantity }) => [
-      `Order ${orderInWords(line)}, line ${line.line}: ${figure(quantity)} of ${figure(line.open)} that are open`,
+      phrases.cancelLines.inSummary(orderInWords(line), line.line, quantity, line.open),
     ]);
-    return { lead: [`You cancel ${severalInWords(given)}, of supplier ${this.named}.`], rows };
+    return { lead: [phrases.cancelLines.lead(severalInWords(given), this.named)], rows };
   }
 
   edit() {
@@ -175,11 +176,11 @@ class CancelForm {
 /** @param {string} text @param {number} open */
 function wrongQuantity(text, open) {
   const quantity = wholeNumber(text);
-  return text === "" || (quantity >= 1 && quantity <= open) ? "" : `Give a whole number from 1 to ${figure(open)}.`;
+  return text === "" || (quantity >= 1 && quantity <= open) ? "" : phrases.cancelLines.giveANumber(open);
 }
 
 /** @returns {import("../parts/table.js").Column<Row>[]} */
 const columns = () => [
   ...lineColumns(new Articles(), ...WITHOUT),
-  { title: "To cancel", cell: ({ field }) => field.element, csv: ({ field }) => field.trimmed },
+  { title: phrases.cancelLines.toCancel, cell: ({ field }) => field.element, csv: ({ field }) => field.trimmed },
 ];

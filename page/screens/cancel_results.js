@@ -3,7 +3,8 @@
 
 import { Articles } from "../articles.js";
 import { isSettled } from "../hub/sending_states.js";
-import { actions, button, counted, element, figure, link, notice, saying } from "../parts/dom.js";
+import { phrases } from "../language.js";
+import { actions, button, element, figure, link, notice, saying } from "../parts/dom.js";
 import { orderNumber } from "../parts/order_number.js";
 import { Table } from "../parts/table.js";
 import { verdictPlace } from "../parts/verdict.js";
@@ -12,17 +13,15 @@ import { lineColumns } from "./status.js";
 /** @typedef {import("../hub/cancel_queue.js").CancelQueue} CancelQueue */
 /** @typedef {import("../hub/cancel_queue.js").Item} Item */
 
-const PAUSED = "A cancellation got no answer, so those after it wait. Send it again first, or continue with the rest.";
-
 export class CancelResults {
   /** @param {CancelQueue} queue @param {string} supplier */
   constructor(queue, supplier) {
     this.queue = queue;
     this.supplier = supplier;
     this.said = element("div", { class: "happened", role: "status", tabindex: "-1" });
-    this.table = new Table({ caption: "Cancellations", kind: "sent", columns: columns(), rows: queue.of(supplier) });
-    const next = actions(link("Status of this supplier", `supplier/${supplier}`, { class: "button" }));
-    this.body = element("div", { hidden: true }, element("h2", {}, "What became of them"), this.said, this.table.element, next);
+    this.table = new Table({ caption: phrases.cancelResults.caption, kind: "sent", columns: columns(), rows: queue.of(supplier) });
+    const next = actions(link(phrases.common.statusOfThisSupplier, `supplier/${supplier}`, { class: "button" }));
+    this.body = element("div", { hidden: true }, element("h2", {}, phrases.cancelResults.title), this.said, this.table.element, next);
     this.element = element("section", {}, this.body);
     this.drawn = "";
     this.draw();
@@ -49,7 +48,8 @@ export class CancelResults {
   }
 
   paused() {
-    return notice("warn", element("p", {}, PAUSED), button("Continue with the rest", () => void this.queue.proceed()));
+    const rest = button(phrases.common.continueWithTheRest, () => void this.queue.proceed());
+    return notice("warn", element("p", {}, phrases.cancelResults.paused), rest);
   }
 }
 
@@ -64,21 +64,19 @@ const kindOf = (items) => (!isDone(items) ? "plain" : accepted(items) === items.
 
 /** @param {Item[]} items */
 function inWords(items) {
-  const all = counted(items.length, "cancellation");
-  if (!isDone(items)) return `Sending ${all}, one after another…`;
+  if (!isDone(items)) return phrases.cancelResults.sending(items.length);
   const done = accepted(items);
-  const not = items.length - done;
-  return `${all}: ${[done ? `${figure(done)} accepted` : "", not ? `${figure(not)} not accepted` : ""].filter(Boolean).join(", ")}.`;
+  return phrases.cancelResults.done(items.length, done, items.length - done);
 }
 
 /** @returns {import("../parts/table.js").Column<Item>[]} */
 function columns() {
   const [, , article] = lineColumns(new Articles());
   return [
-    { title: "Order", cell: ({ line }) => orderNumber(line), value: ({ line }) => line.order },
-    { title: "Line", cell: ({ line }) => line.line, value: ({ line }) => line.line },
+    { title: phrases.common.order, cell: ({ line }) => orderNumber(line), value: ({ line }) => line.order },
+    { title: phrases.common.line, cell: ({ line }) => line.line, value: ({ line }) => line.line },
     { title: article.title, kind: article.kind, cell: ({ line }) => article.cell(line), value: ({ line }) => line.gtin },
-    { title: "Cancelled", cell: ({ quantity }) => figure(quantity), value: ({ quantity }) => quantity, number: true },
-    { title: "What the hub said", cell: ({ sending }) => verdictPlace(sending, undefined, null) },
+    { title: phrases.common.cancelled, cell: ({ quantity }) => figure(quantity), value: ({ quantity }) => quantity, number: true },
+    { title: phrases.common.whatTheHubSaid, cell: ({ sending }) => verdictPlace(sending, undefined, null) },
   ];
 }

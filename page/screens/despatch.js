@@ -7,6 +7,7 @@ import { interchangeText } from "../edi/envelope.js";
 import { day } from "../edi/dates.js";
 import { despatchText } from "../edi/despatch.js";
 import { isSscc } from "../edi/identifiers.js";
+import { phrases } from "../language.js";
 import { actions, button, element, heading, link, saying } from "../parts/dom.js";
 import { proposedNumber, wrongNumber } from "../parts/document_number.js";
 import { Field, check, focusFirstWrong } from "../parts/field.js";
@@ -31,10 +32,12 @@ class DespatchForm {
     this.ledger = new Ledger();
     /** @type {StatusLine[]} */
     this.open = [];
+    /** @type {Set<string>} */
+    this.used = new Set();
     this.know(status);
     this.orders = new OrderChoice(this.open, order, () => this.offer());
-    const hint = "Your delivery note's. Each is used once.";
-    this.document = new Field({ label: "Number of the despatch", hint, value: proposedNumber(), maxlength: 35 });
+    const hint = phrases.despatch.numberHint;
+    this.document = new Field({ label: phrases.despatch.number, field: "despatch.number", hint, value: proposedNumber(), maxlength: 35 });
     this.pallets = new Pallets({ session, ledger: this.ledger, articles, used: () => this.used });
     this.left = new LeftLines(this.ledger, articles);
     this.ledger.addEventListener("change", () => this.left.draw());
@@ -47,7 +50,8 @@ class DespatchForm {
     return this.pallets.sscc;
   }
 
-  /** What the hub's status says now; a line that was offered stays, though nothing of it may be open any more. @param {Status} status */
+  /** What the hub's status says now; a line that was offered stays, though nothing of it may be open any more.
+   * @param {Status} status */
   know(status) {
     const offered = new Set(this.open.map(nameOf));
     this.open = status.lines.filter((it) => !it.unsure && (it.open > 0 || offered.has(nameOf(it))));
@@ -72,7 +76,8 @@ class DespatchForm {
     if (!this.session.sent.unsettled.length) this.sscc.held.end();
   }
 
-  /** Puts pasted rows on the pallets, and chooses the orders that they name. @param {import("./paste_pallets.js").Placing[]} rows */
+  /** Puts pasted rows on the pallets, and chooses the orders that they name.
+   * @param {import("./paste_pallets.js").Placing[]} rows */
   place(rows) {
     this.orders.choose(rows.map((it) => it.line.order));
     return this.pallets.place(rows);
@@ -110,7 +115,8 @@ class DespatchForm {
     return false;
   }
 
-  /** The message, or null while a pallet is not complete. @param {Date} moment @param {string} buyer */
+  /** The message, or null while a pallet is not complete.
+   * @param {Date} moment @param {string} buyer */
   message(moment, buyer) {
     const pallets = this.pallets.all;
     if (pallets.some((it) => !it.load.size || !isSscc(it.number))) return null;
@@ -121,17 +127,18 @@ class DespatchForm {
     return despatchText({ document: this.document.value, date: day(moment), buyer, supplier: this.session.hub.caller, units });
   }
 
-  /** Says what the hub refused at the fields that its code speaks of, by the status as it is now. @param {string} code */
+  /** Says what the hub refused at the fields that its code speaks of, by the status as it is now.
+   * @param {string} code */
   async showRefusal(code) {
     this.know(await this.session.status());
     this.offer();
     if (this.check()) {
-      if (code === "B13") this.document.say("You have sent a despatch advice of this number before. Take another one.");
-      if (code === "M02") this.document.say("The hub does not take this number.");
-      if (code === "B11") this.sayAtPallets("The hub says that an SSCC is under none of your prefixes. Look at this one.");
-      if (code === "B12") this.sayAtPallets("The hub says that an SSCC was used before, by you or another. Renumber the pallets.");
+      if (code === "B13") this.document.say(phrases.despatch.numberUsed);
+      if (code === "M02") this.document.say(phrases.common.numberNotTaken);
+      if (code === "B11") this.sayAtPallets(phrases.despatch.otherPrefix);
+      if (code === "B12") this.sayAtPallets(phrases.despatch.ssccUsed);
       const unknown = ["B05", "B06", "B09"].includes(code);
-      if (unknown) this.wrong.replaceChildren(saying("bad", "The hub does not know one of these order lines. Open the form again."));
+      if (unknown) this.wrong.replaceChildren(saying("bad", phrases.despatch.unknownLine));
     }
     focusFirstWrong(this.fields);
   }
@@ -148,11 +155,11 @@ export async function despatchScreen(context, word) {
   const entry = word ? await session.entry(Number(word)) : null;
   const parties = await session.parties();
   const status = await session.status(undefined, (it) => it.open > 0);
-  const title = "Announce a despatch";
+  const title = phrases.common.announceADespatch;
   const orders = [...new Set(status.lines.filter((it) => it.open > 0 && !it.unsure).map((it) => it.order))];
   const unsure = unsureNotice(status);
   if (!parties || !orders.length) {
-    const nothing = saying("plain", "Nothing is open: there is nothing to despatch.");
+    const nothing = saying("plain", phrases.despatch.nothingOpen);
     return { title, content: [heading(title), ...(unsure.length ? unsure : [nothing])] };
   }
   const form = new DespatchForm(session, status, entry?.order?.document ?? (orders.length === 1 ? orders[0] : null));
@@ -162,8 +169,8 @@ export async function despatchScreen(context, word) {
   const sending = await sendingForm({
     context,
     kind: "document",
-    what: () => `Your despatch advice ${form.document.value}`,
-    noun: "despatch advice",
+    what: () => phrases.despatch.what(form.document.value),
+    noun: phrases.despatch.noun,
     draft: `despatch/${word ?? ""}`,
     content: contentOf(form, unsure),
     prepare: (draft) => form.pallets.makeRoom(palletsIn(draft)),
@@ -190,7 +197,7 @@ export async function despatchScreen(context, word) {
 /** @param {Status} status */
 function unsureNotice({ lines }) {
   const numbers = [...new Set(lines.filter((it) => it.unsure && it.open > 0).map((it) => it.order))];
-  const words = (/** @type {string} */ it) => `Several orders are called ${it}, but for blanks at the end. Open each in the mailbox first.`;
+  const words = (/** @type {string} */ it) => phrases.despatch.severalOrders(it);
   return numbers.map((it) => saying("warn", words(it)));
 }
 
@@ -201,8 +208,8 @@ function contentOf(form, unsure) {
   const ssccs = () => pallets.all.map((it) => it.number);
   const paste = pastePallets({ lines: () => form.open, pallets: ssccs, place: (rows) => form.place(rows) });
   const seen = actions(
-    button("Collapse all pallets", () => pallets.collapseAll(true), { class: "quiet collapse" }),
-    button("Expand all pallets", () => pallets.collapseAll(false), { class: "quiet expand" }),
+    button(phrases.despatch.collapse, () => pallets.collapseAll(true), { class: "quiet collapse" }),
+    button(phrases.despatch.expand, () => pallets.collapseAll(false), { class: "quiet expand" }),
   );
   const overall = [form.orders.element, paste, form.left.element, seen];
   return [element("div", { class: "columns" }, ...fields), ...unsure, ...overall, pallets.element, tools(form), form.wrong];
@@ -215,16 +222,16 @@ function tools(form) {
     pallet.sscc.input.focus();
     form.pallets.tools.changed();
   };
-  const renumber = button("Renumber the pallets without a label", () => form.renumber(), { class: "renumber" });
-  return actions(button("Add a pallet", add, { class: "add" }), renumber, form.renumbered);
+  const renumber = button(phrases.despatch.renumber, () => form.renumber(), { class: "renumber" });
+  return actions(button(phrases.despatch.add, add, { class: "add" }), renumber, form.renumbered);
 }
 
 /** @param {(to: string) => void} go @param {string} sent the reference of what was sent */
 function nextSteps(go, sent) {
   return actions(
-    link("Labels", labelsAddress(sent), { class: "button primary" }),
-    link("Status", "status", { class: "button" }),
-    button("Another despatch", () => go("despatch")),
-    link("Mailbox", "mailbox", { class: "button quiet" }),
+    link(phrases.common.labels, labelsAddress(sent), { class: "button primary" }),
+    link(phrases.common.status, "status", { class: "button" }),
+    button(phrases.despatch.another, () => go("despatch")),
+    link(phrases.mailbox.title, "mailbox", { class: "button quiet" }),
   );
 }

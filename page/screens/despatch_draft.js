@@ -3,15 +3,21 @@
 // kept apart from the fields.
 
 import { nameOf } from "../despatch/ledger.js";
+import { phrases } from "../language.js";
 import { orderInWords } from "../parts/order_number.js";
 
 /** @typedef {import("./pallet.js").Pallet} Pallet */
 /** @typedef {import("../despatch/ledger.js").Ledger} Ledger */
 
-/** How many pallets a draft has. @param {import("../parts/form_content.js").FormContent} draft */
-export const palletsIn = (draft) => new Set(Object.keys(draft).map((it) => it.split("\n")[0]).filter((it) => /^Pallet \d+$/.test(it))).size;
+/** How many pallets a draft has.
+ * @param {import("../parts/form_content.js").FormContent} draft */
+export function palletsIn(draft) {
+  const groups = Object.keys(draft).map((it) => it.split("\n")[0]);
+  return new Set(groups.filter((it) => /^pallets\.pallet\/\d+$/.test(it))).size;
+}
 
-/** What was typed for each line, pallet by pallet. @param {Pallet[]} pallets */
+/** What was typed for each line, pallet by pallet.
+ * @param {Pallet[]} pallets */
 export const quantitiesOn = (pallets) => `[${pallets.map((it) => it.load.written).join(",")}]`;
 
 /** Puts quantities back on the pallets, and returns in words those that found no line.
@@ -25,7 +31,7 @@ export function putOnPallets(quantities, pallets, ledger) {
       const line = lines.get(name);
       const [order, number] = name.split("\n");
       if (line && pallets[place]) pallets[place].load.set(line, text);
-      else lost.push(`Pallet ${place + 1}: Quantity of order ${orderInWords({ order })}, line ${number}`);
+      else lost.push(`${phrases.pallets.pallet(place + 1)}: ${phrases.palletLines.quantityOf(orderInWords({ order }), number)}`);
     }
   });
   return lost;

@@ -2,7 +2,7 @@
 // One entry of the mailbox: an order or a receiving advice as a page that one can print; anything else as it stands.
 
 import { articlesOf } from "../articles.js";
-import { TYPES } from "../hub/codes.js";
+import { phrases } from "../language.js";
 import { button, element, heading, link, saying } from "../parts/dom.js";
 import { downloadButton } from "../parts/download.js";
 import { documentNumber, numberInWords } from "../parts/order_number.js";
@@ -16,50 +16,50 @@ export async function entryScreen(context, word) {
   if (!entry) return missing(word);
   const record = entry.order ?? entry.receipt;
   const type = entry.interchange?.messages[0]?.type ?? "";
-  const title = record ? `${TYPES[type]} ${numberInWords(record.document)}` : `Entry ${word}`;
+  const title = record ? `${phrases.types[type]} ${numberInWords(record.document)}` : phrases.common.entry(word);
   return {
     title,
     content: [
-      element("p", { class: "back no-print" }, link("‹ Mailbox", "mailbox")),
-      heading(record ? `${TYPES[type]} ` : title, record ? documentNumber(record.document) : null),
+      element("p", { class: "back no-print" }, link(`‹ ${phrases.mailbox.title}`, "mailbox")),
+      heading(record ? `${phrases.types[type]} ` : title, record ? documentNumber(record.document) : null),
       actions(context, entry),
       ...(await content(context, entry)),
-      rawDetails("The interchange as the hub gave it", entry.text, !record),
+      rawDetails(phrases.entry.asGiven, entry.text, !record),
     ],
   };
 }
 
 /** @param {string} word */
 const missing = (word) => ({
-  title: "No such entry",
-  content: [heading("No such entry"), element("p", {}, `Your mailbox has no entry ${word}. `, link("Mailbox", "mailbox"))],
+  title: phrases.entry.missing,
+  content: [heading(phrases.entry.missing), element("p", {}, `${phrases.entry.hasNo(word)} `, link(phrases.mailbox.title, "mailbox"))],
 });
 
 /** @param {import("../start.js").Context} context @param {import("../session.js").Entry} entry */
 async function content(context, entry) {
   if (entry.order) return orderView(entry.order, entry, await context.session.status());
   if (entry.receipt) return receiptView(entry.receipt, entry, await context.session.status(), articlesOf(context.session));
-  return [saying("warn", "The page does not understand this entry. It stands below as the hub gave it.")];
+  return [saying("warn", phrases.entry.notUnderstood)];
 }
 
 /** @param {import("../start.js").Context} context @param {import("../session.js").Entry} entry */
 function actions({ session }, entry) {
   const said = element("span", { class: "said", role: "status" });
-  const take = button("Mark as taken", async () => {
+  const take = button(phrases.common.markAsTaken, async () => {
     await session.hub.takeMail(entry.number);
     session.taken.add(entry.number);
     take.disabled = true;
-    said.textContent = "Marked as taken: it is no longer listed as new.";
+    said.textContent = phrases.entry.marked;
   });
   const file = `${entry.order ? "order" : "entry"}-${entry.number}.edi`;
   return element(
     "div",
     { class: "actions no-print" },
-    entry.order ? link("Answer", `answer/${entry.number}`, { class: "button primary" }) : null,
-    entry.order ? link("Announce a despatch", `despatch/${entry.number}`, { class: "button" }) : null,
+    entry.order ? link(phrases.today.answer, `answer/${entry.number}`, { class: "button primary" }) : null,
+    entry.order ? link(phrases.common.announceADespatch, `despatch/${entry.number}`, { class: "button" }) : null,
     take,
-    downloadButton("Download .edi", file, entry.text),
-    button("Print", () => window.print(), { class: "quiet" }),
+    downloadButton(phrases.common.downloadEdi, file, entry.text),
+    button(phrases.entry.print, () => window.print(), { class: "quiet" }),
     said,
   );
 }

@@ -8,17 +8,17 @@ import { despatchNote } from "../labels/despatch_note.js";
 import { label } from "../labels/label.js";
 import { ordersIn, partiesOf } from "../labels/parties.js";
 import { SIZES } from "../labels/sizes.js";
+import { phrases } from "../language.js";
 import { actions, button, element, heading, link, newId, saying } from "../parts/dom.js";
 import { documentNumber, numberInWords } from "../parts/order_number.js";
 
 /** @typedef {import("../edi/despatch.js").Despatch} Despatch */
 /** @typedef {import("../hub/sending.js").Sending} Sending */
 /** @typedef {import("../session.js").Session} Session */
-
-const HINT = "Two labels for each pallet, one a page: put them on two sides that meet. Print at 100 %, without fitting to the page.";
 const COPIES = 2;
 
-/** The despatch advice that a sending is, once the hub has accepted it; else null. @param {Sending} sending @returns {Despatch | null} */
+/** The despatch advice that a sending is, once the hub has accepted it; else null.
+ * @param {Sending} sending @returns {Despatch | null} */
 export function acceptedDespatch({ state, facts }) {
   if (state !== "accepted" || facts.kind !== "document" || !facts.text.includes("+DESADV:")) return null;
   const message = readInterchange(facts.text)?.messages[0];
@@ -37,12 +37,12 @@ export async function labelsScreen({ session }, id) {
   const papers = element("div", { class: "papers" }, element("div", { class: "labels" }));
   const parties = partiesOf(session, despatch, despatch.units.flatMap((it) => it.lines));
   papers.append(despatchNote(despatch, parties, articlesOf(session)));
-  const title = `Labels of despatch ${numberInWords(despatch.document)}`;
+  const title = phrases.labels.titleOf(numberInWords(despatch.document)).join("");
   return {
     title,
     content: [
-      element("p", { class: "back no-print" }, link("‹ Sent", "sent")),
-      element("div", { class: "no-print" }, heading("Labels of despatch ", documentNumber(despatch.document))),
+      element("p", { class: "back no-print" }, link(`‹ ${phrases.sent.title}`, "sent")),
+      element("div", { class: "no-print" }, heading(...phrases.labels.titleOf(documentNumber(despatch.document)))),
       tools(session, despatch, papers),
       papers,
     ],
@@ -50,11 +50,11 @@ export async function labelsScreen({ session }, id) {
 }
 
 const missing = () => ({
-  title: "No labels",
+  title: phrases.labels.none,
   content: [
-    heading("No labels"),
-    saying("plain", "This tab has no accepted despatch under this address. Labels can be printed until you sign out or close the tab."),
-    link("Sent", "sent", { class: "button" }),
+    heading(phrases.labels.none),
+    saying("plain", phrases.labels.noneHere),
+    link(phrases.sent.title, "sent", { class: "button" }),
   ],
 });
 
@@ -67,7 +67,8 @@ async function knowOrders(session, despatch) {
   await session.status(undefined, (it) => orders.has(it.order)).catch(() => null);
 }
 
-/** The choice of the size, and what is printed. @param {Session} session @param {Despatch} despatch @param {HTMLElement} papers */
+/** The choice of the size, and what is printed.
+ * @param {Session} session @param {Despatch} despatch @param {HTMLElement} papers */
 function tools(session, despatch, papers) {
   const name = newId("size");
   const draw = (/** @type {import("../labels/sizes.js").Size} */ size) =>
@@ -77,16 +78,16 @@ function tools(session, despatch, papers) {
     return element("label", { class: "choice" }, element("input", words), element("span", {}, size.name));
   });
   draw(SIZES[0]);
-  const legend = element("legend", {}, "Size of the labels");
+  const legend = element("legend", {}, phrases.labels.size);
   return element(
     "div",
     { class: "no-print" },
-    element("p", { class: "lead" }, HINT),
+    element("p", { class: "lead" }, phrases.labels.hint),
     element("fieldset", { class: "label-sizes" }, legend, element("div", { class: "choices" }, ...choices)),
     actions(
-      button("Print labels", () => print(papers, "labels"), { class: "primary" }),
-      button("Print despatch note", () => print(papers, "note")),
-      link("Status", "status", { class: "button quiet" }),
+      button(phrases.labels.print, () => print(papers, "labels"), { class: "primary" }),
+      button(phrases.labels.printNote, () => print(papers, "note")),
+      link(phrases.common.status, "status", { class: "button quiet" }),
     ),
   );
 }
@@ -95,7 +96,7 @@ function tools(session, despatch, papers) {
 function labels(session, despatch, size) {
   const articles = articlesOf(session);
   return despatch.units.flatMap((unit, place) => {
-    const name = `Label of pallet ${place + 1} of ${despatch.units.length}`;
+    const name = phrases.labels.ofPallet(place + 1, despatch.units.length);
     const words = { unit, name, despatch: despatch.document, ...partiesOf(session, despatch, unit.lines) };
     return Array.from({ length: COPIES }, (_, copy) => label(words, size, articles, copy > 0));
   });

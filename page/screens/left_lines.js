@@ -2,8 +2,9 @@
 // Shows what is left of each order line, while pallets are filled.
 
 import { nameOf } from "../despatch/ledger.js";
+import { phrases } from "../language.js";
 import { articleCell, articleColumn } from "../parts/article.js";
-import { counted, element, figure } from "../parts/dom.js";
+import { element, figure } from "../parts/dom.js";
 import { orderNumber } from "../parts/order_number.js";
 import { Table } from "../parts/table.js";
 import { showLeft } from "./pallet_lines.js";
@@ -18,7 +19,7 @@ export class LeftLines {
     this.ledger = ledger;
     /** @type {Map<StatusLine, Row>} */
     this.rows = new Map();
-    const words = { caption: "What is left of the lines", kind: "left-lines", empty: "All that is open is on your pallets." };
+    const words = { caption: phrases.leftLines.caption, kind: "left-lines", empty: phrases.leftLines.empty };
     /** @type {Table<Row>} */
     this.table = new Table({ ...words, columns: columns(ledger, articles), rows: [] });
     this.summary = element("summary", {});
@@ -54,19 +55,18 @@ function inWords(left, count) {
   const more = left.filter((it) => it > 0);
   const less = left.length - more.length;
   const pieces = more.reduce((all, it) => all + it, 0);
-  const some = `Left: ${counted(pieces, "piece")} of ${figure(more.length)} of ${counted(count, "line")}`;
-  const words = more.length ? some : "Nothing is left";
-  return less ? `${words}; too much of ${counted(less, "line")}` : words;
+  const words = more.length ? phrases.leftLines.left(pieces, more.length, count) : phrases.leftLines.nothing;
+  return less ? `${words}; ${phrases.leftLines.tooMuch(less)}` : words;
 }
 
 /** @param {Ledger} ledger @param {import("../articles.js").Articles} articles @returns {import("../parts/table.js").Column<Row>[]} */
 function columns(ledger, articles) {
   return [
-    { title: "Order", cell: (it) => orderNumber(it.line) },
-    { title: "Line", cell: (it) => it.line.line },
+    { title: phrases.common.order, cell: (it) => orderNumber(it.line) },
+    { title: phrases.common.line, cell: (it) => it.line.line },
     articleColumn((/** @type {Row} */ it) => it.line.gtin, ({ line }) => articleCell(line.gtin, articles.of(line))),
-    { title: "Open", cell: (it) => figure(it.line.open), csv: (it) => it.line.open, number: true },
-    { title: "On your pallets", cell: (it) => it.placed, csv: (it) => ledger.tally(nameOf(it.line)).placed, number: true },
-    { title: "Left", cell: (it) => it.left, csv: (it) => ledger.left(it.line), number: true },
+    { title: phrases.common.open, cell: (it) => figure(it.line.open), csv: (it) => it.line.open, number: true },
+    { title: phrases.leftLines.onPallets, cell: (it) => it.placed, csv: (it) => ledger.tally(nameOf(it.line)).placed, number: true },
+    { title: phrases.common.left, cell: (it) => it.left, csv: (it) => ledger.left(it.line), number: true },
   ];
 }

@@ -3,7 +3,7 @@
 
 import { dateInWords, moment, preparedInWords, preparedMoment } from "../edi/dates.js";
 import { lastEntry } from "../entries.js";
-import { TYPES } from "../hub/codes.js";
+import { phrases } from "../language.js";
 import { button, element, heading, link } from "../parts/dom.js";
 import { documentNumber, numberInWords } from "../parts/order_number.js";
 import { notUnderstood } from "../parts/raw.js";
@@ -17,13 +17,13 @@ const AT_ONCE = 20;
 export async function mailboxScreen({ session }) {
   const { entries, raw } = await session.untaken();
   const rows = entries.reverse().map((it) => ({ ...it, date: new Text("…"), moment: 0, arrived: new Text("…"), arrival: 0 }));
-  const label = (/** @type {Row} */ row) => `Mark ${numberInWords(row.document)} as taken`;
+  const label = (/** @type {Row} */ row) => phrases.mailbox.markOne(numberInWords(row.document));
   const table = new Table({
-    caption: "New entries of the mailbox",
+    caption: phrases.mailbox.caption,
     kind: "mailbox",
-    columns: columns((row) => button("Mark as taken", () => take(row), { class: "quiet", "aria-label": label(row) })),
+    columns: columns((row) => button(phrases.common.markAsTaken, () => take(row), { class: "quiet", "aria-label": label(row) })),
     rows,
-    empty: "No new mail. What you marked as taken stands below.",
+    empty: phrases.mailbox.empty,
   });
   // the table may have been sorted by dates that were not there yet
   fillDates(session, rows).then(() => table.sortAgain());
@@ -39,29 +39,29 @@ export async function mailboxScreen({ session }) {
 
   const count = element("p", { class: "lead", role: "status" }, newOnes(rows.length));
   return {
-    title: "Mailbox",
+    title: phrases.mailbox.title,
     content: [
-      heading("Mailbox"),
+      heading(phrases.mailbox.title),
       count,
       table.element,
-      raw.length ? notUnderstood("The page does not understand these lines of the list:", raw.join("\n")) : null,
+      raw.length ? notUnderstood(phrases.mailbox.notUnderstoodLines, raw.join("\n")) : null,
       takenPart(session, new Set(entries.map((it) => it.number))),
     ],
   };
 }
 
 /** @param {number} number */
-const newOnes = (number) => (number === 1 ? "1 new entry" : `${number} new entries`);
+const newOnes = (number) => phrases.mailbox.newEntries(number);
 
 /** @param {(row: Row) => Node} [action] @returns {import("../parts/table.js").Column<Row>[]} */
 function columns(action) {
-  const badge = (/** @type {Row} */ { type }) => element("span", { class: `badge ${type.toLowerCase()}` }, TYPES[type] ?? type);
+  const badge = (/** @type {Row} */ { type }) => element("span", { class: `badge ${type.toLowerCase()}` }, phrases.types[type] ?? type);
   return [
-    { title: "Number", cell: (it) => it.number, value: (it) => it.number },
-    { title: "Type", cell: badge, value: (it) => it.type },
-    { title: "Document", cell: (it) => link(documentNumber(it.document), `entry/${it.number}`), value: (it) => it.document },
-    { title: "Date", cell: (it) => it.date, value: (it) => it.moment },
-    { title: "Came in", cell: (it) => it.arrived, value: (it) => it.arrival },
+    { title: phrases.mailbox.number, cell: (it) => it.number, value: (it) => it.number },
+    { title: phrases.common.type, cell: badge, value: (it) => it.type },
+    { title: phrases.mailbox.document, cell: (it) => link(documentNumber(it.document), `entry/${it.number}`), value: (it) => it.document },
+    { title: phrases.common.date, cell: (it) => it.date, value: (it) => it.moment },
+    { title: phrases.common.cameIn, cell: (it) => it.arrived, value: (it) => it.arrival },
     ...(action ? [{ title: "", cell: action, kind: "action" }] : []),
   ];
 }
@@ -76,7 +76,7 @@ async function fillDates(session, rows) {
       row.arrived.data = found.arrived;
       [row.moment, row.arrival] = [found.moment, found.arrival];
     } catch {
-      row.date.data = row.arrived.data = "not read";
+      row.date.data = row.arrived.data = phrases.mailbox.notRead;
     }
   }
 }
@@ -86,7 +86,7 @@ function datesOf(entry) {
   const record = entry?.order ?? entry?.receipt;
   const { interchange } = entry ?? {};
   return {
-    date: record ? dateInWords(record.date, record.format) : "not understood",
+    date: record ? dateInWords(record.date, record.format) : phrases.mailbox.notUnderstood,
     moment: record ? moment(record.date, record.format) : 0,
     arrived: interchange ? preparedInWords(interchange.date, interchange.time) : "",
     arrival: interchange ? preparedMoment(interchange.date, interchange.time) : 0,
@@ -97,12 +97,12 @@ function datesOf(entry) {
 function takenPart(session, untaken) {
   /** @type {Row[]} */
   const rows = [];
-  const words = { caption: "Entries marked as taken", empty: "Nothing was marked as taken." };
+  const words = { caption: phrases.mailbox.takenCaption, empty: phrases.mailbox.noneTaken };
   const table = new Table({ ...words, kind: "mailbox", columns: columns(), rows });
   table.element.hidden = true;
   let next = 0;
   let begun = false;
-  const more = button("Show what was taken", show);
+  const more = button(phrases.mailbox.showTaken, show);
 
   async function show() {
     more.disabled = true;
@@ -115,19 +115,19 @@ function takenPart(session, untaken) {
     }
     table.show(rows);
     table.element.hidden = false;
-    more.textContent = "Show earlier ones";
+    more.textContent = phrases.mailbox.showEarlier;
     more.disabled = false;
     more.hidden = next === 0;
   }
 
-  const hint = element("p", { class: "hint" }, "Entries that you marked stay readable.");
-  return element("section", { class: "taken" }, element("h2", {}, "Taken"), hint, table.element, more);
+  const hint = element("p", { class: "hint" }, phrases.mailbox.takenHint);
+  return element("section", { class: "taken" }, element("h2", {}, phrases.mailbox.taken), hint, table.element, more);
 }
 
 /** @param {import("../session.js").Entry | null} entry @param {number} number @returns {Row} */
 function rowOf(entry, number) {
   const type = entry?.interchange?.messages[0]?.type ?? "";
-  const document = (entry?.order ?? entry?.receipt)?.document ?? `Entry ${number}`;
+  const document = (entry?.order ?? entry?.receipt)?.document ?? phrases.common.entry(number);
   const { date, arrived, ...found } = datesOf(entry);
   return { number, type, document, ...found, date: new Text(date), arrived: new Text(arrived) };
 }

@@ -6,7 +6,8 @@ import { day } from "../edi/dates.js";
 import { textOfBytes } from "../hub/client.js";
 import { isUnanswered } from "../hub/status_kinds.js";
 import { LONGEST } from "../hub/upload_queue.js";
-import { element, figure, heading, link, sayOnce, saying } from "../parts/dom.js";
+import { phrases } from "../language.js";
+import { element, heading, link, sayOnce, saying } from "../parts/dom.js";
 import { dropZone } from "../parts/drop_zone.js";
 import { dueColumn } from "../parts/due.js";
 import { FilteredTable } from "../parts/filtered_table.js";
@@ -18,22 +19,22 @@ import { lineColumns } from "./status.js";
 /** @typedef {import("../suppliers/planner.js").Planner} Planner */
 /** @typedef {import("../suppliers/open_rows.js").OpenRow} OpenRow */
 
-const CHOICE = {
-  label: "Choose files of orders (ORDERS), or drop them here",
-  hint: "They say on which day delivery is wanted. They are only read in this tab, and not sent. A reload forgets them.",
+const choice = () => ({
+  label: phrases.openLines.choose,
+  hint: phrases.openLines.chooseHint,
   accept: ".edi,.edifact,.txt",
-};
+});
 const SOON_DAYS = 7;
 const MOST_DRAWN = 500;
-const WITHOUT = ["Despatched", "Refused", "Cancelled", "Shares"];
+const WITHOUT = ["despatched", "refused", "cancelled", "shares"];
 
 /** @param {string} today @param {string} last CCYYMMDD @returns {[string, string, (row: OpenRow) => boolean][]} */
 const shown = (today, last) => [
-  ["all", "All open lines", () => true],
-  ["late", "Overdue", (it) => it.isLate],
-  ["soon", `Wanted within ${SOON_DAYS} days`, (it) => it.isWanted && it.day >= today && it.day <= last],
-  ["undated", "Without a wanted day", (it) => !it.isWanted],
-  ["waiting", "Waiting for an answer", isUnanswered],
+  ["all", phrases.openLines.allOpenLines, () => true],
+  ["late", phrases.common.overdue, (it) => it.isLate],
+  ["soon", phrases.openLines.soon(SOON_DAYS), (it) => it.isWanted && it.day >= today && it.day <= last],
+  ["undated", phrases.openLines.undated, (it) => !it.isWanted],
+  ["waiting", phrases.common.waitingForAnAnswer, isUnanswered],
 ];
 
 /** @param {import("../start.js").Context} context */
@@ -43,31 +44,31 @@ export async function openLinesScreen({ session }) {
   const [today, last] = [day(now), day(new Date(now.getFullYear(), now.getMonth(), now.getDate() + SOON_DAYS))];
   const nameOf = (/** @type {string} */ gln) => planner.list.nameOf(gln);
   const rows = () => openRows(planner, today);
-  const words = { caption: "Open lines", kind: "across", empty: "No open line fits.", sums: true, most: MOST_DRAWN };
+  const words = { caption: phrases.common.openLines, kind: "across", empty: phrases.openLines.empty, sums: true, most: MOST_DRAWN };
   const table = new FilteredTable(
     { ...words, columns: columns(nameOf), rows: rows() },
-    { label: "Supplier, order or article", kinds: shown(today, last), words: (it) => [nameOf(it.gln), it.gln, it.order, it.gtin] },
+    { label: phrases.openLines.filter, kinds: shown(today, last), words: (it) => [nameOf(it.gln), it.gln, it.order, it.gtin] },
   );
   const lead = element("p", { class: "lead", role: "status" });
   const draw = () => sayOnce(lead, inWords(planner, table.rows));
   draw();
   const leave = watch(planner, () => [table.show(rows()), draw()]);
-  const back = element("p", { class: "back" }, link("‹ Overview", "overview"));
-  const content = [back, heading("Open lines"), lead, daysPart(planner), table.filter.element, table.table.element];
-  return { title: "Open lines", content, leave };
+  const back = element("p", { class: "back" }, link(`‹ ${phrases.overview.title}`, "overview"));
+  const content = [back, heading(phrases.common.openLines), lead, daysPart(planner), table.filter.element, table.table.element];
+  return { title: phrases.common.openLines, content, leave };
 }
 
 /** @param {Planner} planner @param {OpenRow[]} rows */
 function inWords({ round }, rows) {
   const fetched = [...round.results.values()].filter((it) => it.figures).length;
-  if (!fetched) return "No status is fetched yet: do that in the overview.";
+  if (!fetched) return phrases.common.noneFetched;
   const late = rows.filter((it) => it.isLate).length;
   const undated = rows.filter((it) => !it.isWanted).length;
-  const open = `${figure(rows.length)} lines of ${figure(fetched)} fetched suppliers are open`;
-  return `${open}, ${figure(late)} of them overdue, ${figure(undated)} without a wanted day.`;
+  return phrases.openLines.open(rows.length, fetched, late, undated);
 }
 
-/** Takes files of orders, and says of each what it brought. @param {Planner} planner */
+/** Takes files of orders, and says of each what it brought.
+ * @param {Planner} planner */
 function daysPart({ days }) {
   const said = element("div", { class: "happened", role: "status", tabindex: "-1" });
   const take = async (/** @type {File[]} */ files) => {
@@ -80,18 +81,16 @@ function daysPart({ days }) {
     details.open = !days.size;
     said.focus({ preventScroll: true });
   };
-  const summary = element("summary", {}, "Give files of orders");
-  const zone = dropZone(CHOICE, take);
+  const summary = element("summary", {}, phrases.openLines.give);
+  const zone = dropZone(choice(), take);
   const details = /** @type {HTMLDetailsElement} */ (element("details", { class: "list", open: !days.size }, summary, zone));
   return element("section", { class: "no-print" }, details, said);
 }
 
 /** @param {string} name @param {{ dated: number, undated: number } | null} learned */
 function learnedInWords(name, learned) {
-  if (!learned) return `${name}: the page finds no order in it.`;
-  const { dated, undated } = learned;
-  const orders = dated === 1 ? "1 order names its day" : `${figure(dated)} orders name their days`;
-  return `${name}: ${orders}${undated ? `, ${figure(undated)} name none` : ""}.`;
+  if (!learned) return phrases.openLines.noOrder(name);
+  return phrases.openLines.learned(name, learned.dated, learned.undated);
 }
 
 /** @param {(gln: string) => string} nameOf @returns {import("../parts/table.js").Column<OpenRow>[]} */

@@ -3,7 +3,7 @@
 
 import { detailsOfEntry } from "../articles.js";
 import { preparedInWords } from "../edi/dates.js";
-import { ANSWERS } from "../hub/codes.js";
+import { phrases } from "../language.js";
 import { articleCell, articleColumn } from "../parts/article.js";
 import { element, exact, figure, notice, terms } from "../parts/dom.js";
 import { numberInWords } from "../parts/order_number.js";
@@ -34,7 +34,7 @@ export function orderView(order, entry, status) {
     element("div", { class: "columns" }, terms(header.parties.map(partyRow)), terms(facts(header, entry))),
     ...header.texts.map((it) => element("p", { class: "free-text" }, exact(it))),
     unread(header.raw),
-    new Table({ caption: `Lines of order ${numberInWords(order.document)}`, kind: "order-lines", columns, rows, sums: true }).element,
+    new Table({ caption: phrases.order.caption(numberInWords(order.document)), kind: "order-lines", columns, rows, sums: true }).element,
   ];
 }
 
@@ -42,17 +42,17 @@ export function orderView(order, entry, status) {
 function facts({ dates, descriptions, itemKinds, contracts, packs, currency }, entry) {
   /** @type {[string, import("../parts/dom.js").Child][]} */
   const rows = dates.map(dateRow);
-  [...descriptions, ...itemKinds].forEach((it) => rows.push(["Of all lines", exact(it)]));
-  contracts.forEach((it) => rows.push(["Contract", exact(it)]));
-  packs.forEach((it) => rows.push(["Packages", packInWords(it)]));
-  if (currency) rows.push(["Currency", currency]);
-  if (entry.interchange) rows.push(["Came in", preparedInWords(entry.interchange.date, entry.interchange.time)]);
+  [...descriptions, ...itemKinds].forEach((it) => rows.push([phrases.order.ofAllLines, exact(it)]));
+  contracts.forEach((it) => rows.push([phrases.order.contract, exact(it)]));
+  packs.forEach((it) => rows.push([phrases.order.packages, packInWords(it)]));
+  if (currency) rows.push([phrases.order.currency, currency]);
+  if (entry.interchange) rows.push([phrases.common.cameIn, preparedInWords(entry.interchange.date, entry.interchange.time)]);
   return rows;
 }
 
 /** @param {string[]} raw */
 function unread(raw) {
-  const words = "The page does not read all of these segments of the order:";
+  const words = phrases.order.unread;
   return raw.length ? notice("plain", element("p", {}, words), rawSegments(raw)) : null;
 }
 
@@ -74,19 +74,23 @@ function columnsOf(rows, currency) {
     number: true,
     sum: true,
   });
-  const ofRemarks = { title: "Remarks", cell: (/** @type {Line} */ it) => whole(remarks(it.details)), kind: "remarks", csv: said };
+  const title = phrases.order.remarks;
+  const ofRemarks = { title, cell: (/** @type {Line} */ it) => whole(remarks(it.details)), kind: "remarks", csv: said };
   return [
-    { title: "Line", cell: (it) => it.line, value: (it) => it.line },
+    { title: phrases.common.line, cell: (it) => it.line, value: (it) => it.line },
     { ...articleColumn((/** @type {Line} */ it) => it.gtin, articleOfLine), value: (it) => it.gtin },
-    ...some((it) => it.packs, lined("Pack", (it) => it.packs.map(packInWords))),
-    ...some((it) => it.prices, lined("Price", (it) => it.prices.map((price) => priceInWords(price, currency)))),
-    { title: "Ordered", cell: (it) => figure(it.quantity), value: (it) => it.quantity, number: true, sum: true },
-    known("Open", "open"),
-    known("Despatched", "despatched"),
-    { title: "Answer", cell: (it) => (it.status ? ANSWERS[it.status.answer] : "–"), value: (it) => it.status?.answer ?? "" },
+    ...some((it) => it.packs, lined(phrases.order.pack, (it) => it.packs.map(packInWords))),
+    ...some((it) => it.prices, lined(phrases.order.price, (it) => it.prices.map((price) => priceInWords(price, currency)))),
+    { title: phrases.common.ordered, cell: (it) => figure(it.quantity), value: (it) => it.quantity, number: true, sum: true },
+    known(phrases.common.open, "open"),
+    known(phrases.common.despatched, "despatched"),
+    { title: phrases.common.answer, cell: answerInWords, value: (it) => it.status?.answer ?? "" },
     ...some(remarks, ofRemarks),
   ];
 }
+
+/** @param {Line} line */
+const answerInWords = ({ status }) => (status ? phrases.answers[status.answer] : "–");
 
 // An empty cell is left out of the cards of a narrow page.
 /** @param {HTMLElement[]} parts */
@@ -95,6 +99,6 @@ const whole = (parts) => (parts.length ? element("div", { class: "article" }, ..
 /** @param {Line} line */
 function articleOfLine({ gtin, details: { descriptions, itemKinds, supplierNumbers, buyerNumbers } }) {
   const article = { description: [...descriptions, ...itemKinds].join(", "), number: supplierNumbers.join(", ") };
-  const ofBuyer = buyerNumbers.length ? element("span", {}, "Buyer's article ", exact(buyerNumbers.join(", "))) : null;
+  const ofBuyer = buyerNumbers.length ? element("span", {}, ...phrases.article.buyers(exact(buyerNumbers.join(", ")))) : null;
   return articleCell(gtin, article, ofBuyer);
 }

@@ -1,7 +1,8 @@
 // @ts-check
 // The choice of the orders that a despatch is for, and what is wrong with it.
 
-import { element, figure, newId } from "../parts/dom.js";
+import { phrases } from "../language.js";
+import { element, newId } from "../parts/dom.js";
 import { orderNumber } from "../parts/order_number.js";
 
 /** @typedef {import("../hub/replies.js").StatusLine} StatusLine */
@@ -17,13 +18,14 @@ export class OrderChoice {
     const choices = orders.map((it) => this.#choice(it, lines.filter((line) => line.order === it), id));
     this.inputs = choices.map((it) => it.input);
     this.input = this.inputs[0];
-    const legend = element("legend", {}, "Orders that have something open");
-    this.element = element("fieldset", { class: "orders" }, legend, ...choices.map((it) => it.element), this.wrong);
+    const legend = element("legend", {}, phrases.orderChoice.legend);
+    const words = { class: "orders", "data-field": "orderChoice.legend" };
+    this.element = element("fieldset", words, legend, ...choices.map((it) => it.element), this.wrong);
   }
 
   /** @param {string} order @param {StatusLine[]} lines @param {string} wrong the identifier of what is wrong */
   #choice(order, lines, wrong) {
-    const words = { type: "checkbox", id: newId("order"), value: order, "aria-describedby": wrong };
+    const words = { type: "checkbox", id: newId("order"), value: order, "data-field": order, "aria-describedby": wrong };
     const input = /** @type {HTMLInputElement} */ (element("input", words));
     input.checked = this.chosen.has(order);
     input.addEventListener("change", () => {
@@ -32,13 +34,14 @@ export class OrderChoice {
       this.wrong.textContent = "";
       this.changed();
     });
-    const pieces = figure(lines.reduce((all, it) => all + it.open, 0));
-    const open = ` ${lines.length === 1 ? "1 line" : `${lines.length} lines`}, ${pieces} open`;
+    const pieces = lines.reduce((all, it) => all + it.open, 0);
+    const open = ` ${phrases.orderChoice.open(lines.length, pieces)}`;
     const said = element("span", {}, orderNumber(lines[0]), element("small", {}, open));
     return { input, element: element("label", { class: "choice" }, input, said) };
   }
 
-  /** Chooses these orders too. @param {string[]} orders */
+  /** Chooses these orders too.
+   * @param {string[]} orders */
   choose(orders) {
     const missing = new Set(orders.filter((it) => !this.chosen.has(it)));
     for (const input of this.inputs) if (missing.has(input.value)) input.checked = true;
@@ -57,7 +60,7 @@ export class OrderChoice {
   }
 
   check() {
-    this.wrong.textContent = this.chosen.size ? "" : "Choose at least one order.";
+    this.wrong.textContent = this.chosen.size ? "" : phrases.orderChoice.chooseOne;
     return !this.isWrong;
   }
 }

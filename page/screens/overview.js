@@ -2,6 +2,7 @@
 // The planner's overview: a row for each supplier of the list, from statuses that are fetched one after another.
 
 import { day } from "../edi/dates.js";
+import { phrases } from "../language.js";
 import { element, figure, heading, link } from "../parts/dom.js";
 import { FetchControls } from "../parts/fetch_controls.js";
 import { FilteredTable } from "../parts/filtered_table.js";
@@ -20,15 +21,15 @@ import { plannerOf, watch } from "../suppliers/planner.js";
 /** @param {Row} row @param {"openLines" | "open" | "unanswered" | "announced" | "different"} name */
 const count = ({ result }, name) => result?.figures?.[name] ?? 0;
 
-/** @type {[string, string, (row: Row) => boolean][]} */
-const SHOWN = [
-  ["all", "All suppliers", () => true],
-  ["open", "With something open", (it) => count(it, "openLines") > 0],
-  ["waiting", "With unanswered lines", (it) => count(it, "unanswered") > 0],
-  ["late", "With something overdue", (it) => it.overdue > 0],
-  ["announced", "Announced, not received", (it) => count(it, "announced") > 0],
-  ["different", "With a difference", (it) => count(it, "different") > 0],
-  ["failed", "Failed, or not fetched", (it) => !it.result?.figures],
+/** @returns {[string, string, (row: Row) => boolean][]} */
+const shown = () => [
+  ["all", phrases.overview.allSuppliers, () => true],
+  ["open", phrases.common.withSomethingOpen, (it) => count(it, "openLines") > 0],
+  ["waiting", phrases.overview.withUnansweredLines, (it) => count(it, "unanswered") > 0],
+  ["late", phrases.overview.withSomethingOverdue, (it) => it.overdue > 0],
+  ["announced", phrases.common.announcedNotReceived, (it) => count(it, "announced") > 0],
+  ["different", phrases.common.withADifference, (it) => count(it, "different") > 0],
+  ["failed", phrases.overview.failed, (it) => !it.result?.figures],
 ];
 
 /** @param {import("../start.js").Context} context */
@@ -37,13 +38,13 @@ export async function overviewScreen({ session, go }) {
   const list = supplierListPart(planner.list);
   const controls = new FetchControls(planner);
   const rows = new Rows(planner);
-  const words = { caption: "Suppliers", kind: "across", empty: "No supplier fits.", sums: true };
+  const words = { caption: phrases.overview.suppliers, kind: "across", empty: phrases.overview.empty, sums: true };
   const table = new FilteredTable(
     { ...words, columns: columns(), rows: rows.drawn() },
-    { label: "Name or GLN", kinds: SHOWN, words: (it) => [it.name, it.gln] },
+    { label: phrases.overview.filter, kinds: shown(), words: (it) => [it.name, it.gln] },
   );
-  const search = searchForm(go, "", link("Open lines of all suppliers", "open-lines", { class: "button" }));
-  const title = element("h2", {}, "Suppliers");
+  const search = searchForm(go, "", link(phrases.overview.openLinesOfAll, "open-lines", { class: "button" }));
+  const title = element("h2", {}, phrases.overview.suppliers);
   const fetched = element("section", {}, search, title, table.filter.element, table.table.element);
   const draw = () => {
     list.draw();
@@ -52,8 +53,8 @@ export async function overviewScreen({ session, go }) {
     fetched.hidden = !planner.list.suppliers.length;
   };
   draw();
-  const content = [heading("Overview"), list.element, controls.element, fetched];
-  return { title: "Overview", content, leave: watch(planner, draw) };
+  const content = [heading(phrases.overview.title), list.element, controls.element, fetched];
+  return { title: phrases.overview.title, content, leave: watch(planner, draw) };
 }
 
 /** The rows of the table; one that did not change stays the same. */
@@ -92,19 +93,19 @@ function columns() {
   const highest = (/** @type {Row} */ { result }) => result?.figures?.highest || "–";
   return [
     ...supplierColumns((/** @type {Row} */ it) => it.name),
-    number("Open lines", (it) => count(it, "openLines")),
-    number("Open pieces", (it) => count(it, "open")),
-    number("Unanswered", (it) => count(it, "unanswered")),
-    number("Overdue", (it) => it.overdue),
-    number("Not received", (it) => count(it, "announced")),
-    number("Differences", (it) => count(it, "different")),
-    { title: "Highest SSCC", cell: highest, value: highest, kind: "digits" },
-    { title: "Fetched", cell: fetchedInWords, value: (it) => it.result?.at ?? 0 },
+    number(phrases.common.openLines, (it) => count(it, "openLines")),
+    number(phrases.overview.openPieces, (it) => count(it, "open")),
+    number(phrases.overview.unanswered, (it) => count(it, "unanswered")),
+    number(phrases.common.overdue, (it) => it.overdue),
+    number(phrases.overview.notReceived, (it) => count(it, "announced")),
+    number(phrases.overview.differences, (it) => count(it, "different")),
+    { title: phrases.overview.highestSscc, cell: highest, value: highest, kind: "digits" },
+    { title: phrases.overview.fetched, cell: fetchedInWords, value: (it) => it.result?.at ?? 0 },
   ];
 }
 
 /** @param {Row} row */
 function fetchedInWords({ result }) {
-  if (!result) return "not yet";
-  return result.wrong ? element("span", { class: "result refused reason" }, result.wrong) : clockTime(result.at);
+  if (!result) return phrases.overview.notYet;
+  return result.wrong ? element("span", { class: "result refused reason" }, result.wrong()) : clockTime(result.at);
 }

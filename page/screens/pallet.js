@@ -4,7 +4,8 @@
 import { Load } from "../despatch/ledger.js";
 import { isPrefix, isSscc, isUnder, withCheckDigit } from "../edi/identifiers.js";
 import { ssccOf } from "../edi/sscc.js";
-import { button, counted, element, newId } from "../parts/dom.js";
+import { phrases } from "../language.js";
+import { button, element, newId } from "../parts/dom.js";
 import { Field, check } from "../parts/field.js";
 import { PalletLines } from "./pallet_lines.js";
 import { PalletTools } from "./pallet_tools.js";
@@ -13,7 +14,6 @@ import { PalletTools } from "./pallet_tools.js";
 
 // so many lines are all listed, if nobody asked for anything else
 const FEW = 12;
-const NOTHING = "Put something on this pallet, or remove it.";
 
 export class Pallet {
   /** @param {{ sscc: string, ledger: Ledger, articles: import("../articles.js").Articles, form: import("./pallet_tools.js").Form,
@@ -26,10 +26,11 @@ export class Pallet {
     this.wantsAll = wantsAll;
     this.isStale = true;
     this.isEmptyWrong = false;
-    const hint = "18 digits, typed or scanned. Type 17, and the page adds the check digit.";
-    this.sscc = new Field({ label: "SSCC", hint, value: sscc, inputmode: "numeric", maxlength: 48 });
+    const hint = phrases.pallet.hint;
+    this.sscc = new Field({ label: "SSCC", field: "SSCC", hint, value: sscc, inputmode: "numeric", maxlength: 48 });
     this.sscc.input.addEventListener("change", () => (this.sscc.value = this.number));
-    this.labelled = /** @type {HTMLInputElement} */ (element("input", { type: "checkbox", id: newId("labelled"), class: "labelled" }));
+    const words = { type: "checkbox", id: newId("labelled"), class: "labelled", "data-field": "pallet.labelled" };
+    this.labelled = /** @type {HTMLInputElement} */ (element("input", words));
     this.legend = element("legend", {});
     this.lines = new PalletLines(ledger, this.load, articles);
     this.tools = new PalletTools(this, form);
@@ -41,7 +42,7 @@ export class Pallet {
       { class: "pallet card" },
       this.legend,
       this.sscc.element,
-      element("label", { class: "choice label-tick" }, this.labelled, element("span", {}, "Labelled: its label is printed")),
+      element("label", { class: "choice label-tick" }, this.labelled, element("span", {}, phrases.pallet.labelled)),
       this.toggle,
       this.body,
     );
@@ -58,7 +59,8 @@ export class Pallet {
     return this.labelled.checked;
   }
 
-  /** Gives it an SSCC that the page proposes. @param {string} sscc */
+  /** Gives it an SSCC that the page proposes.
+   * @param {string} sscc */
   propose(sscc) {
     this.proposed = sscc;
     this.sscc.value = sscc;
@@ -76,7 +78,8 @@ export class Pallet {
     return this.wantsAll ?? this.ledger.lines.length <= FEW;
   }
 
-  /** Lists all lines, or only those that are on it. @param {boolean} wantsAll */
+  /** Lists all lines, or only those that are on it.
+   * @param {boolean} wantsAll */
   listAll(wantsAll) {
     this.wantsAll = wantsAll;
     this.draw();
@@ -95,15 +98,16 @@ export class Pallet {
   drawHead() {
     const { size, pieces } = this.load;
     const wrongs = this.lines.wrongs.size;
-    const on = size ? `${counted(size, "line")}, ${counted(pieces, "piece")}` : "Nothing on it yet";
-    const words = wrongs ? `${on}, ${wrongs} to correct` : on;
+    const on = size ? phrases.pallet.on(size, pieces) : phrases.pallet.nothingOnIt;
+    const words = wrongs ? phrases.pallet.toCorrect(on, wrongs) : on;
     if (this.toggle.textContent !== words) this.toggle.textContent = words;
     this.element.classList.toggle("collapsed", this.isCollapsed);
     this.toggle.setAttribute("aria-expanded", String(!this.isCollapsed));
     this.toggle.classList.toggle("has-wrong", this.isWrong);
   }
 
-  /** Shows what changed of the lines of these names. @param {Set<string>} names */
+  /** Shows what changed of the lines of these names.
+   * @param {Set<string>} names */
   refresh(names) {
     this.lines.refresh(names);
     if (this.isEmptyWrong && this.load.size) {
@@ -140,15 +144,15 @@ export class Pallet {
     if (this.isEmptyWrong && !this.load.typed.length) this.wantsAll = true;
     this.isCollapsed = false;
     this.draw();
-    if (this.isEmptyWrong) this.lines.rows[0]?.field.say(NOTHING);
+    if (this.isEmptyWrong) this.lines.rows[0]?.field.say(phrases.pallet.nothing);
   }
 }
 
 /** @param {string} sscc @param {string} prefix @param {Set<string>} used @param {Pallet[]} others */
 function wrongSscc(sscc, prefix, used, others) {
-  if (!/^\d{17,18}$/.test(sscc)) return "An SSCC has 18 digits.";
-  if (!isSscc(sscc)) return `The last digit should be ${withCheckDigit(sscc.slice(0, 17)).slice(-1)}: look for a wrong digit.`;
-  if (isPrefix(prefix) && !isUnder(sscc, prefix)) return `After its first digit it does not begin with your prefix ${prefix}.`;
-  if (others.some((it) => it.number === sscc)) return "Another pallet of this form has the same SSCC.";
-  return used.has(sscc) ? "You have used this SSCC before. Take a new one: an SSCC is used once, for ever." : "";
+  if (!/^\d{17,18}$/.test(sscc)) return phrases.pallet.digits;
+  if (!isSscc(sscc)) return phrases.pallet.lastDigit(withCheckDigit(sscc.slice(0, 17)).slice(-1));
+  if (isPrefix(prefix) && !isUnder(sscc, prefix)) return phrases.pallet.otherPrefix(prefix);
+  if (others.some((it) => it.number === sscc)) return phrases.pallet.twice;
+  return used.has(sscc) ? phrases.pallet.used : "";
 }

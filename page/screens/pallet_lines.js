@@ -2,6 +2,7 @@
 // The table of the order lines on a pallet, with a field for the quantity of each.
 
 import { nameOf } from "../despatch/ledger.js";
+import { phrases } from "../language.js";
 import { articleCell, articleColumn } from "../parts/article.js";
 import { element, figure } from "../parts/dom.js";
 import { Field, wholeNumber } from "../parts/field.js";
@@ -14,7 +15,7 @@ import { Table } from "../parts/table.js";
 /** @typedef {{ line: StatusLine, field: Field, left: HTMLElement }} Row */
 
 /** @param {StatusLine} line */
-const quantityLabel = (line) => `Quantity of order ${orderInWords(line)}, line ${line.line}`;
+const quantityLabel = (line) => phrases.palletLines.quantityOf(orderInWords(line), line.line);
 
 export class PalletLines {
   /** @param {Ledger} ledger @param {Load} load @param {import("../articles.js").Articles} articles */
@@ -25,17 +26,18 @@ export class PalletLines {
     this.rows = [];
     /** @type {Map<string, string>} what is wrong with the quantities of lines */
     this.wrongs = new Map();
-    const words = { caption: "What is on this pallet", kind: "contents", columns: columns(ledger, articles) };
+    const words = { caption: phrases.palletLines.caption, kind: "contents", columns: columns(ledger, articles) };
     /** @type {Table<Row>} */
     this.table = new Table({ ...words, rows: this.rows });
     this.element = this.table.element;
   }
 
-  /** Lists these lines, and shows of each what was typed and what is wrong. @param {StatusLine[]} lines */
+  /** Lists these lines, and shows of each what was typed and what is wrong.
+   * @param {StatusLine[]} lines */
   draw(lines) {
     const known = new Map(this.rows.map((it) => [it.line, it]));
     this.rows = lines.map((line) => known.get(line) ?? this.#row(line));
-    this.table.empty = this.ledger.lines.length ? "Nothing is on this pallet yet." : "Choose an order above.";
+    this.table.empty = this.ledger.lines.length ? phrases.palletLines.empty : phrases.palletLines.chooseOrder;
     this.table.showAgain(this.rows);
     for (const { line, field } of this.rows) {
       const text = this.load.text(line);
@@ -90,7 +92,8 @@ export class PalletLines {
   }
 }
 
-/** Shows how much is left, and how much too much is on pallets. @param {HTMLElement} shown @param {number} left */
+/** Shows how much is left, and how much too much is on pallets.
+ * @param {HTMLElement} shown @param {number} left */
 export function showLeft(shown, left) {
   const words = left < 0 ? `−${figure(-left)}` : figure(left);
   if (shown.textContent !== words) shown.textContent = words;
@@ -100,17 +103,17 @@ export function showLeft(shown, left) {
 /** @param {Ledger} ledger @param {import("../articles.js").Articles} articles @returns {import("../parts/table.js").Column<Row>[]} */
 function columns(ledger, articles) {
   return [
-    { title: "Order", cell: (it) => orderNumber(it.line) },
-    { title: "Line", cell: (it) => it.line.line },
+    { title: phrases.common.order, cell: (it) => orderNumber(it.line) },
+    { title: phrases.common.line, cell: (it) => it.line.line },
     articleColumn((/** @type {Row} */ it) => it.line.gtin, ({ line }) => articleCell(line.gtin, articles.of(line))),
-    { title: "Open", cell: (it) => figure(it.line.open), csv: (it) => it.line.open, number: true },
-    { title: "Left", cell: (it) => it.left, csv: (it) => ledger.left(it.line), number: true },
-    { title: "On this pallet", cell: (it) => it.field.element, csv: (it) => it.field.trimmed },
+    { title: phrases.common.open, cell: (it) => figure(it.line.open), csv: (it) => it.line.open, number: true },
+    { title: phrases.common.left, cell: (it) => it.left, csv: (it) => ledger.left(it.line), number: true },
+    { title: phrases.palletLines.onThis, cell: (it) => it.field.element, csv: (it) => it.field.trimmed },
   ];
 }
 
 /** @param {string} text @param {import("../despatch/ledger.js").Tally} tally */
 function wrongQuantity(text, { open, placed }) {
-  if (Number.isNaN(wholeNumber(text))) return "Give a whole number.";
-  return placed > open && wholeNumber(text) > 0 ? `Only ${figure(open)} are open, and ${figure(placed)} are on your pallets.` : "";
+  if (Number.isNaN(wholeNumber(text))) return phrases.palletLines.notWhole;
+  return placed > open && wholeNumber(text) > 0 ? phrases.palletLines.tooMuch(open, placed) : "";
 }

@@ -2,7 +2,8 @@
 // What can be done with a pallet of the form: fill, copy, split, list its lines and remove it.
 
 import { MOST_PALLETS } from "../despatch/pallet_rows.js";
-import { actions, button, counted, element, figure } from "../parts/dom.js";
+import { phrases } from "../language.js";
+import { actions, button, element } from "../parts/dom.js";
 import { Field, check, wholeNumber } from "../parts/field.js";
 
 /** @typedef {import("./pallet.js").Pallet} Pallet */
@@ -14,23 +15,23 @@ export class PalletTools {
   constructor(pallet, form) {
     this.pallet = pallet;
     this.form = form;
-    this.count = new Field({ label: "Split evenly over how many pallets", inputmode: "numeric", maxlength: 3, class: "short" });
+    this.count = new Field({ label: phrases.palletTools.count, inputmode: "numeric", maxlength: 3, class: "short" });
     this.said = element("span", { class: "said", role: "status" });
     this.list = button("", () => pallet.listAll(!pallet.listsAll), { class: "list" });
     const split = element(
       "div",
       { class: "split", "data-apart": true },
       this.count.element,
-      button("Split", () => this.#split()),
+      button(phrases.palletTools.split, () => this.#split()),
     );
     this.element = element(
       "div",
       {},
       actions(
-        button("Put all that is open on it", () => this.#fill(), { class: "fill" }),
-        button("Copy this pallet", async () => this.#say(await form.copy(pallet)), { class: "copy" }),
+        button(phrases.palletTools.fill, () => this.#fill(), { class: "fill" }),
+        button(phrases.palletTools.copy, async () => this.#say(await form.copy(pallet)), { class: "copy" }),
         this.list,
-        button("Remove this pallet", () => form.remove(pallet), { class: "quiet remove" }),
+        button(phrases.palletTools.remove, () => form.remove(pallet), { class: "quiet remove" }),
       ),
       split,
       this.said,
@@ -41,7 +42,7 @@ export class PalletTools {
   draw() {
     const { listsAll, ledger } = this.pallet;
     this.list.hidden = ledger.lines.length < 2;
-    this.list.textContent = listsAll ? "List only the lines on it" : `List all ${counted(ledger.lines.length, "line")}`;
+    this.list.textContent = listsAll ? phrases.palletTools.listOwn : phrases.palletTools.listAll(ledger.lines.length);
   }
 
   /** @param {string} words */
@@ -74,7 +75,7 @@ export class PalletTools {
 
 /** @param {number} count @param {number} pieces */
 function wrongCount(count, pieces) {
-  if (!(count >= 2 && count <= MOST_PALLETS)) return `Give a whole number from 2 to ${MOST_PALLETS}.`;
-  if (!pieces) return "Put something on this pallet first.";
-  return count > pieces ? `Only ${figure(pieces)} ${pieces === 1 ? "piece is" : "pieces are"} on it.` : "";
+  if (!(count >= 2 && count <= MOST_PALLETS)) return phrases.palletTools.giveANumber(MOST_PALLETS);
+  if (!pieces) return phrases.palletTools.nothingOnIt;
+  return count > pieces ? phrases.palletTools.tooFew(pieces) : "";
 }

@@ -6,14 +6,13 @@ import { evenSplit } from "../despatch/even_split.js";
 import { MOST_PALLETS } from "../despatch/pallet_rows.js";
 import { isSscc } from "../edi/identifiers.js";
 import { ssccOf } from "../edi/sscc.js";
-import { counted, element, figure } from "../parts/dom.js";
+import { phrases } from "../language.js";
+import { element } from "../parts/dom.js";
 import { SsccFields } from "../parts/sscc_fields.js";
 import { Pallet } from "./pallet.js";
 
 /** @typedef {import("../despatch/ledger.js").Ledger} Ledger */
 /** @typedef {{ isCollapsed?: boolean, wantsAll?: boolean | null }} Look */
-
-const FULL = `A despatch has at most ${MOST_PALLETS} pallets.`;
 
 // a draft with more quantities than this comes back with its pallets collapsed
 const MANY = 60;
@@ -80,7 +79,7 @@ export class Pallets {
     const count = await this.propose(() => true);
     const kept = this.all.length - count;
     if (!count && this.all.some((it) => !it.isLabelled)) this.sscc.askForPrefix();
-    const words = [`${count} ${count === 1 ? "pallet has a new SSCC" : "pallets have new SSCCs"}.`, kept ? `${kept} unchanged.` : ""];
+    const words = [phrases.pallets.renumbered(count), kept ? phrases.pallets.unchanged(kept) : ""];
     return words.join(" ").trim();
   }
 
@@ -92,7 +91,7 @@ export class Pallets {
 
   /** @param {Pallet} pallet */
   async #holdOne(pallet) {
-    if (!(await this.sscc.held.hold(pallet.number))) pallet.sscc.say("A form in another tab of this browser has the same SSCC.");
+    if (!(await this.sscc.held.hold(pallet.number))) pallet.sscc.say(phrases.pallets.heldElsewhere);
   }
 
   /** Adds a pallet for a person who goes on with it: it lists all lines, and the others only their own. */
@@ -103,9 +102,12 @@ export class Pallets {
     return pallet;
   }
 
-  /** Adds pallets, and draws them. @param {number} count @param {Look} [look] */
+  /** Adds pallets, and draws them.
+   * @param {number} count @param {Look} [look]
+   * @returns {Promise<Pallet[]>} */
   addSeveral(count, look) {
     return this.inTurn(async () => {
+      /** @type {Pallet[]} */
       const added = [];
       for (let it = 0; it < count; it += 1) added.push(await this.#addNext(look));
       this.number();
@@ -114,7 +116,8 @@ export class Pallets {
     });
   }
 
-  /** @param {Look} [look] */
+  /** @param {Look} [look]
+   * @returns {Promise<Pallet>} */
   async #addNext(look) {
     const { ledger, articles, tools } = this;
     const pallet = new Pallet({ sscc: await this.sscc.next(), ledger, articles, form: tools, ...look });
@@ -124,22 +127,25 @@ export class Pallets {
     return pallet;
   }
 
-  /** How a pallet looks that the page has filled. @returns {Look} */
+  /** How a pallet looks that the page has filled.
+   * @returns {Look} */
   get #filledLook() {
     return { isCollapsed: true };
   }
 
-  /** Adds a pallet with the same on it as far as so much is left, and says so. @param {Pallet} from */
+  /** Adds a pallet with the same on it as far as so much is left, and says so.
+   * @param {Pallet} from
+   * @returns {Promise<string>} */
   async copy(from) {
-    if (!from.contents.length) return "Nothing is on it.";
-    if (this.all.length >= MOST_PALLETS) return FULL;
-    if (!this.#leftOf(from).length) return "Nothing is left of its lines, so there is no copy.";
+    if (!from.contents.length) return phrases.pallets.nothingToCopy;
+    if (this.all.length >= MOST_PALLETS) return phrases.pallets.full(MOST_PALLETS);
+    if (!this.#leftOf(from).length) return phrases.pallets.nothingLeft;
     const [copy] = await this.addSeveral(1, this.#filledLook);
     copy.load.replace(this.#leftOf(from));
     const less = from.contents.length - copy.contents.length;
     const fewer = from.load.pieces - copy.load.pieces;
-    const words = `Pallet ${this.all.indexOf(copy) + 1} is a copy of it`;
-    return less || fewer ? `${words} with what was left: ${counted(fewer, "piece")} less.` : `${words}.`;
+    const place = this.all.indexOf(copy) + 1;
+    return less || fewer ? phrases.pallets.copiedWhatWasLeft(place, fewer) : phrases.pallets.copied(place);
   }
 
   /** @param {Pallet} from */
@@ -148,9 +154,11 @@ export class Pallets {
     return least.filter((it) => it.quantity > 0);
   }
 
-  /** Splits what is on a pallet evenly over it and new ones, and says so. @param {Pallet} from @param {number} count of pallets in all */
+  /** Splits what is on a pallet evenly over it and new ones, and says so.
+   * @param {Pallet} from @param {number} count of pallets in all
+   * @returns {Promise<string>} */
   async split(from, count) {
-    if (this.all.length + count - 1 > MOST_PALLETS) return FULL;
+    if (this.all.length + count - 1 > MOST_PALLETS) return phrases.pallets.full(MOST_PALLETS);
     const first = this.all.length + 1;
     const others = await this.addSeveral(count - 1, this.#filledLook);
     const contents = from.contents;
@@ -158,10 +166,11 @@ export class Pallets {
     [from, ...others].forEach((pallet, place) => contents.forEach(({ line }, at) => pallet.load.set(line, shares[place][at])));
     from.draw();
     const last = first + others.length - 1;
-    return `Split over this pallet and ${first === last ? `pallet ${first}` : `pallets ${first} to ${last}`}.`;
+    return phrases.pallets.split(first, last);
   }
 
-  /** Puts on pallets what rows say, and says so. @param {import("./paste_pallets.js").Placing[]} rows */
+  /** Puts on pallets what rows say, and says so.
+   * @param {import("./paste_pallets.js").Placing[]} rows */
   async place(rows) {
     const pallets = await this.#named([...new Set(rows.map((it) => it.pallet))]);
     for (const [name, pallet] of pallets) {
@@ -172,18 +181,21 @@ export class Pallets {
     this.draw();
     const pieces = rows.reduce((all, it) => all + it.quantity, 0);
     this.tools.changed();
-    const from = `${counted(pieces, "piece")} of ${counted(rows.length, "row")} ${pieces === 1 ? "is" : "are"}`;
-    return `${from} on ${counted(pallets.size, "pallet")}. Nothing is sent yet.`;
+    return phrases.pallets.placed(pieces, rows.length, pallets.size);
   }
 
   /** The pallets of these numbers and SSCCs; an SSCC that no pallet has goes to one that is empty, or else to a new one.
    * @param {(number | string)[]} names @returns {Promise<Map<number | string, Pallet>>} */
   async #named(names) {
-    const most = Math.max(0, ...names.filter((it) => typeof it === "number"));
-    await this.addSeveral(Math.max(0, most - this.all.length), this.#filledLook);
-    const found = new Map(names.flatMap((it) => (typeof it === "number" ? [[it, this.all[it - 1]]] : [])));
-    const ssccs = names.filter((it) => typeof it === "string");
-    for (const sscc of ssccs) found.set(sscc, this.all.find((it) => it.number === sscc));
+    const numbers = names.flatMap((it) => (typeof it === "number" ? [it] : []));
+    const ssccs = names.flatMap((it) => (typeof it === "string" ? [it] : []));
+    await this.addSeveral(Math.max(0, Math.max(0, ...numbers) - this.all.length), this.#filledLook);
+    /** @type {Map<number | string, Pallet>} */
+    const found = new Map(numbers.map((it) => [it, this.all[it - 1]]));
+    for (const sscc of ssccs) {
+      const known = this.all.find((it) => it.number === sscc);
+      if (known) found.set(sscc, known);
+    }
     const isFree = (/** @type {Pallet} */ it) => !it.load.size && !it.isLabelled && ![...found.values()].includes(it);
     for (const sscc of ssccs.filter((it) => !found.get(it))) {
       const pallet = this.all.find(isFree) ?? (await this.addSeveral(1, this.#filledLook))[0];
@@ -193,7 +205,8 @@ export class Pallets {
     return found;
   }
 
-  /** Has as many pallets as a draft, whose SSCCs are the person's. @param {number} count */
+  /** Has as many pallets as a draft, whose SSCCs are the person's.
+   * @param {number} count */
   async makeRoom(count) {
     await this.addSeveral(Math.max(0, count - this.all.length));
     for (const pallet of this.all) [pallet.proposed, pallet.wantsAll] = ["", null];
@@ -220,7 +233,8 @@ export class Pallets {
 
   number() {
     this.all.forEach((it, place) => {
-      const words = `Pallet ${place + 1}`;
+      const words = phrases.pallets.pallet(place + 1);
+      it.element.dataset.field = `pallets.pallet/${place + 1}`;
       if (it.legend.textContent !== words) it.legend.textContent = words;
     });
   }

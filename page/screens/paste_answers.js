@@ -1,18 +1,15 @@
 // @ts-check
 // Takes answers that were edited in a spreadsheet and are pasted as rows: all of them, or none if one does not fit.
 
+import { phrases } from "../language.js";
 import { readAnswers } from "../parts/answer_rows.js";
-import { actions, button, element, figure, newId, notice, saying } from "../parts/dom.js";
+import { actions, button, element, newId, notice, saying } from "../parts/dom.js";
 
 /** @typedef {import("../edi/response.js").Answer} Answer */
 /**
  * @typedef {{ line: { line: number, quantity: number }, waits: boolean, known: string, bounds: { least: number, most: number },
  *   quantity: import("../parts/field.js").Field, choose: (answer: Answer) => void }} LineForm a line of the form
  */
-
-const HINT =
-  "Download the table below as CSV, fill in Your answer (accepted, refused or changed) and Changed to, copy the rows with their titles, " +
-  "and paste them here. Or paste rows of line number, answer and quantity. Lines without an answer stay as they are.";
 
 /** @param {LineForm[]} lines */
 export function pasteAnswers(lines) {
@@ -23,7 +20,7 @@ export function pasteAnswers(lines) {
   const taken = element("div", { role: "status", tabindex: "-1", class: "verdict" });
   const take = () => {
     const read = readAnswers(area.value, lines.map(knownOf));
-    const problems = read.wrong.length || read.answers.length ? read.wrong : ["No row has an answer."];
+    const problems = read.wrong.length || read.answers.length ? read.wrong : [phrases.pasteAnswers.noAnswer];
     area.setAttribute("aria-invalid", String(problems.length > 0));
     wrong.replaceChildren(...(problems.length ? [whatIsWrong(problems)] : []));
     taken.replaceChildren(...(problems.length ? [] : [saying("good", takenInWords(read.answers.length))]));
@@ -35,11 +32,11 @@ export function pasteAnswers(lines) {
   return element(
     "details",
     { class: "paste" },
-    element("summary", {}, "Paste answers from a spreadsheet"),
-    element("p", { class: "hint", id: `${id}-hint` }, HINT),
-    element("div", { class: "field" }, element("label", { for: id }, "Rows from a spreadsheet"), area),
+    element("summary", {}, phrases.pasteAnswers.title),
+    element("p", { class: "hint", id: `${id}-hint` }, phrases.pasteAnswers.hint),
+    element("div", { class: "field" }, element("label", { for: id }, phrases.pasteAnswers.label), area),
     wrong,
-    actions(button("Take these rows", take)),
+    actions(button(phrases.pasteAnswers.take, take)),
     taken,
   );
 }
@@ -50,11 +47,11 @@ const knownOf = ({ line, waits, known, bounds }) => ({ line: line.line, ordered:
 /** @param {string[]} problems */
 function whatIsWrong(problems) {
   const list = element("ul", {}, ...problems.map((it) => element("li", {}, it)));
-  return notice("bad", element("p", {}, "Nothing was changed. Correct this, and take the rows again:"), list);
+  return notice("bad", element("p", {}, phrases.pasteAnswers.wrong), list);
 }
 
 /** @param {number} count */
-const takenInWords = (count) => `${count === 1 ? "1 line is" : `${figure(count)} lines are`} answered as in the rows. Nothing is sent yet.`;
+const takenInWords = (count) => phrases.pasteAnswers.taken(count);
 
 /** @param {LineForm[]} lines @param {number} number @param {Answer} answer @param {string} quantity */
 function give(lines, number, answer, quantity) {

@@ -2,14 +2,11 @@
 // Takes what is on which pallet from rows of a spreadsheet that are pasted: all of them, or none if one does not fit.
 
 import { readPalletRows } from "../despatch/pallet_rows.js";
-import { actions, button, counted, element, newId, notice, saying } from "../parts/dom.js";
+import { phrases } from "../language.js";
+import { actions, button, element, newId, notice, saying } from "../parts/dom.js";
 
 /** @typedef {import("../hub/replies.js").StatusLine} StatusLine */
 /** @typedef {{ line: StatusLine, quantity: number, pallet: number | string }} Placing */
-
-const HINT =
-  "One row for each line on a pallet: order, line, quantity and pallet, in this order or under these titles. The pallet is its number in " +
-  "this form or its SSCC; the page adds pallets as needed. What is on these pallets now is replaced.";
 
 /** @param {{ lines: () => StatusLine[], pallets: () => string[], place: (rows: Placing[]) => Promise<string> }} form */
 export function pastePallets({ lines, pallets, place }) {
@@ -21,7 +18,7 @@ export function pastePallets({ lines, pallets, place }) {
   const take = async () => {
     const known = lines();
     const read = readPalletRows(area.value, known, pallets());
-    const problems = read.wrong.length || read.rows.length ? read.wrong : ["No row has a quantity."];
+    const problems = read.wrong.length || read.rows.length ? read.wrong : [phrases.pastePallets.noQuantity];
     area.setAttribute("aria-invalid", String(problems.length > 0));
     wrong.replaceChildren(...(problems.length ? [whatIsWrong(problems)] : []));
     taken.replaceChildren();
@@ -34,11 +31,11 @@ export function pastePallets({ lines, pallets, place }) {
   return element(
     "details",
     { class: "paste" },
-    element("summary", {}, "Paste pallets from a spreadsheet"),
-    element("p", { class: "hint", id: `${id}-hint` }, HINT),
-    element("div", { class: "field" }, element("label", { for: id }, "Rows of order, line, quantity and pallet"), area),
+    element("summary", {}, phrases.pastePallets.title),
+    element("p", { class: "hint", id: `${id}-hint` }, phrases.pastePallets.hint),
+    element("div", { class: "field" }, element("label", { for: id }, phrases.pastePallets.label), area),
     wrong,
-    actions(button("Put these on the pallets", take)),
+    actions(button(phrases.pastePallets.take, take)),
     taken,
   );
 }
@@ -48,6 +45,6 @@ const MOST_SHOWN = 20;
 /** @param {string[]} problems */
 function whatIsWrong(problems) {
   const shown = problems.slice(0, MOST_SHOWN).map((it) => element("li", {}, it));
-  const more = problems.length > MOST_SHOWN ? [element("li", {}, `and ${counted(problems.length - MOST_SHOWN, "more row")}`)] : [];
-  return notice("bad", element("p", {}, "Nothing was changed. Correct this, and paste again:"), element("ul", {}, ...shown, ...more));
+  const more = problems.length > MOST_SHOWN ? [element("li", {}, phrases.pastePallets.more(problems.length - MOST_SHOWN))] : [];
+  return notice("bad", element("p", {}, phrases.pastePallets.wrong), element("ul", {}, ...shown, ...more));
 }

@@ -3,6 +3,7 @@
 
 import { dateInWords, preparedInWords } from "../edi/dates.js";
 import { sumsOf } from "../edi/receipt.js";
+import { phrases } from "../language.js";
 import { articleCell, articleColumn } from "../parts/article.js";
 import { figure, saying, terms } from "../parts/dom.js";
 import { difference } from "../parts/difference.js";
@@ -12,8 +13,6 @@ import { Table } from "../parts/table.js";
 /** @typedef {import("../edi/receipt.js").ReceiptLine} ReceiptLine */
 /** @typedef {{ sscc: string, gtin: string, announced: number | null, now: StatusPallet | null, received: ReceiptLine }} Row */
 
-const REPLACES = "This advice replaces an earlier one (function 5): what was said of these pallets before counts no more.";
-
 /** @param {import("../edi/receipt.js").Receipt} receipt
  * @param {import("../session.js").Entry} entry
  * @param {{ pallets: StatusPallet[] }} status
@@ -22,12 +21,12 @@ export function receiptView(receipt, entry, status, articles) {
   const rows = receipt.units.flatMap((unit) => rowsOf(unit, status.pallets.filter((it) => it.sscc === unit.sscc)));
   return [
     terms([
-      ["From", receipt.buyer || "the retailer"],
-      ["Date of the advice", dateInWords(receipt.date, receipt.format)],
-      ["Came in", entry.interchange ? preparedInWords(entry.interchange.date, entry.interchange.time) : ""],
+      [phrases.common.from, receipt.buyer || phrases.receipt.retailer],
+      [phrases.receipt.date, dateInWords(receipt.date, receipt.format)],
+      [phrases.common.cameIn, entry.interchange ? preparedInWords(entry.interchange.date, entry.interchange.time) : ""],
     ]),
-    receipt.replaces && saying("plain", REPLACES),
-    new Table({ caption: "Pallets received, beside what was announced", columns: columns(articles), rows, sums: true }).element,
+    receipt.replaces && saying("plain", phrases.receipt.replaces),
+    new Table({ caption: phrases.receipt.caption, columns: columns(articles), rows, sums: true }).element,
     ...correctedSince(receipt, rows),
   ];
 }
@@ -59,15 +58,18 @@ function columns(articles) {
   const announced = (/** @type {Row} */ it) => it.announced ?? 0;
   const lack = (/** @type {Row} */ it) => inAll(it.received) - announced(it);
   return [
-    { title: "Pallet (SSCC)", cell: (it) => it.sscc, value: (it) => it.sscc, kind: "digits" },
+    { title: phrases.common.palletSscc, cell: (it) => it.sscc, value: (it) => it.sscc, kind: "digits" },
     { ...articleColumn((/** @type {Row} */ it) => it.gtin, (it) => articleCell(it.gtin, articles.of(it))), value: (it) => it.gtin },
-    { title: "Announced", cell: (it) => (it.announced === null ? "–" : figure(it.announced)), value: announced, number: true, sum: true },
-    quantity("Accepted", "accepted"),
-    quantity("Returned", "returned"),
-    quantity("Destroyed", "destroyed"),
-    { title: "Difference", cell: (it) => difference(lack(it)), value: lack, csv: lack, number: true },
+    { title: phrases.receipt.announced, cell: announcedInWords, value: announced, number: true, sum: true },
+    quantity(phrases.common.accepted, "accepted"),
+    quantity(phrases.common.returned, "returned"),
+    quantity(phrases.common.destroyed, "destroyed"),
+    { title: phrases.common.difference, cell: (it) => difference(lack(it)), value: lack, csv: lack, number: true },
   ];
 }
+
+/** @param {Row} row */
+const announcedInWords = ({ announced }) => (announced === null ? "–" : figure(announced));
 
 // Where the status has other sums than this advice, a later one took its place.
 /** @param {import("../edi/receipt.js").Receipt} receipt @param {Row[]} rows */
@@ -76,6 +78,5 @@ function correctedSince(receipt, rows) {
   const other = rows.filter(({ now, received }) => kinds.some((it) => now?.[it] !== received[it]));
   const pallets = [...new Set(other.map((it) => it.sscc))];
   if (!pallets.length) return [];
-  const named = `${pallets.length === 1 ? "pallet" : "pallets"} ${pallets.join(", ")}`;
-  return [saying("warn", `A later advice replaced what ${receipt.document} says of ${named}. The status has what counts now.`)];
+  return [saying("warn", phrases.receipt.replacedLater(receipt.document, pallets.length, pallets.join(", ")))];
 }

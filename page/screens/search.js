@@ -2,7 +2,8 @@
 // What has a text in its order number, article or SSCC, in the fetched statuses of all suppliers.
 
 import { Articles } from "../articles.js";
-import { counted, element, figure, heading, link } from "../parts/dom.js";
+import { phrases } from "../language.js";
+import { element, heading, link } from "../parts/dom.js";
 import { searchForm, wrongSearch } from "../parts/search_form.js";
 import { supplierColumns } from "../parts/supplier_columns.js";
 import { Table } from "../parts/table.js";
@@ -15,29 +16,28 @@ import { lineColumns, palletColumns } from "./status.js";
 /** @param {import("../start.js").Context} context @param {string} [text] */
 export async function searchScreen({ session, go }, text = "") {
   const { list, round } = await plannerOf(session);
-  const back = element("p", { class: "back" }, link("‹ Overview", "overview"));
-  const content = [back, heading("Search all suppliers"), searchForm(go, text)];
-  if (wrongSearch(text)) return { title: "Search", content };
+  const back = element("p", { class: "back" }, link(`‹ ${phrases.overview.title}`, "overview"));
+  const content = [back, heading(phrases.common.searchAllSuppliers), searchForm(go, text)];
+  if (wrongSearch(text)) return { title: phrases.search.title, content };
   const found = search(round.results, text);
   const fetched = [...round.results.values()].filter((it) => it.figures).length;
   const named = (/** @type {{ gln: string }} */ it) => list.nameOf(it.gln);
-  const words = { kind: "across", empty: "Nothing fits." };
-  const ofLines = [...supplierColumns(named), ...lineColumns(new Articles(), "Refused", "Cancelled", "Shares")];
-  const lines = new Table({ ...words, caption: "Order lines", columns: ofLines, rows: found.lines });
-  const ofPallets = [...supplierColumns(named), ...palletColumns(new Articles(), "Returned", "Destroyed")];
-  const pallets = new Table({ ...words, caption: "Pallets", columns: ofPallets, rows: found.pallets });
+  const words = { kind: "across", empty: phrases.search.empty };
+  const ofLines = [...supplierColumns(named), ...lineColumns(new Articles(), "refused", "cancelled", "shares")];
+  const lines = new Table({ ...words, caption: phrases.common.orderLines, columns: ofLines, rows: found.lines });
+  const ofPallets = [...supplierColumns(named), ...palletColumns(new Articles(), "returned", "destroyed")];
+  const pallets = new Table({ ...words, caption: phrases.common.pallets, columns: ofPallets, rows: found.pallets });
   content.push(
     element("p", { class: "lead", role: "status" }, inWords(found, text, fetched)),
-    element("section", {}, element("h2", {}, "Order lines"), lines.element),
-    element("section", {}, element("h2", {}, "Pallets"), pallets.element),
+    element("section", {}, element("h2", {}, phrases.common.orderLines), lines.element),
+    element("section", {}, element("h2", {}, phrases.common.pallets), pallets.element),
   );
-  return { title: `Search for ${text}`, content };
+  return { title: phrases.search.titleOf(text), content };
 }
 
 /** @param {Found} found @param {string} text @param {number} fetched */
 function inWords({ lines, pallets, isCut }, text, fetched) {
-  if (!fetched) return "No status is fetched yet: do that in the overview.";
-  const counts = `${counted(lines.length, "order line")} and ${counted(pallets.length, "pallet")}`;
-  const cut = isCut ? ` These are the first ${figure(MOST_FOUND)} of each: give more of the number.` : "";
-  return `“${text}” is in ${counts} of ${figure(fetched)} fetched suppliers.${cut}`;
+  if (!fetched) return phrases.common.noneFetched;
+  const said = phrases.search.found(text, lines.length, pallets.length, fetched);
+  return isCut ? `${said} ${phrases.search.cut(MOST_FOUND)}` : said;
 }

@@ -5,34 +5,25 @@
 import { Broken } from "../hub/client.js";
 import { isSafePlace } from "../hub/place.js";
 import { isKey, keepSignIn } from "../kept_sign_in.js";
+import { phrases } from "../language.js";
 import { button, element, heading, saying } from "../parts/dom.js";
 import { Field, check, focusFirstWrong } from "../parts/field.js";
 import { wrongGln } from "../parts/gln.js";
 import { Session } from "../session.js";
-
-const DENIED = "Denied: the hub does not know this GLN with this key. Look at both, and ask the retailer whether you are let in.";
-const KEPT =
-  "This tab keeps GLN and key until you sign out or close it, so that you can reload it. The key is never in an address or a cookie, and " +
-  "the tab forgets it after ten minutes in which you do nothing.";
-const LOCKED =
-  "Nobody used this tab for ten minutes, so it has forgotten your key. What you typed is still there: sign in to go on where you were.";
-const LEFT =
-  "This tab still has what you typed and sent with this GLN. Sign in with the same GLN, and it is back. If another GLN signs in, or if " +
-  "you sign out, it is thrown away.";
-const PLAIN = "This address begins with http, so others could read your key on its way. Open the page by its address with https.";
 
 /** @typedef {{ gln: Field, key: Field, said: HTMLElement, submit: HTMLElement, number: () => string }} Parts */
 
 /** @param {(session: Session) => void} signedIn @param {string} gln to begin with
  * @param {(() => void) | null} signOut throws away what the tab keeps for this GLN, if it keeps anything */
 export function signInScreen(signedIn, gln, signOut) {
-  if (!isSafePlace(location)) return { title: "Sign in", content: [heading("Sign in"), saying("bad", PLAIN)] };
-  const words = { label: "GLN", hint: "Your 13-digit Global Location Number.", value: gln };
+  const { title, plain } = phrases.signIn;
+  if (!isSafePlace(location)) return { title, content: [heading(title), saying("bad", plain)] };
+  const words = { label: "GLN", hint: phrases.signIn.glnHint, value: gln };
   const parts = fieldsOf(new Field({ ...words, name: "username", autocomplete: "username", inputmode: "numeric", maxlength: 20 }));
-  const form = formOf("Sign in", parts, (session) => signedIn(session));
-  form.append(element("p", { class: "hint" }, signOut ? LEFT : KEPT));
-  if (signOut) form.append(button("Sign out", signOut));
-  return { title: "Sign in", content: [form] };
+  const form = formOf(phrases.signIn.title, parts, (session) => signedIn(session));
+  form.append(element("p", { class: "hint" }, signOut ? phrases.signIn.left : phrases.signIn.kept));
+  if (signOut) form.append(button(phrases.common.signOut, signOut));
+  return { title: phrases.signIn.title, content: [form] };
 }
 
 /** The same GLN signs in again.
@@ -42,17 +33,17 @@ export function lockScreen(session, unlocked, signOut) {
   // no password manager can put another one in its place
   const parts = { ...fieldsOf(new Field(words)), number: () => session.hub.caller };
   parts.gln.input.readOnly = true;
-  const form = formOf("Locked", parts, (_, key) => unlocked(key));
-  form.querySelector("h1")?.after(element("p", {}, LOCKED));
-  form.append(element("p", { class: "hint" }, "If you sign out instead, what you typed is thrown away."), button("Sign out", signOut));
-  return { title: "Locked", content: [form] };
+  const form = formOf(phrases.signIn.locked, parts, (_, key) => unlocked(key));
+  form.querySelector("h1")?.after(element("p", {}, phrases.signIn.wasLocked));
+  form.append(element("p", { class: "hint" }, phrases.signIn.instead), button(phrases.common.signOut, signOut));
+  return { title: phrases.signIn.locked, content: [form] };
 }
 
 /** @param {Field} gln @returns {Parts} */
 function fieldsOf(gln) {
   const names = { name: "password", autocomplete: "current-password", type: "password", maxlength: 64 };
-  const key = new Field({ label: "Key", hint: "The key that the retailer gave to you.", ...names });
-  const submit = element("button", { type: "submit", class: "primary wide" }, "Sign in");
+  const key = new Field({ label: phrases.signIn.key, hint: phrases.signIn.keyHint, ...names });
+  const submit = element("button", { type: "submit", class: "primary wide" }, phrases.signIn.title);
   return { gln, key, submit, said: element("div", { role: "alert" }), number: () => gln.trimmed.replace(/\s/g, "") };
 }
 
@@ -65,7 +56,7 @@ function formOf(title, { gln, key, submit, said, number: numberOf }, signedIn) {
     event.preventDefault();
     const number = numberOf();
     const rightGln = check(gln, wrongGln(number));
-    const rightKey = check(key, isKey(key.value) ? "" : "A key has 8 to 64 letters, digits or signs, without blanks.");
+    const rightKey = check(key, isKey(key.value) ? "" : phrases.signIn.wrongKey);
     if (!rightGln || !rightKey) return focusFirstWrong([gln, key]);
     submit.setAttribute("disabled", "");
     said.replaceChildren();
@@ -88,11 +79,11 @@ function formOf(title, { gln, key, submit, said, number: numberOf }, signedIn) {
 async function begun(gln, key, tell) {
   try {
     const session = await Session.begin(gln, key);
-    if (!session) tell("bad", DENIED);
+    if (!session) tell("bad", phrases.signIn.denied);
     return session;
   } catch (why) {
-    if (why instanceof Broken) tell("warn", "The hub does not answer. Try again in a moment.");
-    else tell("warn", `This is not what a hub answers: ${why instanceof Error ? why.message : why}. Perhaps your network asks you first.`);
+    if (why instanceof Broken) tell("warn", phrases.signIn.noAnswer);
+    else tell("warn", phrases.signIn.notAHub(why instanceof Error ? why.message : String(why)));
     return undefined;
   }
 }

@@ -2,8 +2,8 @@
 // The status of a supplier: order lines with what became of them, and pallets with what was received.
 
 import { Articles, articlesOf } from "../articles.js";
-import { ANSWERS, PALLET_STATES } from "../hub/codes.js";
 import { isAnnounced, isDifferent, isOpen, isUnanswered } from "../hub/status_kinds.js";
+import { phrases } from "../language.js";
 import { articleCell, articleColumn } from "../parts/article.js";
 import { bar, legend } from "../parts/bar.js";
 import { difference } from "../parts/difference.js";
@@ -16,27 +16,27 @@ import { notUnderstood } from "../parts/raw.js";
 /** @typedef {import("../hub/replies.js").StatusPallet} StatusPallet */
 /** @typedef {import("../parts/dom.js").Child} Child */
 
-/** @type {[string, string, (line: StatusLine) => boolean][]} */
-const LINES_SHOWN = [
-  ["all", "All lines", () => true],
-  ["open", "With something open", isOpen],
-  ["waiting", "Waiting for an answer", isUnanswered],
-  ["refused", "With something refused", (it) => it.refused > 0],
-  ["cancelled", "With something cancelled", (it) => it.cancelled > 0],
+/** @returns {[string, string, (line: StatusLine) => boolean][]} */
+const linesShown = () => [
+  ["all", phrases.status.allLines, () => true],
+  ["open", phrases.common.withSomethingOpen, isOpen],
+  ["waiting", phrases.common.waitingForAnAnswer, isUnanswered],
+  ["refused", phrases.status.withSomethingRefused, (it) => it.refused > 0],
+  ["cancelled", phrases.status.withSomethingCancelled, (it) => it.cancelled > 0],
 ];
-/** @type {[string, string, (pallet: StatusPallet) => boolean][]} */
-const PALLETS_SHOWN = [
-  ["all", "All pallets", () => true],
-  ["announced", "Announced, not received", isAnnounced],
-  ["different", "With a difference", isDifferent],
-  ["corrected", "Corrected", (it) => it.state === "C"],
+/** @returns {[string, string, (pallet: StatusPallet) => boolean][]} */
+const palletsShown = () => [
+  ["all", phrases.status.allPallets, () => true],
+  ["announced", phrases.common.announcedNotReceived, isAnnounced],
+  ["different", phrases.common.withADifference, isDifferent],
+  ["corrected", phrases.status.corrected, (it) => it.state === "C"],
 ];
 
 /** @param {import("../start.js").Context} context @param {string} [sscc] of the pallet to begin with, above the order lines */
 export async function statusScreen({ session }, sscc = "") {
   const status = await session.status();
   const [lines, pallets, raw] = statusView(status, articlesOf(session), { sscc });
-  return { title: "Status", content: [heading("Status"), ...(sscc ? [pallets, lines] : [lines, pallets]), raw] };
+  return { title: phrases.common.status, content: [heading(phrases.common.status), ...(sscc ? [pallets, lines] : [lines, pallets]), raw] };
 }
 
 /** @param {{ lines: StatusLine[], pallets: StatusPallet[], raw: string[] }} status
@@ -45,29 +45,30 @@ export async function statusScreen({ session }, sscc = "") {
  *   under?: (shown: () => StatusLine[]) => Child }} words by which `sscc` the pallets are filtered to begin with, columns of the lines that
  * are left out and added, and what is under the lines */
 export function statusView(status, articles, { sscc = "", without = [], more = [], under = () => null }) {
-  const ofLines = { caption: "Order lines", kind: "lines", empty: "No order line fits.", sums: true };
+  const ofLines = { caption: phrases.common.orderLines, kind: "lines", empty: phrases.status.noLineFits, sums: true };
   const lines = new FilteredTable(
     { ...ofLines, columns: [...lineColumns(articles, ...without), ...more], rows: status.lines },
-    { label: "Order or article", kinds: LINES_SHOWN, words: (it) => [it.order, it.gtin, articles.words(it)] },
+    { label: phrases.status.filterLines, kinds: linesShown(), words: (it) => [it.order, it.gtin, articles.words(it)] },
   );
-  const ofPallets = { caption: "Pallets", kind: "pallet-rows", empty: "No pallet fits.", sums: true };
+  const ofPallets = { caption: phrases.common.pallets, kind: "pallet-rows", empty: phrases.status.noPalletFits, sums: true };
   const pallets = new FilteredTable(
     { ...ofPallets, columns: palletColumns(articles), rows: status.pallets },
-    { label: "SSCC or article", kinds: PALLETS_SHOWN, words: (it) => [it.sscc, it.gtin, articles.words(it)], value: sscc },
+    { label: phrases.status.filterPallets, kinds: palletsShown(), words: (it) => [it.sscc, it.gtin, articles.words(it)], value: sscc },
   );
-  const key = without.includes("Shares") ? null : legend();
+  const key = without.includes("shares") ? null : legend();
   const chosen = under(() => lines.table.shown);
   return [
-    element("section", {}, element("h2", {}, "Order lines"), lines.filter.element, key, lines.table.element, chosen),
-    element("section", {}, element("h2", {}, "Pallets"), pallets.filter.element, pallets.table.element),
-    status.raw.length ? notUnderstood("The page does not understand these lines of the report:", status.raw.join("\n")) : null,
+    element("section", {}, element("h2", {}, phrases.common.orderLines), lines.filter.element, key, lines.table.element, chosen),
+    element("section", {}, element("h2", {}, phrases.common.pallets), pallets.filter.element, pallets.table.element),
+    status.raw.length ? notUnderstood(phrases.status.notUnderstood, status.raw.join("\n")) : null,
   ];
 }
 
-/** @param {Articles} articles @param {...string} without titles of columns that are left out
+/** @param {Articles} articles @param {...string} without names of columns that are left out
  * @returns {import("../parts/table.js").Column<StatusLine>[]} */
 export function lineColumns(articles, ...without) {
   const quantity = (/** @type {string} */ title, /** @type {"ordered" | "despatched" | "open" | "refused" | "cancelled"} */ name) => ({
+    name,
     title,
     cell: (/** @type {StatusLine} */ it) => figure(it[name]),
     value: (/** @type {StatusLine} */ it) => it[name],
@@ -76,24 +77,25 @@ export function lineColumns(articles, ...without) {
   });
   /** @type {import("../parts/table.js").Column<StatusLine>[]} */
   const columns = [
-    { title: "Order", cell: orderNumber, value: (it) => it.order },
-    { title: "Line", cell: (it) => it.line, value: (it) => it.line },
+    { title: phrases.common.order, cell: orderNumber, value: (it) => it.order },
+    { title: phrases.common.line, cell: (it) => it.line, value: (it) => it.line },
     { ...articleColumn((/** @type {StatusLine} */ it) => it.gtin, (it) => articleCell(it.gtin, articles.of(it))), value: (it) => it.gtin },
-    { title: "Answer", cell: (it) => ANSWERS[it.answer], value: (it) => ANSWERS[it.answer] },
-    quantity("Ordered", "ordered"),
-    quantity("Despatched", "despatched"),
-    quantity("Open", "open"),
-    quantity("Refused", "refused"),
-    quantity("Cancelled", "cancelled"),
-    { title: "Shares", cell: bar, kind: "bar-cell", csv: false },
+    { title: phrases.common.answer, cell: (it) => phrases.answers[it.answer], value: (it) => phrases.answers[it.answer] },
+    quantity(phrases.common.ordered, "ordered"),
+    quantity(phrases.common.despatched, "despatched"),
+    quantity(phrases.common.open, "open"),
+    quantity(phrases.status.refused, "refused"),
+    quantity(phrases.common.cancelled, "cancelled"),
+    { name: "shares", title: phrases.status.shares, cell: bar, kind: "bar-cell", csv: false },
   ];
-  return columns.filter((it) => !without.includes(it.title));
+  return columns.filter((it) => !without.includes(it.name ?? ""));
 }
 
-/** @param {Articles} articles @param {...string} without titles of columns that are left out
+/** @param {Articles} articles @param {...string} without names of columns that are left out
  * @returns {import("../parts/table.js").Column<StatusPallet>[]} */
 export function palletColumns(articles, ...without) {
   const quantity = (/** @type {string} */ title, /** @type {"despatched" | "accepted" | "returned" | "destroyed"} */ name) => ({
+    name,
     title,
     cell: (/** @type {StatusPallet} */ it) => figure(it[name]),
     value: (/** @type {StatusPallet} */ it) => it[name],
@@ -101,19 +103,19 @@ export function palletColumns(articles, ...without) {
     sum: true,
   });
   const article = articleColumn((/** @type {StatusPallet} */ it) => it.gtin, (it) => articleCell(it.gtin, articles.of(it)));
-  const none = "not received yet";
+  const none = phrases.status.notReceived;
   const lack = (/** @type {StatusPallet} */ it) => (it.state === "A" ? none : difference(it.difference));
   const lackInFile = (/** @type {StatusPallet} */ it) => (it.state === "A" ? none : it.difference);
   /** @type {import("../parts/table.js").Column<StatusPallet>[]} */
   const columns = [
-    { title: "Pallet (SSCC)", cell: (it) => it.sscc, value: (it) => it.sscc, kind: "digits" },
+    { title: phrases.common.palletSscc, cell: (it) => it.sscc, value: (it) => it.sscc, kind: "digits" },
     { ...article, value: (it) => it.gtin },
-    { title: "State", cell: (it) => PALLET_STATES[it.state], value: (it) => PALLET_STATES[it.state] },
-    quantity("Despatched", "despatched"),
-    quantity("Accepted", "accepted"),
-    quantity("Returned", "returned"),
-    quantity("Destroyed", "destroyed"),
-    { title: "Difference", cell: lack, value: (it) => it.difference, number: true, csv: lackInFile },
+    { title: phrases.status.state, cell: (it) => phrases.palletStates[it.state], value: (it) => phrases.palletStates[it.state] },
+    quantity(phrases.common.despatched, "despatched"),
+    quantity(phrases.common.accepted, "accepted"),
+    quantity(phrases.common.returned, "returned"),
+    quantity(phrases.common.destroyed, "destroyed"),
+    { title: phrases.common.difference, cell: lack, value: (it) => it.difference, number: true, csv: lackInFile },
   ];
-  return columns.filter((it) => !without.includes(it.title));
+  return columns.filter((it) => !without.includes(it.name ?? ""));
 }

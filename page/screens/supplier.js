@@ -4,6 +4,7 @@
 import { Articles } from "../articles.js";
 import { day } from "../edi/dates.js";
 import { Refused } from "../hub/client.js";
+import { phrases } from "../language.js";
 import { element, heading, link, newId, saying } from "../parts/dom.js";
 import { dueColumn } from "../parts/due.js";
 import { Field, check, focusFirstWrong } from "../parts/field.js";
@@ -20,9 +21,9 @@ import { statusView } from "./status.js";
 export async function supplierScreen(context, gln = context.session.supplier) {
   const { session, go } = context;
   const planner = await plannerOf(session);
-  const field = new Field({ label: "The supplier's GLN", value: gln, inputmode: "numeric", maxlength: 20 });
+  const field = new Field({ label: phrases.supplier.gln, value: gln, inputmode: "numeric", maxlength: 20 });
   const names = knownSuppliers(planner.list.suppliers, field);
-  const submit = element("button", { type: "submit", class: "primary" }, "Show status");
+  const submit = element("button", { type: "submit", class: "primary" }, phrases.supplier.show);
   const form = element("form", { class: "filter", novalidate: true, onsubmit: ask }, field.element, names, submit);
 
   /** @param {Event} event */
@@ -37,8 +38,9 @@ export async function supplierScreen(context, gln = context.session.supplier) {
   const isRight = gln !== "" && check(field, wrongGln(gln));
   const status = isRight ? await shown(context, gln) : [];
   const name = planner.list.nameOf(gln);
-  const content = [heading(name && isRight ? `Status of ${name}` : "Status of a supplier"), form, ...status];
-  return { title: isRight ? `Status of ${gln}` : "Status", content, focus: field.isWrong ? field.input : undefined };
+  const content = [heading(name && isRight ? phrases.supplier.statusOf(name) : phrases.supplier.heading), form, ...status];
+  const title = isRight ? phrases.supplier.statusOf(gln) : phrases.common.status;
+  return { title, content, focus: field.isWrong ? field.input : undefined };
 }
 
 /** What the field offers: the suppliers of the list, by name.
@@ -60,11 +62,11 @@ async function shown(context, gln) {
     const actions = { title: "", cell: (/** @type {StatusLine} */ it) => action(gln, it, choice), kind: "action" };
     const wanted = await wantedColumn(session, gln, status.lines);
     // there is no room for both
-    const without = wanted.length ? ["Shares"] : [];
+    const without = wanted.length ? ["shares"] : [];
     return statusView(status, new Articles(), { without, more: [...wanted, actions], under: (lines) => choice.bar(lines) });
   } catch (why) {
     if (!(why instanceof Refused && why.status === 404)) throw why;
-    return [saying("bad", `The hub knows no supplier ${gln}.`)];
+    return [saying("bad", phrases.supplier.unknown(gln))];
   }
 }
 
@@ -85,7 +87,7 @@ function action(gln, line, choice) {
 // Of an order of which the number is unsure the person types it, with its blanks.
 /** @param {string} gln @param {import("../hub/replies.js").StatusLine} it */
 function cancelLink(gln, it) {
-  const label = `Cancel of order ${orderInWords(it)}, line ${it.line}`;
+  const label = phrases.supplier.cancelOf(orderInWords(it), it.line);
   const which = it.unsure ? gln : `${gln}/${encodeURIComponent(it.order)}/${it.line}`;
-  return link("Cancel…", `cancel/${which}`, { "aria-label": label });
+  return link(phrases.supplier.cancel, `cancel/${which}`, { "aria-label": label });
 }

@@ -4,6 +4,7 @@
 import { day } from "../edi/dates.js";
 import { gtinAsPrinted } from "../edi/identifiers.js";
 import { Broken } from "../hub/client.js";
+import { phrases } from "../language.js";
 import { MOST_REQUESTS } from "../mail_search.js";
 import { difference } from "../parts/difference.js";
 import { button, element, figure, heading, link, sayOnce, saying } from "../parts/dom.js";
@@ -19,12 +20,9 @@ import { hasShort, ordersWanted, rowsOf } from "../today_rows.js";
 const EVERY = 5 * 60_000;
 const LOOK = 1_000;
 const MOST_ROWS = 100;
-const REFRESHED =
-  `While this tab is visible, the page looks again every five minutes. Each time it asks the hub at most ${MOST_REQUESTS} times, so of a ` +
-  "large mailbox it learns a part each time.";
-const LEFT_OVER = "Not all of your mailbox is looked through yet: some dates and links are missing. The rest comes with the next looks.";
 
-/** A part of the screen: its heading and its table. @template Row */
+/** A part of the screen: its heading and its table.
+ * @template Row */
 class Part {
   /** @param {{ title: string, empty: string, columns: import("../parts/table.js").Column<Row>[] }} words */
   constructor({ title, empty, columns }) {
@@ -36,7 +34,8 @@ class Part {
     this.drawn = "[]";
   }
 
-  /** Shows these rows, if they are others; what has the focus keeps it, if it is still there. @param {Row[]} rows */
+  /** Shows these rows, if they are others; what has the focus keeps it, if it is still there.
+   * @param {Row[]} rows */
   show(rows) {
     const drawn = JSON.stringify(rows);
     if (drawn === this.drawn) return;
@@ -44,7 +43,7 @@ class Part {
     const focused = this.table.element.contains(document.activeElement) ? document.activeElement : null;
     this.heading.textContent = rows.length ? `${this.title} (${figure(rows.length)})` : this.title;
     this.table.show(rows.slice(0, MOST_ROWS));
-    this.more.textContent = rows.length > MOST_ROWS ? `These are the first ${MOST_ROWS}. Status has all of them.` : "";
+    this.more.textContent = rows.length > MOST_ROWS ? phrases.today.first(MOST_ROWS) : "";
     if (!focused || focused.isConnected) return;
     const again = [...this.table.element.querySelectorAll("a")].find((it) => it.getAttribute("href") === focused.getAttribute("href"));
     (again ?? this.heading).focus({ preventScroll: true });
@@ -59,7 +58,7 @@ class Today {
     this.asOf = element("p", { class: "hint" });
     this.problem = element("div", { role: "status" });
     this.parts = { orders: ordersPart(), lines: linesPart(), pallets: palletsPart(), short: shortPart() };
-    this.title = "Today";
+    this.title = phrases.today.title;
     this.lookedAt = 0;
     this.isLooking = false;
     /** @type {{ lines: import("../hub/replies.js").StatusLine[], pallets: import("../hub/replies.js").StatusPallet[] }} */
@@ -77,8 +76,8 @@ class Today {
   async complete() {
     await this.session.mail.search(ordersWanted(this.status), hasShort(this.status));
     this.draw();
-    this.asOf.replaceChildren(`As of ${clockTime(this.lookedAt)}. ${REFRESHED}`);
-    this.problem.replaceChildren(...(this.session.mail.isComplete ? [] : [saying("plain", LEFT_OVER)]));
+    this.asOf.replaceChildren(`${phrases.today.asOf(clockTime(this.lookedAt))} ${phrases.today.refreshed(MOST_REQUESTS)}`);
+    this.problem.replaceChildren(...(this.session.mail.isComplete ? [] : [saying("plain", phrases.today.leftOver)]));
   }
 
   /** @param {() => Promise<void>} act one look at a time; a failure is told, and what was shown stays */
@@ -89,7 +88,7 @@ class Today {
       await act();
     } catch (why) {
       if (!(why instanceof Broken)) throw why;
-      this.problem.replaceChildren(saying("warn", `The hub did not answer at ${clockTime(this.lookedAt)}. The page asks again.`));
+      this.problem.replaceChildren(saying("warn", phrases.today.noAnswer(clockTime(this.lookedAt))));
     } finally {
       this.isLooking = false;
     }
@@ -110,7 +109,7 @@ class Today {
     this.parts.short.show(rows.short);
     sayOnce(this.lead, inWords(rows));
     const count = rows.orders.length + rows.lines.length + rows.short.length;
-    this.title = count ? `(${figure(count)}) Today` : "Today";
+    this.title = count ? `(${figure(count)}) ${phrases.today.title}` : phrases.today.title;
     if (this.lead.isConnected) document.title = `${this.title} · edihub`;
   }
 
@@ -134,30 +133,31 @@ export async function todayScreen({ session }) {
   const today = new Today(session);
   await today.begin();
   today.look(() => today.complete());
-  const again = button("Look again now", () => void today.refresh(), { class: "quiet no-print" });
+  const again = button(phrases.today.again, () => void today.refresh(), { class: "quiet no-print" });
   const parts = Object.values(today.parts).map((it) => it.element);
-  return { title: today.title, content: [heading("Today"), today.lead, today.problem, ...parts, today.asOf, again], leave: today.watch() };
+  const content = [heading(phrases.today.title), today.lead, today.problem, ...parts, today.asOf, again];
+  return { title: today.title, content, leave: today.watch() };
 }
 
 /** @param {Rows} rows */
 function inWords({ orders, lines, pallets, short }) {
-  const counted = (/** @type {number} */ count, /** @type {string} */ one, /** @type {string} */ many) =>
-    count ? [`${figure(count)} ${count === 1 ? one : many}`] : [];
+  const { toAnswer, toShip, overdue, announced, receivedShort, nothing } = phrases.today;
   const late = lines.filter((it) => it.isLate).length;
-  const found = [
-    ...counted(orders.length, "order to answer", "orders to answer"),
-    ...counted(lines.length, "line to ship", "lines to ship"),
-    ...counted(late, "of them overdue", "of them overdue"),
-    ...counted(pallets.length, "pallet announced and not received", "pallets announced and not received"),
-    ...counted(short.length, "received short", "received short"),
-  ];
-  return found.length ? `${found.join(", ")}.` : "Nothing waits for you.";
+  const kinds = /** @type {const} */ ([
+    [orders.length, toAnswer],
+    [lines.length, toShip],
+    [late, overdue],
+    [pallets.length, announced],
+    [short.length, receivedShort],
+  ]);
+  const found = kinds.flatMap(([count, inWords]) => (count ? [inWords(count)] : []));
+  return found.length ? `${found.join(", ")}.` : nothing;
 }
 
 /** A link to a screen of the entry, or to the mailbox if it is not known.
  * @param {string} label @param {string} screen @param {number | null} entry @param {string} what */
 function action(label, screen, entry, what) {
-  if (entry === null) return link("Mailbox", "mailbox", { "aria-label": `Mailbox: look for ${what}` });
+  if (entry === null) return link(phrases.mailbox.title, "mailbox", { "aria-label": phrases.today.lookFor(what) });
   return link(label, `${screen}/${entry}`, { "aria-label": `${label} ${what}` });
 }
 
@@ -167,65 +167,67 @@ const orderLink = (entry, line) => (entry === null ? orderNumber(line) : link(or
 /** @returns {Part<import("../today_rows.js").OrderRow>} */
 const ordersPart = () =>
   new Part({
-    title: "Orders to answer",
-    empty: "No order waits for an answer.",
+    title: phrases.today.ordersTitle,
+    empty: phrases.today.noOrders,
     columns: [
-      { title: "Order", cell: (it) => orderLink(it.entry, it), value: (it) => it.order },
-      { title: "Lines", cell: (it) => figure(it.lines), value: (it) => it.lines, number: true },
-      { title: "Pieces", cell: (it) => figure(it.open), value: (it) => it.open, number: true },
+      { title: phrases.common.order, cell: (it) => orderLink(it.entry, it), value: (it) => it.order },
+      { title: phrases.today.lines, cell: (it) => figure(it.lines), value: (it) => it.lines, number: true },
+      { title: phrases.today.pieces, cell: (it) => figure(it.open), value: (it) => it.open, number: true },
       dueColumn((it) => it),
-      { title: "", cell: (it) => action("Answer", "answer", it.entry, `order ${orderInWords(it)}`), kind: "action" },
+      { title: "", cell: (it) => action(phrases.today.answer, "answer", it.entry, phrases.today.order(orderInWords(it))), kind: "action" },
     ],
   });
 
 /** @returns {Part<import("../today_rows.js").LineRow>} */
 const linesPart = () =>
   new Part({
-    title: "Lines to ship",
-    empty: "No answered line has anything open.",
+    title: phrases.today.linesTitle,
+    empty: phrases.today.noLines,
     columns: [
-      { title: "Order", cell: (it) => orderLink(it.entry, it.line), value: (it) => it.line.order },
-      { title: "Line", cell: (it) => it.line.line, value: (it) => it.line.line },
-      { title: "Article (GTIN)", cell: (it) => gtinAsPrinted(it.line.gtin), value: (it) => it.line.gtin, kind: "digits" },
-      { title: "Open", cell: (it) => figure(it.line.open), value: (it) => it.line.open, number: true },
+      { title: phrases.common.order, cell: (it) => orderLink(it.entry, it.line), value: (it) => it.line.order },
+      { title: phrases.common.line, cell: (it) => it.line.line, value: (it) => it.line.line },
+      { title: phrases.common.articleGtin, cell: (it) => gtinAsPrinted(it.line.gtin), value: (it) => it.line.gtin, kind: "digits" },
+      { title: phrases.common.open, cell: (it) => figure(it.line.open), value: (it) => it.line.open, number: true },
       dueColumn((it) => it),
-      { title: "", cell: (it) => action("Despatch", "despatch", it.entry, lineInWords(it)), kind: "action" },
+      { title: "", cell: (it) => action(phrases.today.despatch, "despatch", it.entry, lineInWords(it)), kind: "action" },
     ],
   });
 
 /** @param {import("../today_rows.js").LineRow} row */
-const lineInWords = ({ line }) => `order ${orderInWords(line)}, line ${line.line}`;
+const lineInWords = ({ line }) => phrases.common.orderLine(orderInWords(line), line.line);
 
 /** @returns {Part<import("../today_rows.js").PalletRow>} */
 const palletsPart = () =>
   new Part({
-    title: "Announced, not received",
-    empty: "All pallets that you announced are received.",
+    title: phrases.common.announcedNotReceived,
+    empty: phrases.today.noPallets,
     columns: [
-      { title: "Pallet (SSCC)", cell: (it) => it.sscc, value: (it) => it.sscc, kind: "digits" },
-      { title: "Articles", cell: (it) => figure(it.articles), value: (it) => it.articles, number: true },
-      { title: "Pieces", cell: (it) => figure(it.pieces), value: (it) => it.pieces, number: true },
+      { title: phrases.common.palletSscc, cell: (it) => it.sscc, value: (it) => it.sscc, kind: "digits" },
+      { title: phrases.today.articles, cell: (it) => figure(it.articles), value: (it) => it.articles, number: true },
+      { title: phrases.today.pieces, cell: (it) => figure(it.pieces), value: (it) => it.pieces, number: true },
       { title: "", cell: (it) => palletLink(it.sscc), kind: "action" },
     ],
   });
 
 /** @param {string} sscc */
-const palletLink = (sscc) => link("Show", `status/${sscc}`, { "aria-label": `Show pallet ${sscc} in the status` });
+const palletLink = (sscc) => link(phrases.today.show, `status/${sscc}`, { "aria-label": phrases.today.showPallet(sscc) });
 
 /** @returns {Part<import("../today_rows.js").ShortRow>} */
-const shortPart = () =>
-  new Part({
-    title: "Received short",
-    empty: "Nothing new was received short. A pallet leaves this list once you mark its receiving advice as taken.",
+function shortPart() {
+  const { palletSscc, articleGtin, despatched, difference: lack } = phrases.common;
+  return new Part({
+    title: phrases.today.shortTitle,
+    empty: phrases.today.noShort,
     columns: [
-      { title: "Pallet (SSCC)", cell: ({ pallet }) => pallet.sscc, value: ({ pallet }) => pallet.sscc, kind: "digits" },
-      { title: "Article (GTIN)", cell: ({ pallet }) => gtinAsPrinted(pallet.gtin), value: ({ pallet }) => pallet.gtin, kind: "digits" },
-      { title: "Despatched", cell: ({ pallet }) => figure(pallet.despatched), value: ({ pallet }) => pallet.despatched, number: true },
-      { title: "Difference", cell: ({ pallet }) => difference(pallet.difference), csv: ({ pallet }) => pallet.difference, number: true },
+      { title: palletSscc, cell: ({ pallet }) => pallet.sscc, value: ({ pallet }) => pallet.sscc, kind: "digits" },
+      { title: articleGtin, cell: ({ pallet }) => gtinAsPrinted(pallet.gtin), value: ({ pallet }) => pallet.gtin, kind: "digits" },
+      { title: despatched, cell: ({ pallet }) => figure(pallet.despatched), value: ({ pallet }) => pallet.despatched, number: true },
+      { title: lack, cell: ({ pallet }) => difference(pallet.difference), csv: ({ pallet }) => pallet.difference, number: true },
       { title: "", cell: shortLink, kind: "action" },
     ],
   });
+}
 
 /** @param {import("../today_rows.js").ShortRow} row */
 const shortLink = ({ pallet: { sscc }, advice }) =>
-  advice === null ? palletLink(sscc) : link("Read the advice", `entry/${advice}`, { "aria-label": `Read the advice of pallet ${sscc}` });
+  advice === null ? palletLink(sscc) : link(phrases.today.read, `entry/${advice}`, { "aria-label": phrases.today.readOf(sscc) });

@@ -2,11 +2,11 @@
 // The retailer's interchanges, chosen or dropped as files, listed, and sent by a second press as they are, one after another.
 
 import { namesInFile } from "../edi/document_names.js";
-import { OUTCOMES, TYPES } from "../hub/codes.js";
 import { readUpload } from "../hub/replies.js";
 import { UploadQueue, contentInWords } from "../hub/upload_queue.js";
+import { phrases } from "../language.js";
 import { codeInWords } from "../parts/code.js";
-import { actions, button, element, figure, heading, link, notice, saying } from "../parts/dom.js";
+import { actions, button, element, heading, link, notice, saying } from "../parts/dom.js";
 import { dropZone } from "../parts/drop_zone.js";
 import { documentNumber } from "../parts/order_number.js";
 import { notUnderstood } from "../parts/raw.js";
@@ -18,19 +18,13 @@ import { plannerAtOnce } from "../suppliers/planner.js";
 /** @typedef {import("../hub/sending.js").Sending} Sending */
 /** @typedef {import("../hub/upload_queue.js").Item} Item */
 
-const CHOICE = {
-  label: "Choose .edi files, or drop them here",
-  hint: "Orders (ORDERS) and receiving advices (RECADV). A file is sent as it is, and may have many messages.",
-  accept: ".edi,.edifact,.txt",
-};
-const UNREADABLE = "Your browser could not read this file. Perhaps it was moved or changed: choose it again. The other files are sent.";
-const PAUSED = "A file got no answer, so those after it wait. Send it again first, or continue with the rest.";
-const NO_TURNING_BACK = "What is sent cannot be taken back.";
+const choice = () => ({ label: phrases.upload.choose, hint: phrases.upload.chooseHint, accept: ".edi,.edifact,.txt" });
 
 /** @type {WeakMap<import("../session.js").Session, UploadQueue>} */
 const QUEUES = new WeakMap();
 
-/** The files of this session: they stay when the screen is left. @param {import("../session.js").Session} session */
+/** The files of this session: they stay when the screen is left.
+ * @param {import("../session.js").Session} session */
 function queueOf(session) {
   const queue = QUEUES.get(session) ?? new UploadQueue(session.sent);
   QUEUES.set(session, queue);
@@ -42,9 +36,10 @@ export async function uploadScreen({ session }) {
   const queue = queueOf(session);
   // names are wanted only once the hub has answered
   const { list } = plannerAtOnce(session);
-  const zone = dropZone(CHOICE, (files) => queue.choose(files));
-  const check = element("p", {}, link("Check a file", "explain"), " without sending it.");
-  return { title: "Upload", content: [heading("Upload"), zone, check, ...queueView(queue, (gln) => list.nameOf(gln))] };
+  const zone = dropZone(choice(), (files) => queue.choose(files));
+  const check = element("p", {}, ...phrases.explain.without(link(phrases.explain.title, "explain")));
+  const { title } = phrases.upload;
+  return { title, content: [heading(title), zone, check, ...queueView(queue, (gln) => list.nameOf(gln))] };
 }
 
 /** @param {UploadQueue} queue @param {(gln: string) => string} nameOf */
@@ -71,33 +66,35 @@ function queueView(queue, nameOf) {
   return [summary, list];
 }
 
-/** The summary with the press that sends, and the one that continues. @param {UploadQueue} queue @returns {Node[]} */
+/** The summary with the press that sends, and the one that continues.
+ * @param {UploadQueue} queue @returns {Node[]} */
 function whatNext(queue) {
   const count = queue.ready.length;
-  const files = count === 1 ? "1 file" : `${figure(count)} files`;
   // the second click of a double click sends nothing
   const once = (/** @type {Event} */ event) => /** @type {MouseEvent} */ (event).detail < 2 && queue.send();
-  const wrong = queue.wrong === 1 ? "1 file cannot be sent" : `${figure(queue.wrong)} files cannot be sent`;
-  const paused = notice("warn", element("p", {}, PAUSED), button("Continue with the rest", () => void queue.proceed()));
+  const rest = button(phrases.common.continueWithTheRest, () => void queue.proceed());
+  const paused = notice("warn", element("p", {}, phrases.upload.paused), rest);
   return [
-    ...(queue.wrong ? [saying("bad", `${wrong}: it says below why.`)] : []),
+    ...(queue.wrong ? [saying("bad", phrases.upload.cannotBeSent(queue.wrong))] : []),
     ...(queue.state === "paused" ? [paused] : []),
-    ...(count ? [saying("plain", `You are sending ${files}. ${NO_TURNING_BACK}`)] : []),
-    ...(count ? [actions(button(`Send ${files}`, once, { class: "primary" }))] : []),
+    ...(count ? [saying("plain", `${phrases.upload.youAreSending(count)} ${phrases.summary.noTurningBack}`)] : []),
+    ...(count ? [actions(button(phrases.upload.send(count), once, { class: "primary" }))] : []),
   ];
 }
 
-/** A file, and how it is doing. @param {UploadQueue} queue @param {Item} item @param {(gln: string) => string} nameOf */
+/** A file, and how it is doing.
+ * @param {UploadQueue} queue @param {Item} item @param {(gln: string) => string} nameOf */
 function itemRow(queue, item, nameOf) {
   const region = sendingRegion();
   const row = element("section", { class: "card upload" }, element("h2", {}, item.name), region);
   const { sending } = item;
-  const remove = button("Remove", () => queue.remove(item), { class: "quiet", "aria-label": `Remove ${item.name}` });
-  if (!sending) region.replaceChildren(saying("bad", item.wrong === "unreadable" ? UNREADABLE : denial("413")), remove);
+  const label = phrases.upload.removeOne(item.name);
+  const remove = button(phrases.upload.remove, () => queue.remove(item), { class: "quiet", "aria-label": label });
+  if (!sending) region.replaceChildren(saying("bad", item.wrong === "unreadable" ? phrases.upload.unreadable : denial("413")), remove);
   else {
     const draw = () => {
       if (sending.state !== "review") tell(region, sending, (it) => answered(it, nameOf));
-      else if (queue.waiting.includes(item)) region.replaceChildren(element("p", {}, "Waiting for its turn…"));
+      else if (queue.waiting.includes(item)) region.replaceChildren(element("p", {}, phrases.common.waits));
       else if (!remove.isConnected) region.replaceChildren(element("p", {}, contentOf(item)), remove);
     };
     sending.addEventListener("change", draw);
@@ -110,8 +107,7 @@ function itemRow(queue, item, nameOf) {
 /** @param {Item} item */
 function contentOf({ text }) {
   const found = contentInWords(text);
-  const size = `${figure(text.length)} bytes`;
-  return found ? `${found}, ${size}. Not sent yet.` : `${size}, in a spelling that the page does not read. Not sent yet.`;
+  return found ? phrases.upload.content(found, text.length) : phrases.upload.unread(text.length);
 }
 
 /** What the hub said of each message, with the document and the supplier that the file names.
@@ -119,11 +115,11 @@ function contentOf({ text }) {
 function answered({ state, facts: { file, reply, text } }, nameOf) {
   if (state === "denied") return [saying("bad", denial(reply))];
   const read = readUpload(reply);
-  if (!read) return [notUnderstood("The page does not understand the hub's answer. It said:", reply)];
-  if (read.code) return [saying("bad", "Refused, and nothing of it was taken. ", codeInWords(read.code))];
-  const words = { caption: `Messages of ${file}`, empty: "The file has no message." };
+  if (!read) return [notUnderstood(phrases.common.notUnderstood, reply)];
+  if (read.code) return [saying("bad", `${phrases.upload.refused} `, codeInWords(read.code))];
+  const words = { caption: phrases.upload.caption(file), empty: phrases.upload.empty };
   const table = new Table({ ...words, columns: columns(namesInFile(text), nameOf), rows: read.messages });
-  return [element("p", { class: "hint" }, `Interchange ${read.reference}`), table.element];
+  return [element("p", { class: "hint" }, phrases.upload.interchange(read.reference)), table.element];
 }
 
 /** @param {ReturnType<typeof namesInFile>} names @param {(gln: string) => string} nameOf
@@ -132,13 +128,13 @@ function columns(names, nameOf) {
   const supplierOf = (/** @type {MessageReply} */ { reference }) => names.get(reference)?.supplier ?? "";
   const documentOf = (/** @type {MessageReply} */ { reference }) => names.get(reference)?.document ?? "";
   const result = (/** @type {MessageReply} */ { outcome, code }) =>
-    element("span", { class: `result ${outcome}` }, code ? codeInWords(code) : OUTCOMES[outcome]);
+    element("span", { class: `result ${outcome}` }, code ? codeInWords(code) : phrases.outcomes[outcome]);
   return [
-    { title: "Message", cell: (it) => it.reference },
-    { title: "Type", cell: (it) => TYPES[it.type] ?? it.type },
-    { title: "Order or advice", cell: (it) => documentNumber(documentOf(it)), value: documentOf },
-    { title: "Supplier", cell: (it) => supplierInWords(supplierOf(it), nameOf), value: supplierOf },
-    { title: "Result", cell: result },
+    { title: phrases.upload.message, cell: (it) => it.reference },
+    { title: phrases.common.type, cell: (it) => phrases.types[it.type] ?? it.type },
+    { title: phrases.upload.document, cell: (it) => documentNumber(documentOf(it)), value: documentOf },
+    { title: phrases.common.supplier, cell: (it) => supplierInWords(supplierOf(it), nameOf), value: supplierOf },
+    { title: phrases.upload.result, cell: result },
   ];
 }
 

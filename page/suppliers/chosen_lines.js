@@ -20,7 +20,8 @@ export class ChosenLines {
     return this.chosen.find((it) => it.order === order && it.line === line);
   }
 
-  /** Chooses a line, or changes its quantity. @param {Line} line @param {string} [quantity] */
+  /** Chooses a line, or changes its quantity.
+   * @param {Line} line @param {string} [quantity] */
   choose({ order, line }, quantity = "") {
     const known = this.of({ order, line });
     if (known) known.quantity = quantity;

@@ -2,17 +2,19 @@
 // Reads a list of suppliers, GLN and name, from the rows of a spreadsheet.
 
 import { isGln } from "../edi/identifiers.js";
-import { readRows } from "../parts/csv.js";
+import { ALL_PHRASES, phrases } from "../language.js";
+import { placesOfTitles, readRows } from "../parts/csv.js";
 
 /** @typedef {{ gln: string, name: string }} Supplier the name may be empty */
 
 /** As many as a hub takes. */
 export const MOST_SUPPLIERS = 1_000;
 
-const TITLES = [["gln"], ["name", "supplier"]];
+const TITLES = ALL_PHRASES.map(({ rows }) => [["gln"], rows.supplier]);
 const ALONE = [0, 1];
 
-/** The text of a file: UTF-8, or else Windows-1252, in which spreadsheets save CSV too. @param {ArrayBuffer} buffer */
+/** The text of a file: UTF-8, or else Windows-1252, in which spreadsheets save CSV too.
+ * @param {ArrayBuffer} buffer */
 export function textOfFile(buffer) {
   try {
     return new TextDecoder("utf-8", { fatal: true }).decode(buffer);
@@ -28,7 +30,7 @@ export function textOfFile(buffer) {
 export function readSuppliers(text) {
   const rows = readRows(text);
   const titles = rows[0].map((it) => it.toLowerCase());
-  const named = TITLES.map((words) => titles.findIndex((it) => words.includes(it)));
+  const named = placesOfTitles(titles, TITLES);
   const hasTitles = named[0] >= 0;
   /** @type {Map<string, Supplier>} */
   const found = new Map();
@@ -39,7 +41,7 @@ export function readSuppliers(text) {
     const [gln, name] = (hasTitles ? named : ALONE).map((it) => cells[it] ?? "");
     const digits = gln.replace(/\s/g, "");
     const fault = faultOf(digits, gln, found);
-    if (fault) wrong.push(`Row ${at + 1}: ${fault}`);
+    if (fault) wrong.push(phrases.common.row(at + 1, fault));
     else found.set(digits, { gln: digits, name });
   });
   return { suppliers: [...found.values()], wrong };
@@ -47,8 +49,8 @@ export function readSuppliers(text) {
 
 /** @param {string} digits @param {string} written @param {Map<string, Supplier>} found */
 function faultOf(digits, written, found) {
-  if (/^\d[\d.,]*E\+?\d+$/i.test(digits)) return `the spreadsheet shortened the GLN to ${written}. Format its column as text.`;
-  if (!isGln(digits)) return written ? `“${written}” is not a GLN.` : "the GLN is missing.";
-  if (found.has(digits)) return `${digits} is in an earlier row too.`;
-  return found.size < MOST_SUPPLIERS ? "" : `a list has at most ${MOST_SUPPLIERS} suppliers.`;
+  if (/^\d[\d.,]*E\+?\d+$/i.test(digits)) return phrases.supplierFile.shortened(written);
+  if (!isGln(digits)) return written ? phrases.supplierFile.notAGln(written) : phrases.supplierFile.missing;
+  if (found.has(digits)) return phrases.supplierFile.twice(digits);
+  return found.size < MOST_SUPPLIERS ? "" : phrases.supplierFile.tooMany(MOST_SUPPLIERS);
 }

@@ -1,7 +1,9 @@
 // @ts-check
 // Knows the suppliers by name: from a list that the planner gave to this tab, or else from one that is beside the page.
 
+import { within } from "../hub/patience.js";
 import { keepSuppliers, suppliersOf } from "../kept.js";
+import { phrases } from "../language.js";
 import { readSuppliers, textOfFile } from "./file.js";
 
 /** @typedef {import("./file.js").Supplier} Supplier */
@@ -40,7 +42,7 @@ export class SupplierList extends EventTarget {
     const kept = suppliersOf(this.caller);
     if (kept) return this.#take(kept.file, kept.text);
     try {
-      const response = await fetch(BESIDE, { ...WORDS, signal: AbortSignal.timeout(PATIENCE) });
+      const response = await fetch(BESIDE, { ...WORDS, signal: within(PATIENCE) });
       if (response.ok) this.#take(BESIDE, textOfFile(await response.arrayBuffer()), true);
     } catch {
       // the next screen looks again
@@ -48,7 +50,8 @@ export class SupplierList extends EventTarget {
     }
   }
 
-  /** Takes a list from a file; if it names no supplier, the list stays as it was. @param {File} file */
+  /** Takes a list from a file; if it names no supplier, the list stays as it was.
+   * @param {File} file */
   async choose(file) {
     const text = file.size > LONGEST ? "" : textOfFile(await file.arrayBuffer());
     const { suppliers, wrong } = readSuppliers(text);
@@ -59,7 +62,7 @@ export class SupplierList extends EventTarget {
 
   /** @param {string} file @param {string[]} wrong */
   #refuse(file, wrong) {
-    this.wrong = [`${file} names no supplier.`, ...wrong];
+    this.wrong = [phrases.supplierList.namesNone(file), ...wrong];
     this.dispatchEvent(new Event("change"));
   }
 

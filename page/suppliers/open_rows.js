@@ -16,14 +16,16 @@ export function dueOf({ days }, gln, order, today, isOpen = true) {
   return { day: wanted, isWanted: wanted !== "", isLate: isOpen && wanted !== "" && wanted < today };
 }
 
-/** Overdue ones first, then by day. @param {Planner} planner @param {string} today CCYYMMDD @returns {OpenRow[]} */
+/** Overdue ones first, then by day.
+ * @param {Planner} planner @param {string} today CCYYMMDD @returns {OpenRow[]} */
 export function openRows(planner, today) {
   const results = [...planner.round.results];
   const rows = results.flatMap(([gln, { open }]) => open.map((it) => ({ ...it, gln, ...dueOf(planner, gln, it.order, today) })));
   return inTurn(rows);
 }
 
-/** How many open lines of a supplier are overdue. @param {Planner} planner @param {string} gln @param {string} today CCYYMMDD */
+/** How many open lines of a supplier are overdue.
+ * @param {Planner} planner @param {string} gln @param {string} today CCYYMMDD */
 export function overdueOf(planner, gln, today) {
   const open = planner.round.results.get(gln)?.open ?? [];
   return open.filter((it) => dueOf(planner, gln, it.order, today).isLate).length;

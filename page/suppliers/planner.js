@@ -13,7 +13,8 @@ const DRAWN_EACH = 200;
 /** @type {WeakMap<import("../session.js").Session, Planner>} */
 const PLANNERS = new WeakMap();
 
-/** The list of suppliers may not be there yet. @param {import("../session.js").Session} session */
+/** The list of suppliers may not be there yet.
+ * @param {import("../session.js").Session} session */
 export function plannerAtOnce(session) {
   const planner = PLANNERS.get(session) ?? made(session);
   PLANNERS.set(session, planner);

@@ -5,18 +5,16 @@ import { inWords } from "../hub/answers.js";
 import { Broken, Refused } from "../hub/client.js";
 import { readStatus } from "../hub/replies.js";
 import { isOpen } from "../hub/status_kinds.js";
+import { phrases } from "../language.js";
 import { figuresOf } from "./figures.js";
 
 /** @typedef {import("./figures.js").Figures} Figures */
 /** @typedef {import("../hub/replies.js").StatusLine} StatusLine */
-/** @typedef {{ at: number, figures: Figures | null, open: StatusLine[], text: string, wrong: string }} Result what one supplier's request
- * brought: `open` has the lines with something open, `text` the whole report, `wrong` why there is none */
+/** @typedef {{ at: number, figures: Figures | null, open: StatusLine[], text: string, wrong: (() => string) | null }} Result what one
+ * supplier's request brought: `open` has the lines with something open, `text` the whole report, `wrong` says why there is none */
 
 // The front takes 600 requests a minute from one address (examples/front/haproxy.cfg): so no more than 500 are asked.
 const EACH = 120;
-const DENIED = "Denied: sign out and in again.";
-const UNKNOWN = "Not known to the hub.";
-const UNREADABLE = "The page does not understand all of the report: open its status.";
 
 export class Round extends EventTarget {
   /** @type {AbortController | null} */
@@ -28,8 +26,12 @@ export class Round extends EventTarget {
     this.hub = hub;
     /** @type {Map<string, Result>} by GLN, as they were last asked for */
     this.results = new Map();
-    /** Of how many the status is asked for, how many of these were asked, and how many brought none. */
-    [this.total, this.done, this.failed] = [0, 0, 0];
+    /** Of how many the status is asked for. */
+    this.total = 0;
+    /** How many of these were asked. */
+    this.done = 0;
+    /** How many brought none. */
+    this.failed = 0;
     /** The moment until which the hub's front asked to wait; 0 if it did not. */
     this.until = 0;
   }
@@ -38,7 +40,8 @@ export class Round extends EventTarget {
     return this.#stop !== null;
   }
 
-  /** Asks for the status of these, in their order. @param {string[]} glns */
+  /** Asks for the status of these, in their order.
+   * @param {string[]} glns */
   async run(glns) {
     if (this.isRunning) return;
     const stop = new AbortController();
@@ -67,7 +70,8 @@ export class Round extends EventTarget {
     this.#changed();
   }
 
-  /** Stops, and forgets what was fetched of any others. @param {string[]} glns */
+  /** Stops, and forgets what was fetched of any others.
+   * @param {string[]} glns */
   keep(glns) {
     const kept = new Set(glns);
     for (const gln of this.results.keys()) if (!kept.has(gln)) this.results.delete(gln);
@@ -83,7 +87,7 @@ export class Round extends EventTarget {
     try {
       return read(await this.#asked(gln, stop));
     } catch (why) {
-      return { at: Date.now(), figures: null, open: [], text: "", wrong: wrongInWords(why) };
+      return { at: Date.now(), figures: null, open: [], text: "", wrong: () => wrongInWords(why) };
     }
   }
 
@@ -113,14 +117,14 @@ const pause = (milliseconds, stop) =>
 /** @param {string} text @returns {Result} */
 function read(text) {
   const status = readStatus(text);
-  if (status.raw.length) return { at: Date.now(), figures: null, open: [], text: "", wrong: UNREADABLE };
-  return { at: Date.now(), figures: figuresOf(status), open: status.lines.filter(isOpen), text, wrong: "" };
+  if (status.raw.length) return { at: Date.now(), figures: null, open: [], text: "", wrong: () => phrases.round.unreadable };
+  return { at: Date.now(), figures: figuresOf(status), open: status.lines.filter(isOpen), text, wrong: null };
 }
 
 /** @param {unknown} why */
 function wrongInWords(why) {
-  if (why instanceof Refused && why.status === 404) return UNKNOWN;
-  if (why instanceof Refused && why.status === 403) return DENIED;
-  if (why instanceof Broken) return `No answer. ${inWords(why.reason)}`;
+  if (why instanceof Refused && why.status === 404) return phrases.round.unknown;
+  if (why instanceof Refused && why.status === 403) return phrases.round.denied;
+  if (why instanceof Broken) return phrases.round.noAnswer(inWords(why.reason));
   return why instanceof Error ? why.message : String(why);
 }

@@ -19,7 +19,7 @@ export function search(reports, text) {
   /** @type {Found} */
   const found = { lines: [], pallets: [], isCut: false };
   if (!wanted) return found;
-  const has = (/** @type {...string} */ ...words) => words.some((it) => it.toLowerCase().includes(wanted));
+  const has = (/** @type {string[]} */ ...words) => words.some((it) => it.toLowerCase().includes(wanted));
   for (const [gln, report] of reports) {
     // only what has the text somewhere is read as a report, and no more once there is too much of a kind
     const isFull = { L: found.lines.length > MOST_FOUND, P: found.pallets.length > MOST_FOUND };
@@ -33,5 +33,6 @@ export function search(reports, text) {
   return { lines: found.lines.slice(0, MOST_FOUND), pallets: found.pallets.slice(0, MOST_FOUND), isCut };
 }
 
-/** Whether it is an SSCC after its application identifier. @param {string} text */
+/** Whether it is an SSCC after its application identifier.
+ * @param {string} text */
 const isScanned = (text) => /^(\]C1)?(00|\(00\))\d{18}$/.test(text.replace(/\s/g, ""));

@@ -29,7 +29,8 @@ export class WantedDays extends EventTarget {
     return { dated: dated.length, undated: orders.length - dated.length };
   }
 
-  /** Learns from a file that was sent, once. @param {string} id @param {string} text */
+  /** Learns from a file that was sent, once.
+   * @param {string} id @param {string} text */
   learnOnce(id, text) {
     if (this.#known.has(id)) return;
     this.#known.add(id);

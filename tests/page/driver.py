@@ -15,7 +15,7 @@ KEYS = {"tab": "\ue004", "enter": "\ue007", "space": "\ue00d", "escape": "\ue00c
 ARGUMENTS = ["--headless=new", "--no-sandbox", "--disable-gpu", "--disable-dev-shm-usage", "--hide-scrollbars", "--no-first-run"]
 # this machine by a name that no browser knows as its own
 ELSEWHERE = "hub.test"
-ARGUMENTS += [f"--host-resolver-rules=MAP {ELSEWHERE} 127.0.0.1", "--disable-features=HttpsUpgrades"]
+ARGUMENTS += [f"--host-resolver-rules=MAP {ELSEWHERE} 127.0.0.1", "--disable-features=HttpsUpgrades", "--accept-lang=en-GB"]
 
 
 class DriverFault(Exception):
@@ -108,16 +108,16 @@ class Browser:
         return wait(lambda: (self.all(selector) or [None])[0], f"{selector} in the page")
 
     def labelled(self, label, number=0):
-        """The input with this label, or the one of that number among them."""
-        labels = "[...document.querySelectorAll('label')].filter(it => it.textContent === arguments[0])"
+        """The input with this label, or one of these, or the one of that number among them."""
+        labels = "[...document.querySelectorAll('label')].filter(it => [arguments[0]].flat().includes(it.textContent))"
         script = f"return {labels}.map(it => it.control)[arguments[1]]"
         return wait(lambda: self.run(script, label, number), f"a field {label}")[ELEMENT]
 
-    def named(self, kind, text):
-        """The button, link or summary with this text."""
-        is_it = "it => it.textContent === arguments[1] && it.offsetParent !== null"
+    def named(self, kind, *texts):
+        """The button, link or summary with this text, or one of these."""
+        is_it = "it => arguments[1].includes(it.textContent) && it.offsetParent !== null"
         script = f"return [...document.querySelectorAll(arguments[0])].find({is_it}) ?? null"
-        return wait(lambda: self.run(script, kind, text), f"{kind} {text}")[ELEMENT]
+        return wait(lambda: self.run(script, kind, texts), f"{kind} {' or '.join(texts)}")[ELEMENT]
 
     def click(self, element):
         self.ask("POST", f"/element/{element}/click")
@@ -154,8 +154,9 @@ class Browser:
         return self.run(f"return {rows}.map(it => [...it.cells].map(cell => cell.textContent))", selector)
 
     def until_says(self, text, selector="body"):
-        """Waits until the page says this."""
-        wait(lambda: text in self.text(selector), f"{text!r} in {selector}", lambda: self.text(selector))
+        """Waits until the page says this, or one of these."""
+        texts = [text] if isinstance(text, str) else text
+        wait(lambda: any(it in self.text(selector) for it in texts), f"{text!r} in {selector}", lambda: self.text(selector))
 
     def picture(self, file):
         with open(file, "wb") as opened:

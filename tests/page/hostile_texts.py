@@ -43,26 +43,26 @@ def answered(browser, stage, place, number):
     shown(browser, number)
 
 
-def despatched(browser, stage):
+def despatched(browser, stage, numbers):
     """All of them on one pallet, each line under its order."""
     browser.run("location.hash = 'despatch'")
     browser.type(browser.labelled("Your GS1 company prefix"), "40123455")
     for box in browser.all(".orders input"):
         browser.click(box)
-    for number in NUMBERS:
+    for number in numbers:
         shown(browser, number)
     browser.press("Put all that is open on it")
     stage.sent.clear()
     send(browser, "despatch advice")
     browser.until_says("1 DESADV accepted")
     sent = stage.sent[0][1].decode("latin-1")
-    for number in NUMBERS:
+    for number in numbers:
         assert f"QTY+12:9'RFF+ON:{released(number)}:1'" in sent, sent
 
 
-def cancelled(browser, stage):
+def cancelled(browser, stage, numbers):
     """The retailer cancels by the link of the line, whose address carries the number."""
-    more = [f"C{place}{it}"[:35] for place, it in enumerate(NUMBERS)]
+    more = [f"C{place}{it}"[:35] for place, it in enumerate(numbers)]
     for place, number in enumerate(more):
         stage.upload(RETAILER, interchange(RETAILER, f"C{place}", order(number, [7])))
     for number in more:
@@ -80,18 +80,20 @@ def cancelled(browser, stage):
         browser.run("document.title = ''")
 
 
-def not_understood(browser, stage):
+def not_understood(browser, last):
     """What the page cannot read stands there raw: an entry whose text is none of the hub's spelling, and a line of a status."""
     browser.run(
-        """const real = window.fetch;
+        """const [item] = arguments;
+        const real = window.fetch;
         window.fetch = async (path, ...words) => {
             const answer = await real(path, ...words);
-            if (!path.endsWith('/mail/item/12') && !path.endsWith('/status')) return answer;
+            if (!path.endsWith(item) && !path.endsWith('/status')) return answer;
             const text = path.endsWith('/status') ? 'X <b>new</b>\\n' + await answer.text() : "UNA:+.? 'UNB+<b>new</b>'";
             return new Response(text, { status: 200 });
-        }"""
+        }""",
+        f"/mail/item/{last}",
     )
-    browser.run("location.hash = 'entry/12'")
+    browser.run("location.hash = arguments[0]", f"entry/{last}")
     browser.until_says("The page does not understand this entry.")
     browser.until_says("UNB+<b>new</b>'")
     browser.run("location.hash = 'status'")
@@ -100,30 +102,31 @@ def not_understood(browser, stage):
     assert browser.run("return document.querySelectorAll('main b').length") == 0
 
 
-def hostile(browser, program):
+def hostile(browser, program, numbers=tuple(NUMBERS), begin=lambda stage: None):
     with Stage(program) as stage:
-        for place, number in enumerate(NUMBERS, 1):
+        begin(stage)
+        for place, number in enumerate(numbers, 1):
             text = order(number, [12], texts=[f"FTX+AAI+++{released(FREE_TEXT)}"])
             stage.upload(RETAILER, interchange(RETAILER, f"H{place}", text))
         signed_in(browser, stage, ALPHA)
-        browser.until_says(f"{len(NUMBERS)} new entries")
-        for place, number in enumerate(NUMBERS, 1):
+        browser.until_says(f"{len(numbers)} new entries")
+        for place, number in enumerate(numbers, 1):
             browser.run("location.hash = 'mailbox'")
             browser.until_says("new entries")
             shown(browser, number)
             answered(browser, stage, place, number)
         browser.run("location.hash = 'status'")
         browser.one("table.lines")
-        for number in NUMBERS:
+        for number in numbers:
             shown(browser, number)
-        despatched(browser, stage)
-        cancelled(browser, stage)
+        despatched(browser, stage, numbers)
+        cancelled(browser, stage, numbers)
         signed_in(browser, stage, ALPHA)
         browser.until_says("new entries")
-        not_understood(browser, stage)
+        not_understood(browser, len(numbers) + 1)
         complaints = browser.complaints()
         assert complaints == [], complaints
-    return f"{len(NUMBERS)} order numbers, each shown, answered, despatched and cancelled; what is not understood is raw"
+    return f"{len(numbers)} order numbers, each shown, answered, despatched and cancelled; what is not understood is raw"
 
 
 TRIALS = {"hostile texts": hostile}

@@ -257,7 +257,7 @@ def words_of_codes(_program):
     """The page has the list's words for each code, and others for a code that it does not know."""
     codes = read_codes()
     assert len(codes) == 20 + 12 + 20, list(codes)
-    *found, unknown = by_node("call.mjs", [("hub/codes.js", "wordsOf", it) for it in (*codes, "B99")])
+    *found, unknown = by_node("call.mjs", [("parts/code.js", "wordsOf", it) for it in (*codes, "B99")])
     for (code, said), words in zip(codes.items(), found):
         assert words == {it: said[it] for it in ("meaning", "cause", "remedy")}, f"{code}: {words}"
     assert unknown["meaning"] == "The page does not know this code.", unknown
