@@ -31,6 +31,17 @@ CONTRAST = """const rgb = it => {
     }
     return least"""
 
+# the lowest contrast of the edge and the parts of a bar with the bar's own ground, and whether the browser leaves its colours alone
+BARS = """const light = it => {
+        const [r, g, b] = it.match(/\\w\\w/g).map(k => parseInt(k, 16) / 255).map(k => k <= 0.04045 ? k / 12.92 : ((k + 0.055) / 1.055) ** 2.4);
+        return 0.2126 * r + 0.7152 * g + 0.0722 * b;
+    };
+    const contrast = (a, b) => { const [x, y] = [light(a), light(b)].sort((p, q) => q - p); return (x + 0.05) / (y + 0.05); };
+    const bar = getComputedStyle(document.querySelector('.bar'));
+    const colour = name => bar.getPropertyValue(name).trim();
+    const parts = ['--edge', '--despatched', '--refused', '--cancelled'].map(it => contrast(colour(it), colour('--paper')));
+    return [Math.min(...parts), bar.printColorAdjust, bar.forcedColorAdjust]"""
+
 # fields that have no label, headings of the first rank, and what is wider than the page
 STRUCTURE = """const all = it => [...document.querySelectorAll(it)];
     const unlabelled = all('input, select').filter(it => !it.labels?.length && !it.ariaLabel).map(it => it.outerHTML);
@@ -89,7 +100,7 @@ def access(browser, program):
                 browser.look(*((360, 740) if narrow else (1280, 900)), dark=dark, narrow=narrow)
                 if not narrow and not dark:
                     opened(browser, stage, name)
-                    controls += names(browser, name)
+                    controls += names(browser, name) if browser.hears else 0
                 sound(browser, name)
                 found = browser.run(CONTRAST)
                 assert found[0] >= 4.5, (name, "dark" if dark else "light", found)
@@ -97,6 +108,25 @@ def access(browser, program):
             browser.look()
             reached += rings(browser, name)
     return f"{len(SCREENS)} screens, {controls} controls with names, {reached} rings seen, least contrast {least[0]:.1f} ({least[1]})"
+
+
+def bars(browser, program):
+    """The bars of a status can be seen by day and by night, on paper, and where the reader chose other colours."""
+    least = 99
+    with Stage(program) as stage:
+        furnished(stage)
+        opened(browser, stage, "status")
+        for words in ({"dark": False}, {"dark": True}):
+            browser.look(**words)
+            found, *kept = browser.run(BARS)
+            assert found >= 3 and kept == ["exact", "none"], (words, found, kept)
+            least = min(least, found)
+        browser.look()
+        browser.developer("Emulation.setEmulatedMedia", media="print")
+        found, *kept = browser.run(BARS)
+        browser.developer("Emulation.setEmulatedMedia", media="")
+        assert found >= 3 and kept == ["exact", "none"], (found, kept)
+    return f"least contrast of a part {min(least, found):.1f}"
 
 
 def by_keyboard(browser, program):
@@ -136,4 +166,4 @@ def by_keyboard(browser, program):
     return f"an order of ten lines answered by {pressed} keys after signing in"
 
 
-TRIALS = {"accessibility": access, "the keyboard alone": by_keyboard}
+TRIALS = {"accessibility": access, "bars of a status": bars, "the keyboard alone": by_keyboard}

@@ -8,7 +8,7 @@ import subprocess
 import time
 
 # how long a thing of the page is waited for
-PATIENCE = 20
+PATIENCE = 60
 # by which an element is named in JSON
 ELEMENT = "element-6066-11e4-a52e-4f735466cecf"
 KEYS = {"tab": "\ue004", "enter": "\ue007", "space": "\ue00d", "escape": "\ue00c"}
@@ -22,6 +22,10 @@ class DriverFault(Exception):
     """What the driver answered instead."""
 
 
+class NotHere(DriverFault):
+    """What this browser cannot be asked for, so that a trial cannot be run in it."""
+
+
 def free_port():
     with socket.socket() as one:
         one.bind(("127.0.0.1", 0))
@@ -30,6 +34,9 @@ def free_port():
 
 class Browser:
     """A browser of its own, with no profile of anybody."""
+
+    # whether it says what a screen reader hears
+    hears = True
 
     def __init__(self):
         for program in ("chromium", "chromedriver"):

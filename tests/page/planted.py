@@ -58,7 +58,7 @@ BUGS = [
     ("connections", "start.js", "banner.draw(session.sent.sendings);", ""),
     ("enter moves", "parts/enter_moves.js", "next.focus();", ""),
     ("enter moves", "parts/summary.js", "this.heading.focus({ preventScroll: true });", 'this.element.querySelector("button")?.focus();'),
-    ("typed work", "parts/form_content.js", 'names.unshift(at.querySelector("legend")?.textContent ?? "")', 'names.unshift("")'),
+    ("typed work", "parts/form_content.js", 'names.unshift(at.dataset.field ?? "")', 'names.unshift("")'),
     ("typed work", "kept.js", "own.some((it) => key.startsWith(it))", "own.length"),
     ("what was sent", "parts/banner.js", 'this.failures = element("div", {});', "this.failures = this.notices;"),
     ("what was sent", "hub/sent_list.js", "interrupted(it)));", "it));"),
@@ -73,7 +73,7 @@ BUGS = [
     ("hostile", "screens/supplier.js", "encodeURIComponent(it.order)", "it.order"),
     ("many lines", "parts/bar.js", "let end = 0;", "let end = performance.now() + 1; while (performance.now() < end); end = 0;"),
     ("many lines", "parts/table.js", "turn * compared(", "compared("),
-    ("drafts of a locked", "screens/sign_in.js", "signOut ? LEFT : KEPT", "KEPT"),
+    ("drafts of a locked", "screens/sign_in.js", "signOut ? phrases.signIn.left : phrases.signIn.kept", "phrases.signIn.kept"),
     ("tables as files", "parts/table.js", "this.shown.map(", "this.rows.map("),
     ("tables as files", "parts/csv.js", "FORMULA.test(text) ||", ""),
     ("tables as files", "parts/csv.js", '.includes(",") ? ";" : ","', '.includes(",") ? "," : ","'),
@@ -89,6 +89,8 @@ BUGS = [
     ("accessibility", "style/controls.css", "outline: 3px solid var(--focus)", "outline: none"),
     ("accessibility", "parts/field.js", "{ for: id, class", "{ class"),
     ("accessibility", "style/tables.css", "flex-wrap: wrap;\n    justify-content: space-between;", "justify-content: space-between;"),
+    ("bars of a status", "style/colours.css", "  --cancelled: #b98a12;", "  --cancelled: #d9aa42;"),
+    ("bars of a status", "style/tables.css", "  forced-color-adjust: none;\n", ""),
     ("the keyboard alone", "start.js", "first?.focus({ preventScroll: true });", ""),
     ("what a buyer writes", "edi/order_details.js", "...it.takeAll(4, 1, 5)", "...it.takeAll(4, 1, 6)"),
     ("what a buyer writes", "edi/order_details.js", "!isRead || reading.left.size", "!isRead"),
@@ -144,7 +146,19 @@ BUGS = [
     ("a file is checked", "screens/explain.js", "    verdict.focus({ preventScroll: true });\n", ""),
     ("make page", "examples/page/proxy.py", "elif int(length) > LONGEST:", "elif int(length) > 9 * LONGEST:"),
     ("make page", "examples/page/show.py", "if ran.returncode in (0, 1)", "if ran.returncode == 0"),
-    ("an order of ten lines", "screens/answer.js", "input.checked = input.value === answer", 'input.checked = input.value === "changed"'),
+    ("a supplier's day", "screens/answer.js", "input.checked = input.value === answer", 'input.checked = input.value === "changed"'),
+    ("a supplier's day", "screens/labels.js", "const COPIES = 2;", "const COPIES = 1;"),
+    ("tables of words", "words/fr.js", '    pallets: "Palettes",\n', ""),
+    ("tables of words", "words/nl.js", "    printed: (character) => `het teken ${character}`", "    printed: () => `het teken`"),
+    ("tables of words", "words/de.js", 'chooseOne: "Wählen Sie mindestens eine Bestellung."', 'chooseOne: "Choose at least one order."'),
+    ("texts outside", "screens/search.js", "heading(phrases.common.searchAllSuppliers)", 'heading("Search all suppliers")'),
+    ("types", "parts/due.js", "dueInWords(of(it))", "dueInWords(it)"),
+    ("rows in each", "words/nl.js", 'changedTo: ["gewijzigd in", "aantal"]', 'changedTo: ["aantal"]'),
+    ("a missing text", "language.js", "own ?? text", "own"),
+    ("each screen in each", "screens/today.js", "button(phrases.today.again,", 'button("Look again now",'),
+    ("each screen in each", "style/page.css", "    flex-wrap: wrap;\n    gap: 0;\n", ""),
+    ("the choice of", "parts/form_content.js", 'it.dataset.field ?? ""].join', 'it.labels?.[0]?.textContent ?? ""].join'),
+    ("the choice of", "kept_language.js", "localStorage.setItem(NAME, language);", ""),
 ]
 
 
@@ -159,7 +173,7 @@ def found(program, trial, file, old, new):
         assert text.count(old) == 1, f"{old!r} stands {text.count(old)} times in {file}"
         with open(path, "w", encoding="utf-8") as opened:
             opened.write(text.replace(old, new))
-        words = [sys.executable, "-m", "tests.page.test", program, trial]
+        words = [sys.executable, "-m", "tests.page.test", program, trial, "--browser=chromium"]
         ran = subprocess.run(words, cwd=folder, stdout=subprocess.PIPE, text=True)
         lines = ran.stdout.splitlines()
         why = next((it for it in reversed(lines) if "Error" in it or "Fault" in it), "")

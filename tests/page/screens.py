@@ -123,7 +123,7 @@ def open_lines(browser):
 def searched(browser):
     fetched(browser)
     browser.run("location.hash = 'search/34012345500000003'")
-    browser.until_says("of 2 fetched suppliers.")
+    browser.until_says("34012345500000003", "main p.lead")
 
 
 def lines_chosen(browser):
