@@ -9,6 +9,7 @@ from tests.page.driver import ELEMENT, wait
 from tests.page.forms import send
 from tests.page.screens import furnished, opened
 from tests.page.stage import ALPHA, RETAILER, Stage, gtin, interchange, order, signed_in
+from tests.page.words import Spoken
 
 # what a spreadsheet would run or change, in the numbers of orders
 SCREENS_WITH_TABLES = ("today", "mailbox", "order", "answer", "despatch", "pallets", "receipt", "status", "upload", "supplier")
@@ -29,7 +30,7 @@ SHOWN = """const text = it => [...it.querySelectorAll('input')].find(one => one.
 def file_of(browser, caption, separator=","):
     """The rows of the table's file; its form is that of RFC 4180, in UTF-8 with its mark."""
     its_button = "return [...document.querySelectorAll('button.csv')].find(it => it.ariaLabel === arguments[0] && it.checkVisibility())"
-    browser.click(browser.run(its_button, f"Download CSV: {caption}")[ELEMENT])
+    browser.click(browser.run(f"{its_button} // aria-label", f"Download CSV: {caption}")[ELEMENT])
     data = bytes(browser.run(BYTES))
     assert data.startswith(b"\xef\xbb\xbf") and data.endswith(b"\r\n"), data[:80]
     text = data[3:].decode()
@@ -48,11 +49,11 @@ def as_shown(cell):
 
 def as_written(title, text):
     """A cell of the screen without what is for the eye alone: commas in figures, and the sign and word of a difference."""
-    difference = re.fullmatch(r"([−+±])([\d,]+)( missing| too many)?", text)
-    if difference and title == "Difference":
+    difference = re.fullmatch(r"([−+±])([\d.,]+)( missing| too many| fehlen| zu viel)?", text)
+    if difference and title in ("Difference", "Differenz"):
         sign = "-" if difference[1] == "−" else ""
-        return sign + difference[2].replace(",", "")
-    return text.replace(",", "") if re.fullmatch(r"[\d,]+", text) else text
+        return sign + re.sub(r"[.,]", "", difference[2])
+    return re.sub(r"[.,]", "", text) if re.fullmatch(r"[\d.,]+", text) else text
 
 
 def compared(browser, separator=","):
@@ -61,7 +62,7 @@ def compared(browser, separator=","):
     for caption, titles, rows in browser.run(SHOWN):
         if rows and len(rows[0]) == 1:
             continue
-        places = [place for place, it in enumerate(titles) if it not in ("", "Shares")]
+        places = [place for place, it in enumerate(titles) if it not in ("", "Shares", "Anteile")]
         found = file_of(browser, caption, separator)
         assert all(harmless(it) for row in found for it in row), found
         wanted = [[as_written(titles[place], row[place]) for place in places] for row in rows]
@@ -108,20 +109,21 @@ def sorted_and_filtered(browser, stage):
 
 
 def in_german(browser, stage):
-    """Where numbers have a decimal comma, cells are separated by semicolons; and the file has a name."""
+    """Where numbers have a decimal comma, cells are separated by semicolons; and the file has a name. The page speaks German then too."""
     agent = browser.run("return navigator.userAgent")
     browser.developer("Emulation.setUserAgentOverride", userAgent=agent, acceptLanguage="de-DE")
-    signed_in(browser, stage, ALPHA)
+    german = Spoken(browser, "de")
+    signed_in(german, stage, ALPHA)
     browser.run("location.hash = 'status'")
     browser.one("table.lines")
-    assert browser.run("return navigator.language") == "de-DE"
+    assert browser.run("return [navigator.language, document.documentElement.lang]") == ["de-DE", "de"]
     browser.run(CAUGHT)
-    assert compared(browser, ";")
+    assert compared(german, ";")
     browser.developer("Browser.setDownloadBehavior", behavior="allow", downloadPath=stage.folder)
-    file_of(browser, "Order lines", ";")
-    file = os.path.join(stage.folder, "order-lines.csv")
+    file_of(german, "Order lines", ";")
+    file = os.path.join(stage.folder, "bestellpositionen.csv")
     wait(lambda: os.path.exists(file) and os.path.getsize(file), "file that is downloaded")
-    browser.developer("Emulation.setUserAgentOverride", userAgent=agent, acceptLanguage="en-US")
+    browser.developer("Emulation.setUserAgentOverride", userAgent=agent, acceptLanguage="en-GB")
 
 
 def tables(browser, program):

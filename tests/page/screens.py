@@ -1,6 +1,7 @@
 """Each screen of the page as a person finds it: a hub with a day on it, and the way to each screen."""
 import os
 
+from tests.page.driver import wait
 from tests.page.forms import check, fresh, send, send_files
 from tests.page.stage import ALPHA, BETA, DAY, RETAILER, gtin, interchange, message, order, released, signed_in
 from tests.page.stage import opened as tab_opened
@@ -117,7 +118,8 @@ def open_lines(browser):
     late = order("128591", [80], reference=2).replace("DTM+2:20250606", "DTM+2:20250604")
     browser.drop("orders.edi", interchange(RETAILER, "2001", order("128590", [120]), late))
     browser.until_says("2 orders name their days.")
-    browser.until_says("overdue", "table")
+    # orders that were uploaded before had their days already
+    wait(lambda: all(row[-1] != "–" for row in browser.rows("main table tbody")), "a day at each line")
 
 
 def searched(browser):
@@ -150,7 +152,7 @@ def explained(browser):
 
 def locked(browser):
     """Ten minutes later, by the tab's clock, which goes on from there."""
-    browser.run("const [then, from] = [Date.now() + 600_000, performance.now()]; Date.now = () => then + performance.now() - from")
+    browser.run("const [then, from] = [Date.now() + 600_000, performance.now()]; window.Date.now = () => then + performance.now() - from")
     browser.until_says("it has forgotten your key")
 
 
