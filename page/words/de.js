@@ -128,7 +128,7 @@ export const de = {
     colours: "Farben der Balken",
   },
   cancel: {
-    wereOpen: (pieces) => `${figure(pieces)} waren offen, als Sie diese Ansicht geöffnet haben.`,
+    wereOpen: (pieces) => `${figure(pieces)} ${plural(pieces, "war", "waren")} offen, als Sie diese Ansicht geöffnet haben.`,
     lead: (pieces, order, line, supplier) => [
       `Sie stornieren ${pieces} Stück von Bestellung `,
       order,
@@ -141,7 +141,7 @@ export const de = {
     title: "Stornieren",
     noun: "Stornierung",
     atMostOpen: "Höchstens das, was offen ist.",
-    areOpen: (open) => `${figure(open)} sind offen.`,
+    areOpen: (open) => `${figure(open)} ${plural(open, "ist", "sind")} offen.`,
     hubRefused: (code) => `Der Hub hat das abgelehnt (${code}).`,
     heading: "Eine Menge stornieren",
     another: "Noch eine Stornierung",
@@ -255,7 +255,8 @@ export const de = {
   explain: {
     title: "Eine Datei prüfen",
     without: (check) => [check, ", ohne sie zu senden."],
-    someWrong: (wrong, messages) => `${figure(wrong)} von ${counted(messages, "Nachricht", "Nachrichten")} würden abgelehnt: siehe unten.`,
+    someWrong: (wrong, messages) =>
+      `${figure(wrong)} von ${counted(messages, "Nachricht", "Nachrichten")} ${plural(wrong, "würde", "würden")} abgelehnt: siehe unten.`,
     noneWrong: (messages) => `${counted(messages, "Nachricht", "Nachrichten")}, und an der Datei selbst ist nichts falsch.`,
     choose: "Wählen Sie eine .edi-Datei, oder ziehen Sie sie hierher",
     chooseHint: (most) => `Höchstens ${figure(most)} Byte, immer nur eine Datei.`,
@@ -293,7 +294,8 @@ export const de = {
     fetching: (suppliers) => `${counted(suppliers, "Lieferant wird", "Lieferanten werden")} nacheinander abgerufen…`,
     fetched: (suppliers) => `${counted(suppliers, "Lieferant", "Lieferanten")} abgerufen.`,
     someFailed: (fetched, suppliers, failed) =>
-      `${figure(fetched)} von ${counted(suppliers, "Lieferanten", "Lieferanten")} abgerufen. Bei ${figure(failed)} ist es misslungen: Die Tabelle sagt, warum.`,
+      `${figure(fetched)} von ${counted(suppliers, "Lieferanten", "Lieferanten")} abgerufen. ` +
+      `Bei ${figure(failed)} ist es misslungen: Die Tabelle sagt, warum.`,
     count: (fetched, suppliers) => `${figure(fetched)} von ${figure(suppliers)} abgerufen`,
     stopped: (fetched, suppliers) => `Angehalten nach ${figure(fetched)} von ${figure(suppliers)}. Was abgerufen wurde, bleibt.`,
     again: (failed) => `Misslungene noch einmal abrufen (${figure(failed)})`,
@@ -351,7 +353,8 @@ export const de = {
   },
   lineChoice: {
     hint: (most) => `Kreuzen Sie Positionen an, um mehrere auf einmal zu stornieren, höchstens ${figure(most)}.`,
-    chosen: (lines, pieces) => `${counted(lines, "Position", "Positionen")} gewählt, davon sind ${figure(pieces)} Stück offen.`,
+    chosen: (lines, pieces) =>
+      `${counted(lines, "Position", "Positionen")} gewählt, davon ${plural(pieces, "ist", "sind")} ${figure(pieces)} Stück offen.`,
     cancel: (lines) => `${counted(lines, "Position", "Positionen")} stornieren…`,
     oneTooMany: (order, line) => `Mehr gehen nicht auf einmal: Bestellung ${order}, Position ${line} ist nicht gewählt.`,
     tooMany: (lines) => `Mehr gehen nicht auf einmal: ${figure(lines)} sind nicht gewählt.`,
@@ -391,8 +394,9 @@ export const de = {
   },
   openLines: {
     open: (lines, suppliers, late, undated) => {
-      const open = `${counted(lines, "Position", "Positionen")} von ${figure(suppliers)} abgerufenen Lieferanten sind offen`;
-      return `${open}, davon ${figure(late)} überfällig und ${figure(undated)} ohne Wunschtermin.`;
+      const open = `${counted(lines, "Position", "Positionen")} von ${figure(suppliers)} abgerufenen Lieferanten`;
+      const rest = `davon ${figure(late)} überfällig und ${figure(undated)} ohne Wunschtermin`;
+      return `${open} ${plural(lines, "ist", "sind")} offen, ${rest}.`;
     },
     learned: (name, dated, undated) => {
       const orders = `${counted(dated, "Bestellung nennt ihren", "Bestellungen nennen ihren")} Termin`;
@@ -500,7 +504,7 @@ export const de = {
     chooseOrder: "Wählen Sie oben eine Bestellung.",
     onThis: "Auf dieser Palette",
     notWhole: "Geben Sie eine ganze Zahl ein.",
-    tooMuch: (open, placed) => `Nur ${figure(open)} sind offen, und ${figure(placed)} sind auf Ihren Paletten.`,
+    tooMuch: (open, placed) => `Nur ${figure(open)} ${plural(open, "ist", "sind")} offen, und ${figure(placed)} sind auf Ihren Paletten.`,
   },
   palletRows: {
     nameTheColumns: "Zeile 1: Nennen Sie die Spalten Bestellung, Position, Menge und Palette.",
@@ -595,7 +599,8 @@ export const de = {
   },
   receipt: {
     replacedLater: (advice, pallets, ssccs) =>
-      `Eine spätere Meldung hat ersetzt, was ${advice} zu ${plural(pallets, "Palette", "den Paletten")} ${ssccs} sagt. Im Status steht, was jetzt gilt.`,
+      `Eine spätere Meldung hat ersetzt, was ${advice} zu ${plural(pallets, "Palette", "den Paletten")} ${ssccs} sagt. ` +
+      "Im Status steht, was jetzt gilt.",
     replaces: "Diese Meldung ersetzt eine frühere (Funktion 5): Was vorher zu diesen Paletten gemeldet wurde, gilt nicht mehr.",
     retailer: "der Händler",
     date: "Datum der Meldung",
@@ -646,7 +651,8 @@ export const de = {
     held: (why, at) => `${why} Es wurde nicht ausgeführt. Die Seite sendet es von selbst${at && `, um ${at}`}.`,
     pausing: (why, at) => `${why} Die Seite sendet genau dasselbe von selbst noch einmal${at && `, um ${at}`}.`,
     unanswered: (what, tries, why) =>
-      `${what} wurde ${tries === 1 ? "einmal" : `${figure(tries)}-mal`} gesendet, und es kam keine Antwort. Vielleicht ist es angekommen, vielleicht nicht. ` +
+      `${what} wurde ${tries === 1 ? "einmal" : `${figure(tries)}-mal`} gesendet, und es kam keine Antwort. ` +
+      "Vielleicht ist es angekommen, vielleicht nicht. " +
       `Beim letzten Mal: ${why}`,
     sending: "Wird gesendet…",
     resending: "Dasselbe wird noch einmal gesendet…",

@@ -229,7 +229,8 @@ export const fr = {
     lead: (document, pallets, pieces, orders) => [
       "Vous annoncez l'expédition ",
       document,
-      ` : ${counted(pallets, "palette", "palettes")}, ${counted(pieces, "pièce", "pièces")} ${plural(orders, "de la commande", "des commandes")} `,
+      ` : ${counted(pallets, "palette", "palettes")}, ${counted(pieces, "pièce", "pièces")} ` +
+        `${plural(orders, "de la commande", "des commandes")} `,
     ],
     onPallet: (sscc, pieces, lines) => `${sscc} : ${counted(pieces, "pièce", "pièces")}, ${counted(lines, "ligne", "lignes")}`,
   },
@@ -256,7 +257,8 @@ export const fr = {
     title: "Vérifier un fichier",
     without: (check) => [check, " sans l'envoyer."],
     someWrong: (wrong, messages) =>
-      `${figure(wrong)} sur ${counted(messages, "message", "messages")} ${plural(wrong, "serait refusé", "seraient refusés")} : voir ci-dessous.`,
+      `${figure(wrong)} sur ${counted(messages, "message", "messages")} ` +
+      `${plural(wrong, "serait refusé", "seraient refusés")} : voir ci-dessous.`,
     noneWrong: (messages) => `${counted(messages, "message", "messages")}, et le fichier lui-même n'a pas d'erreur.`,
     choose: "Choisissez un fichier .edi, ou déposez-le ici",
     chooseHint: (most) => `Au plus ${figure(most)} octets, un fichier à la fois.`,
@@ -392,8 +394,9 @@ export const fr = {
   },
   openLines: {
     open: (lines, suppliers, late, undated) => {
-      const open = `${counted(lines, "ligne ouverte", "lignes ouvertes")} de ${counted(suppliers, "fournisseur relevé", "fournisseurs relevés")}`;
-      return `${open}, dont ${figure(late)} en retard et ${figure(undated)} sans date souhaitée.`;
+      const open = counted(lines, "ligne ouverte", "lignes ouvertes");
+      const of = counted(suppliers, "fournisseur relevé", "fournisseurs relevés");
+      return `${open} de ${of}, dont ${figure(late)} en retard et ${figure(undated)} sans date souhaitée.`;
     },
     learned: (name, dated, undated) => {
       const orders = counted(dated, "commande indique sa date", "commandes indiquent leur date");
@@ -597,7 +600,8 @@ export const fr = {
   },
   receipt: {
     replacedLater: (advice, pallets, ssccs) =>
-      `Un avis ultérieur a remplacé ce que ${advice} dit ${plural(pallets, "de la palette", "des palettes")} ${ssccs}. Le statut dit ce qui compte maintenant.`,
+      `Un avis ultérieur a remplacé ce que ${advice} dit ${plural(pallets, "de la palette", "des palettes")} ${ssccs}. ` +
+      "Le statut dit ce qui compte maintenant.",
     replaces: "Cet avis en remplace un précédent (fonction 5) : ce qui a été dit auparavant de ces palettes ne compte plus.",
     retailer: "le distributeur",
     date: "Date de l'avis",
@@ -819,7 +823,7 @@ export const fr = {
     lines: "Lignes",
     pieces: "Pièces",
     linesTitle: "Lignes à expédier",
-    noLines: "Aucune ligne répondue n'a de quantité ouverte.",
+    noLines: "Aucune ligne qui a reçu sa réponse n'a de quantité ouverte.",
     noPallets: "Toutes les palettes que vous avez annoncées sont reçues.",
     articles: "Articles",
     show: "Afficher",

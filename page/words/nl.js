@@ -175,7 +175,8 @@ export const nl = {
   },
   cancellationWords: {
     several: (lines, orders, pieces) =>
-      `${counted(lines, "regel", "regels")} van ${counted(orders, "bestelling", "bestellingen")}, in totaal ${counted(pieces, "stuk", "stuks")}`,
+      `${counted(lines, "regel", "regels")} van ${counted(orders, "bestelling", "bestellingen")}, ` +
+      `in totaal ${counted(pieces, "stuk", "stuks")}`,
     yours: (quantity, order, line) => `Uw annulering van ${quantity} van bestelling ${order}, regel ${line}`,
   },
   characteristics: { 13: "Kwaliteit", 35: "Kleur", 38: "Klasse", 98: "Maat" },
@@ -225,7 +226,8 @@ export const nl = {
     lead: (document, pallets, pieces, orders) => [
       "U kondigt zending ",
       document,
-      ` aan: ${counted(pallets, "pallet", "pallets")}, ${counted(pieces, "stuk", "stuks")} van ${plural(orders, "bestelling", "bestellingen")} `,
+      ` aan: ${counted(pallets, "pallet", "pallets")}, ${counted(pieces, "stuk", "stuks")} ` +
+        `van ${plural(orders, "bestelling", "bestellingen")} `,
     ],
     onPallet: (sscc, pieces, lines) => `${sscc}: ${counted(pieces, "stuk", "stuks")}, ${counted(lines, "regel", "regels")}`,
   },
@@ -252,7 +254,8 @@ export const nl = {
     title: "Een bestand controleren",
     without: (check) => [check, " zonder het te verzenden."],
     someWrong: (wrong, messages) =>
-      `${figure(wrong)} van ${counted(messages, "bericht", "berichten")} ${plural(wrong, "zou", "zouden")} worden geweigerd: zie hieronder.`,
+      `${figure(wrong)} van ${counted(messages, "bericht", "berichten")} ${plural(wrong, "zou", "zouden")} worden geweigerd: ` +
+      "zie hieronder.",
     noneWrong: (messages) => `${counted(messages, "bericht", "berichten")}, en met het bestand zelf is niets mis.`,
     choose: "Kies een .edi-bestand, of sleep het hierheen",
     chooseHint: (most) => `Hoogstens ${figure(most)} bytes, één bestand tegelijk.`,
@@ -288,7 +291,8 @@ export const nl = {
     fetching: (suppliers) => `${counted(suppliers, "leverancier wordt", "leveranciers worden")} een voor een opgehaald…`,
     fetched: (suppliers) => `${counted(suppliers, "leverancier", "leveranciers")} opgehaald.`,
     someFailed: (fetched, suppliers, failed) =>
-      `${figure(fetched)} van ${counted(suppliers, "leverancier", "leveranciers")} opgehaald. ${figure(failed)} mislukt: de tabel zegt waarom.`,
+      `${figure(fetched)} van ${counted(suppliers, "leverancier", "leveranciers")} opgehaald. ` +
+      `${figure(failed)} mislukt: de tabel zegt waarom.`,
     count: (fetched, suppliers) => `${figure(fetched)} van ${figure(suppliers)} opgehaald`,
     stopped: (fetched, suppliers) => `Gestopt na ${figure(fetched)} van ${figure(suppliers)}. Wat is opgehaald, blijft.`,
     again: (failed) => `De mislukte opnieuw ophalen (${figure(failed)})`,
@@ -584,7 +588,8 @@ export const nl = {
   },
   receipt: {
     replacedLater: (advice, pallets, ssccs) =>
-      `Een later bericht verving wat ${advice} over ${plural(pallets, "pallet", "pallets")} ${ssccs} zegt. In de status staat wat nu geldt.`,
+      `Een later bericht verving wat ${advice} over ${plural(pallets, "pallet", "pallets")} ${ssccs} zegt. ` +
+      "In de status staat wat nu geldt.",
     replaces: "Dit bericht vervangt een eerder (functie 5): wat eerder over deze pallets is gezegd, geldt niet meer.",
     retailer: "de retailer",
     date: "Datum van het bericht",

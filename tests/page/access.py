@@ -33,7 +33,8 @@ CONTRAST = """const rgb = it => {
 
 # the lowest contrast of the edge and the parts of a bar with the bar's own ground, and whether the browser leaves its colours alone
 BARS = """const light = it => {
-        const [r, g, b] = it.match(/\\w\\w/g).map(k => parseInt(k, 16) / 255).map(k => k <= 0.04045 ? k / 12.92 : ((k + 0.055) / 1.055) ** 2.4);
+        const parts = it.match(/\\w\\w/g).map(k => parseInt(k, 16) / 255);
+        const [r, g, b] = parts.map(k => k <= 0.04045 ? k / 12.92 : ((k + 0.055) / 1.055) ** 2.4);
         return 0.2126 * r + 0.7152 * g + 0.0722 * b;
     };
     const contrast = (a, b) => { const [x, y] = [light(a), light(b)].sort((p, q) => q - p); return (x + 0.05) / (y + 0.05); };
@@ -113,6 +114,7 @@ def access(browser, program):
 def bars(browser, program):
     """The bars of a status can be seen by day and by night, on paper, and where the reader chose other colours."""
     least = 99
+    browser.go("about:blank")
     with Stage(program) as stage:
         furnished(stage)
         opened(browser, stage, "status")

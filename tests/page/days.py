@@ -1,5 +1,5 @@
-"""A supplier's day and a planner's day: what each takes in clicks, fields that are typed and seconds of page, hub and driver; and pictures of
-both for docs/page.
+"""A supplier's day and a planner's day: what each takes in clicks, fields that are typed and seconds of page, hub and driver; and pictures
+of both for docs/page.
 
     python3 -m tests.page.days PROGRAM FOLDER"""
 import os
@@ -48,7 +48,8 @@ class Person:
         if not self.folder:
             return
         began = time.monotonic()
-        self.browser.run("if (arguments[0]) document.querySelector(arguments[0]).scrollIntoView({ block: 'center' }); else scrollTo(0, 0)", to)
+        seen = "document.querySelector(arguments[0]).scrollIntoView({ block: 'center' })"
+        self.browser.run(f"if (arguments[0]) {seen}; else scrollTo(0, 0)", to)
         file = os.path.join(self.folder, f"{name}.png")
         self.browser.picture(file)
         with open(file, "rb") as opened:

@@ -70,7 +70,8 @@ class Firefox(Browser):
             for name, value in {**PREFERENCES, "marionette.port": port}.items():
                 file.write(f"user_pref({json.dumps(name)}, {json.dumps(value)});\n")
         words = ["firefox-esr", "--headless", "--marionette", "--remote-allow-system-access", "--no-remote", "--profile", self.profile]
-        self.driver = subprocess.Popen(words, stdout=subprocess.DEVNULL, stderr=subprocess.DEVNULL, env={**os.environ, "HOME": self.profile})
+        home = {**os.environ, "HOME": self.profile}
+        self.driver = subprocess.Popen(words, stdout=subprocess.DEVNULL, stderr=subprocess.DEVNULL, env=home)
         self.number, self.clock, self.zoomed = 0, None, 1
         self.stream = self.connected(port)
         self.received()
@@ -141,8 +142,10 @@ class Firefox(Browser):
         zoom = 2 if width < 600 else 1
         self.chrome("Services.prefs.setIntPref('layout.css.prefers-color-scheme.content-override', arguments[0])", 0 if dark else 1)
         self.chrome("const { browsingContext } = gBrowser.selectedBrowser; browsingContext.fullZoom = arguments[0]", zoom)
-        for _ in range(2):
-            inner = self.command("ExecuteScript", {"script": "return [innerWidth, innerHeight]", "args": [], "sandbox": None})
+        for _ in range(20):
+            inner = self.run("return [innerWidth, innerHeight, devicePixelRatio]")
+            if inner == [width, height, zoom]:
+                break
             rect = self.command("GetWindowRect")
             more = [(wanted - it) * zoom for wanted, it in zip((width, height), inner)]
             self.command("SetWindowRect", {"width": rect["width"] + more[0], "height": rect["height"] + more[1]})

@@ -1,5 +1,6 @@
-// Prints the tables of words in JSON: of each language a map from the name of each text to what it is. A text is a string, a list an array,
-// and a function an object with the names of its parameters and what it answers: with numbers from 1001 on, and with 1 in the place of each.
+// Prints the tables of words in JSON: of each language a map from the name of each text to what it is. A text is a string, a list an
+// array, and a function an object with the names of its parameters and what it answers: with numbers from 1001 on, and with 1 in the place
+// of each.
 import { de } from "../../page/words/de.js";
 import { en } from "../../page/words/en.js";
 import { takeStyle } from "../../page/words/figures.js";

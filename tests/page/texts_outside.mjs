@@ -1,5 +1,5 @@
-// Prints the texts in modules of the page that a person would read, in JSON: what the compiler's parser finds as a string or a template. The
-// first word is the file of the compiler, the others are modules.
+// Prints the texts in modules of the page that a person would read, in JSON: what the compiler's parser finds as a string or a template.
+// The first word is the file of the compiler, the others are modules.
 import { createRequire } from "node:module";
 import { readFileSync } from "node:fs";
 
@@ -7,8 +7,16 @@ const [compiler, ...files] = process.argv.slice(2);
 const ts = createRequire(import.meta.url)(compiler);
 
 // properties and calls whose strings are for the browser, and not for people
-const PROPERTIES = /^(accept|autocomplete|block|cache|class|credentials|d|dateStyle|field|fill|href|id|inputmode|kind|lang|method|name|role|scope|type|redirect|referrerPolicy|timeStyle|viewBox|preserveAspectRatio|shape-rendering|data-.*|aria-(controls|current|describedby|expanded|labelledby|live|sort))$/;
-const CALLS = /(^|\.)(querySelector|querySelectorAll|closest|matches|createElement|createElementNS|getAttribute|setAttribute|hasAttribute|removeAttribute|addEventListener|dispatchEvent|Event|CustomEvent|startsWith|endsWith|includes|split|join|getElementById|setProperty|RegExp)$/;
+const PROPERTIES = new RegExp(
+  "^(accept|autocomplete|block|cache|class|credentials|d|dateStyle|field|fill|href|id|inputmode|kind|lang|method|name|role|scope|type|" +
+    "redirect|referrerPolicy|timeStyle|viewBox|preserveAspectRatio|shape-rendering|data-.*|" +
+    "aria-(controls|current|describedby|expanded|labelledby|live|sort))$",
+);
+const CALLS = new RegExp(
+  "(^|\\.)(querySelector|querySelectorAll|closest|matches|createElement|createElementNS|getAttribute|setAttribute|hasAttribute|" +
+    "removeAttribute|addEventListener|dispatchEvent|Event|CustomEvent|startsWith|endsWith|includes|split|join|getElementById|" +
+    "setProperty|RegExp)$",
+);
 const isProse = (text) => /\p{L}{2,}[,:;.…]? \p{L}/u.test(text) || /^[‹“]? ?\p{Lu}\p{Ll}{2,}/u.test(text) || /\p{L}…$/u.test(text);
 
 function textOf(node) {
