@@ -54,12 +54,13 @@ PAGE_PORT = 8000
 page: runnable
 	@python3 examples/page/try.py $(RUNNABLE) $(PAGE_PORT) $(LABEL)
 
-# Tests the page in headless Chromium and its readers in Node, some minutes, not part of the gate; and makes its pictures again.
+# Tests the page in headless Chromium and Firefox and its readers in Node, some minutes, not part of the gate; and makes its pictures again.
 page-test: edihub
 	python3 -m tests.page.test ./edihub
 
 page-pictures: edihub
 	python3 -m tests.page.pictures ./edihub docs/page
+	python3 -m tests.page.days ./edihub docs/page
 
 # Proves and builds the program, with a line for each crate. What has not changed is not proved again.
 edihub:
