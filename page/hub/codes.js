@@ -242,7 +242,7 @@ export const CODES = {
   },
   B16: {
     meaning: "The supplier's mailbox is full.",
-    cause: "It has 99,999,999,999,999 entries, the most that it takes.",
+    cause: "This hardly happens.",
     remedy: "Ask the hub's operator: the supplier needs another hub.",
   },
   B17: {

@@ -6,9 +6,20 @@ import { isSscc } from "../edi/identifiers.js";
 
 const NAME = "edihub.sscc";
 
+/** A signal to stop, given after this many milliseconds.
+ * @param {number} milliseconds */
+function givenAfter(milliseconds) {
+  const control = new AbortController();
+  setTimeout(() => control.abort(), milliseconds);
+  return control.signal;
+}
+
 export class HeldSsccs {
   /** @type {Map<string, () => void>} */
   #own = new Map();
+  /** What the browser was asked for and has not answered yet: a form that asks twice is not another form.
+   * @type {Map<string, Promise<boolean>>} */
+  #asked = new Map();
   /** @type {Set<string>} */
   #sentElsewhere = new Set();
   #channel = new BroadcastChannel(NAME);
@@ -26,17 +37,32 @@ export class HeldSsccs {
     return [...names, ...this.#sentElsewhere];
   }
 
-  /** Holds an SSCC: false if another form holds it. A browser without locks holds nothing, and the hub refuses what is used twice.
-   * @param {string} sscc
+  /** Holds an SSCC: false if another form holds it, and still does after this many milliseconds. A browser without locks holds nothing,
+   * and the hub refuses what is used twice.
+   * @param {string} sscc @param {number} [patience]
    * @returns {Promise<boolean>} */
-  hold(sscc) {
+  hold(sscc, patience = 0) {
     if (this.#own.has(sscc) || !navigator.locks) return Promise.resolve(true);
-    return new Promise((done) => {
-      navigator.locks.request(`${NAME}.${sscc}`, { ifAvailable: true }, (lock) => {
+    const asked = this.#asked.get(sscc) ?? this.#ask(sscc, patience ? { signal: givenAfter(patience) } : { ifAvailable: true });
+    this.#asked.set(sscc, asked);
+    return asked;
+  }
+
+  /** @param {string} sscc @param {LockOptions} how
+   * @returns {Promise<boolean>} */
+  #ask(sscc, how) {
+    /** @type {Promise<boolean>} */
+    const answer = new Promise((done) => {
+      /** Whether the form still wants it, now that the browser has answered. */
+      const isWanted = () => this.#asked.get(sscc) === answer && this.#asked.delete(sscc);
+      const kept = navigator.locks.request(`${NAME}.${sscc}`, how, (lock) => {
+        const isKept = isWanted() && lock !== null;
         done(lock !== null);
-        return lock && new Promise((end) => this.#own.set(sscc, () => end(undefined)));
+        return isKept && new Promise((end) => this.#own.set(sscc, () => end(undefined)));
       });
+      kept.catch(() => done(!isWanted()));
     });
+    return answer;
   }
 
   /** Lets go of all but these.
@@ -47,6 +73,7 @@ export class HeldSsccs {
       this.#own.delete(sscc);
       end();
     }
+    for (const sscc of this.#asked.keys()) if (!ssccs.includes(sscc)) this.#asked.delete(sscc);
   }
 
   /** Tells the other tabs that these were sent.

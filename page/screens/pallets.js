@@ -18,6 +18,8 @@ import { Pallet } from "./pallet.js";
 const MANY = 60;
 // how many milliseconds are spent on drawing before the page takes what was typed
 const AT_ONCE = 20;
+// how many milliseconds a page that is left may take to let go of its SSCCs
+const LEAVING = 2_000;
 
 const breath = () => new Promise((done) => setTimeout(done));
 
@@ -89,9 +91,11 @@ export class Pallets {
     for (const pallet of this.all) if (isSscc(pallet.number)) this.#holdOne(pallet);
   }
 
-  /** @param {Pallet} pallet */
+  /** A page that is left lets go of its SSCCs a moment later, so a draft that comes back after a reload waits for them.
+   * @param {Pallet} pallet */
   async #holdOne(pallet) {
-    if (!(await this.sscc.held.hold(pallet.number))) pallet.sscc.say(phrases.pallets.heldElsewhere);
+    const { number } = pallet;
+    if (!(await this.sscc.held.hold(number, LEAVING)) && pallet.number === number) pallet.sscc.say(phrases.pallets.heldElsewhere);
   }
 
   /** Adds a pallet for a person who goes on with it: it lists all lines, and the others only their own. */

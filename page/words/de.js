@@ -357,7 +357,7 @@ export const de = {
       `${counted(lines, "Position", "Positionen")} gewählt, davon ${plural(pieces, "ist", "sind")} ${figure(pieces)} Stück offen.`,
     cancel: (lines) => `${counted(lines, "Position", "Positionen")} stornieren…`,
     oneTooMany: (order, line) => `Mehr gehen nicht auf einmal: Bestellung ${order}, Position ${line} ist nicht gewählt.`,
-    tooMany: (lines) => `Mehr gehen nicht auf einmal: ${figure(lines)} sind nicht gewählt.`,
+    tooMany: (lines) => `Mehr gehen nicht auf einmal: ${figure(lines)} ${plural(lines, "ist", "sind")} nicht gewählt.`,
     chooseNone: "Keine wählen",
     choose: (order, line) => `Bestellung ${order}, Position ${line} wählen`,
     chooseIt: "Wählen, um mehrere auf einmal zu stornieren",
@@ -466,7 +466,7 @@ export const de = {
     empty: "Kein Lieferant passt.",
     filter: "Name oder GLN",
     openLinesOfAll: "Offene Positionen aller Lieferanten",
-    openPieces: "Offene Stück",
+    openPieces: "Stück offen",
     unanswered: "Unbeantwortet",
     notReceived: "Nicht eingegangen",
     differences: "Differenzen",
@@ -504,7 +504,9 @@ export const de = {
     chooseOrder: "Wählen Sie oben eine Bestellung.",
     onThis: "Auf dieser Palette",
     notWhole: "Geben Sie eine ganze Zahl ein.",
-    tooMuch: (open, placed) => `Nur ${figure(open)} ${plural(open, "ist", "sind")} offen, und ${figure(placed)} sind auf Ihren Paletten.`,
+    tooMuch: (open, placed) =>
+      `Nur ${figure(open)} ${plural(open, "ist", "sind")} offen, und ${figure(placed)} ` +
+      `${plural(placed, "ist", "sind")} auf Ihren Paletten.`,
   },
   palletRows: {
     nameTheColumns: "Zeile 1: Nennen Sie die Spalten Bestellung, Position, Menge und Palette.",
@@ -680,7 +682,7 @@ export const de = {
     what: "Was",
     txt: ".txt herunterladen",
   },
-  session: { begins: (text) => `Sie beginnt mit ${text}` },
+  session: { begins: (text) => `Die Antwort beginnt mit ${text}` },
   signIn: {
     denied:
       "Verweigert: Der Hub kennt diese GLN nicht mit diesem Schlüssel. Prüfen Sie beides, und fragen Sie den Händler, ob Sie zugelassen " +

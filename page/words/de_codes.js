@@ -29,7 +29,7 @@ export const CODES = {
     remedy: "Prüfen Sie, ob Sie die richtige Datei gewählt haben, und lassen Sie jedes Apostroph in einem Text als ?' schreiben.",
   },
   E06: {
-    meaning: "Die Datei beginnt nicht mit UNB und endet nicht mit UNZ, oder sie hat eines davon zweimal.",
+    meaning: "Die Datei beginnt nicht mit UNB oder endet nicht mit UNZ, oder sie hat eines davon zweimal.",
     cause: "Die Datei ist unvollständig, oder mehrere Übertragungsdateien stehen darin.",
     remedy: "Senden Sie jede Übertragungsdatei ganz und in einer eigenen Datei.",
   },

@@ -138,7 +138,7 @@ export const en = {
     colours: "Colours of the bars",
   },
   cancel: {
-    wereOpen: (/** @type {number} */ pieces) => `${figure(pieces)} were open when this screen was opened.`,
+    wereOpen: (/** @type {number} */ pieces) => `${figure(pieces)} ${plural(pieces, "was", "were")} open when this screen was opened.`,
     lead: (/** @type {string} */ pieces, /** @type {Child} */ order, /** @type {string} */ line, /** @type {string} */ supplier) =>
       [`You are cancelling ${pieces} of order `, order, `, line ${line}, of supplier ${supplier}.`],
     supplier: "The supplier's GLN",
@@ -148,7 +148,7 @@ export const en = {
     title: "Cancel",
     noun: "cancellation",
     atMostOpen: "At most what is open.",
-    areOpen: (/** @type {number} */ open) => `${figure(open)} are open.`,
+    areOpen: (/** @type {number} */ open) => `${figure(open)} ${plural(open, "is", "are")} open.`,
     hubRefused: (/** @type {string | number} */ code) => `The hub refused this (${code}).`,
     heading: "Cancel a quantity",
     another: "Another cancellation",
@@ -268,7 +268,7 @@ export const en = {
     asGiven: "The interchange as the hub gave it",
     missing: "No such entry",
     hasNo: (/** @type {string | number} */ number) => `Your mailbox has no entry ${number}.`,
-    notUnderstood: "The page does not understand this entry. It stands below as the hub gave it.",
+    notUnderstood: "The page does not understand this entry. It is below as the hub gave it.",
     marked: "Marked as taken: it is no longer listed as new.",
     print: "Print",
   },
@@ -378,11 +378,11 @@ export const en = {
   lineChoice: {
     hint: (/** @type {number} */ most) => `Tick lines to cancel several at once, at most ${figure(most)}.`,
     chosen: (/** @type {number} */ lines, /** @type {number} */ pieces) =>
-      `${counted(lines, "line", "lines")} chosen, of which ${figure(pieces)} pieces are open.`,
+      `${counted(lines, "line", "lines")} chosen, of which ${counted(pieces, "piece is", "pieces are")} open.`,
     cancel: (/** @type {number} */ lines) => `Cancel ${counted(lines, "line", "lines")}…`,
     oneTooMany: (/** @type {string} */ order, /** @type {number} */ line) =>
       `These are the most at once: order ${order}, line ${line} is not chosen.`,
-    tooMany: (/** @type {number} */ lines) => `These are the most at once: ${figure(lines)} are not chosen.`,
+    tooMany: (/** @type {number} */ lines) => `These are the most at once: ${figure(lines)} ${plural(lines, "is", "are")} not chosen.`,
     chooseNone: "Choose none",
     choose: (/** @type {string | number} */ order, /** @type {string | number} */ line) => `Choose order ${order}, line ${line}`,
     chooseIt: "Choose it, to cancel several at once",
@@ -393,7 +393,7 @@ export const en = {
     title: "Mailbox",
     markOne: (/** @type {string | number} */ document) => `Mark ${document} as taken`,
     caption: "New entries of the mailbox",
-    empty: "No new mail. What you marked as taken stands below.",
+    empty: "No new mail. What you marked as taken is below.",
     notUnderstoodLines: "The page does not understand these lines of the list:",
     number: "Number",
     document: "Document",
@@ -419,7 +419,8 @@ export const en = {
   },
   openLines: {
     open: (/** @type {number} */ lines, /** @type {number} */ suppliers, /** @type {number} */ late, /** @type {number} */ undated) => {
-      const open = `${figure(lines)} lines of ${figure(suppliers)} fetched suppliers are open`;
+      const of = counted(suppliers, "fetched supplier", "fetched suppliers");
+      const open = `${counted(lines, "line", "lines")} of ${of} ${plural(lines, "is", "are")} open`;
       return `${open}, ${figure(late)} of them overdue, ${figure(undated)} without a wanted day.`;
     },
     learned: (/** @type {string} */ name, /** @type {number} */ dated, /** @type {number} */ undated) => {
@@ -534,7 +535,7 @@ export const en = {
     onThis: "On this pallet",
     notWhole: "Give a whole number.",
     tooMuch: (/** @type {number} */ open, /** @type {number} */ placed) =>
-      `Only ${figure(open)} are open, and ${figure(placed)} are on your pallets.`,
+      `Only ${figure(open)} ${plural(open, "is", "are")} open, and ${figure(placed)} ${plural(placed, "is", "are")} on your pallets.`,
   },
   palletRows: {
     nameTheColumns: "Row 1: name the columns Order, Line, Quantity and Pallet.",
@@ -709,7 +710,7 @@ export const en = {
     begins: (/** @type {string | number} */ text) => `it begins with ${text}`,
   },
   signIn: {
-    denied: "Denied: the hub does not know this GLN with this key. Look at both, and ask the retailer whether you are let in.",
+    denied: "Denied: the hub does not know this GLN with this key. Look at both, and ask the retailer whether you are registered.",
     kept:
       "This tab keeps GLN and key until you sign out or close it, so that you can reload it. The key is never in an address or a " +
       "cookie, and the tab forgets it after ten minutes in which you do nothing. Only the language that you choose stays in the browser.",

@@ -12,7 +12,7 @@ export const fr = {
     statusOfThisSupplier: "Statut de ce fournisseur",
     orderLine: (order, line) => `commande ${order}, ligne ${line}`,
     row: (row, wrong) => `Rang ${row} : ${wrong}`,
-    notALineNumber: (line) => `« ${line} » n'est pas un numéro de ligne.`,
+    notALineNumber: (line) => `« ${line} » n'est pas un numéro de ligne.`,
     date: "Date",
     from: "De",
     to: "À",
@@ -23,7 +23,7 @@ export const fr = {
     interchange: "Interchange",
     searchAllSuppliers: "Chercher chez tous les fournisseurs",
     whatWasSent: "Ce qui a été envoyé",
-    notUnderstood: "La page ne comprend pas la réponse du hub. La voici :",
+    notUnderstood: "La page ne comprend pas la réponse du hub. La voici :",
     supplier: "Fournisseur",
     waits: "Attend son tour…",
     ordered: "Commandé",
@@ -45,7 +45,7 @@ export const fr = {
     overdue: "En retard",
     waitingForAnAnswer: "En attente d'une réponse",
     openLines: "Lignes ouvertes",
-    noneFetched: "Aucun statut n'est encore relevé : faites-le dans la vue d'ensemble.",
+    noneFetched: "Aucun statut n'est encore relevé : faites-le dans la vue d'ensemble.",
     despatched: "Expédié",
     answer: "Réponse",
     withSomethingOpen: "Avec une quantité ouverte",
@@ -69,11 +69,11 @@ export const fr = {
     answerOrder: (order) => ["Répondre à la commande ", order],
     acceptAll: (lines) => (lines === 1 ? "Accepter la ligne" : `Accepter les ${figure(lines)} lignes`),
     noun: "la réponse",
-    waitsNoMore: (known) => `Cette ligne n'attend plus de réponse : elle est ${known}.`,
+    waitsNoMore: (known) => `Cette ligne n'attend plus de réponse : elle est ${known}.`,
     giveANumber: (least, most) => `Indiquez un nombre entier de ${figure(least)} à ${figure(most)}.`,
     noOrder: "Pas de commande",
     entryIsNoOrder: "Cette entrée n'est pas une commande",
-    numberHint: "À votre choix ; la proposition vient de l'horloge.",
+    numberHint: "À votre choix ; la proposition vient de l'horloge.",
     what: (order) => `Votre réponse à la commande ${order}`,
     noneWaits: "Aucune ligne de cette commande n'attend de réponse.",
     refuseAll: "Tout refuser",
@@ -85,13 +85,13 @@ export const fr = {
     backToTheOrder: "Retour à la commande",
   },
   answerRows: {
-    withQuantity: (answer, quantity) => `${answer} avec la quantité ${quantity}. Écrivez « modifiée », ou omettez la quantité.`,
-    nameTheColumns: "Rang 1 : nommez les colonnes Ligne, Votre réponse et Modifié en.",
+    withQuantity: (answer, quantity) => `${answer} avec la quantité ${quantity}. Écrivez « modifiée », ou omettez la quantité.`,
+    nameTheColumns: "Rang 1 : nommez les colonnes Ligne, Votre réponse et Modifié en.",
     twice: (line) => `La ligne ${line} figure déjà dans un rang précédent.`,
     lineMissing: "Le numéro de ligne manque.",
     noLine: (line) => `La commande n'a pas de ligne ${line}.`,
-    waitsNoMore: (line, known) => `La ligne ${line} n'attend plus de réponse : elle est ${known}.`,
-    notAnAnswer: (word, line) => `« ${word} » n'est pas une réponse à la ligne ${line}. Écrivez acceptée, refusée ou modifiée.`,
+    waitsNoMore: (line, known) => `La ligne ${line} n'attend plus de réponse : elle est ${known}.`,
+    notAnAnswer: (word, line) => `« ${word} » n'est pas une réponse à la ligne ${line}. Écrivez acceptée, refusée ou modifiée.`,
     ofLine: (line, wrong) => `Ligne ${line} : ${wrong}`,
     giveANumber: (least, most) => `indiquez un nombre entier de ${figure(least)} à ${figure(most)}.`,
   },
@@ -113,7 +113,7 @@ export const fr = {
   },
   banner: {
     sentAt: (what, time) => `${what}, envoi à ${time} :`,
-    isBeingSent: (what) => `Envoi en cours : ${what}.`,
+    isBeingSent: (what) => `Envoi en cours : ${what}.`,
     noAnswer: (what) => `${what} : aucune réponse n'est venue après l'envoi. Vous pouvez renvoyer exactement la même chose sans risque.`,
     close: "Fermer ce message",
   },
@@ -151,7 +151,7 @@ export const fr = {
     titleOf: (name) => `Annuler des lignes de ${name}`,
     what: (lines) => `Votre annulation de ${counted(lines, "ligne", "lignes")}`,
     noun: "les annulations",
-    gone: (gone) => `Plus rien n'est ouvert ici, c'est donc laissé de côté : ${gone}.`,
+    gone: (gone) => `Plus rien n'est ouvert ici, c'est donc laissé de côté : ${gone}.`,
     noneChosen: "Aucune ligne n'est choisie. Cochez des lignes dans le statut de ce fournisseur.",
     check: "Vérifier les annulations",
     fillAll: "Reprendre tout ce qui est ouvert",
@@ -198,7 +198,7 @@ export const fr = {
       cause: "Le hub est plus récent que la page.",
       remedy: "Cherchez-le dans docs/CODES.md de la version du hub.",
     },
-    inWords: (meaning, cause, remedy) => `${meaning} Cause habituelle : ${cause} Que faire : ${remedy}`,
+    inWords: (meaning, cause, remedy) => `${meaning} Cause habituelle : ${cause} Que faire : ${remedy}`,
   },
   codes: CODES,
   despatch: {
@@ -209,7 +209,7 @@ export const fr = {
     otherPrefix: "Le hub signale qu'un SSCC ne relève d'aucun de vos préfixes. Vérifiez celui-ci.",
     ssccUsed: "Le hub signale qu'un SSCC a déjà servi, à vous ou à quelqu'un d'autre. Renumérotez les palettes.",
     unknownLine: "Le hub ne connaît pas l'une de ces lignes de commande. Rouvrez le formulaire.",
-    nothingOpen: "Rien n'est ouvert : il n'y a rien à annoncer.",
+    nothingOpen: "Rien n'est ouvert : il n'y a rien à annoncer.",
     what: (number) => `Votre avis d'expédition ${number}`,
     severalOrders: (order) =>
       `Plusieurs commandes s'appellent ${order}, à des espaces près à la fin. Ouvrez d'abord chacune dans la boîte de réception.`,
@@ -238,7 +238,7 @@ export const fr = {
   documentNumber: { wrong: "Un numéro a de 1 à 35 lettres sans accent, chiffres ou signes." },
   download: {
     csv: "Télécharger en CSV",
-    csvOf: (caption) => `Télécharger en CSV : ${caption}`,
+    csvOf: (caption) => `Télécharger en CSV : ${caption}`,
   },
   due: {
     ordered: (date) => `commandé le ${date}`,
@@ -250,7 +250,7 @@ export const fr = {
     missing: "Cette entrée n'existe pas",
     hasNo: (number) => `Votre boîte de réception n'a pas d'entrée ${number}.`,
     notUnderstood: "La page ne comprend pas cette entrée. Elle figure ci-dessous telle que le hub l'a donnée.",
-    marked: "Marqué comme traité : cette entrée ne figure plus parmi les nouvelles.",
+    marked: "Marqué comme traité : cette entrée ne figure plus parmi les nouvelles.",
     print: "Imprimer",
   },
   explain: {
@@ -264,20 +264,20 @@ export const fr = {
     chooseHint: (most) => `Au plus ${figure(most)} octets, un fichier à la fois.`,
     message: (place, type, reference) => [`Message ${place} : ${type} (référence `, reference, ")"],
     why: {
-      absent: "Ce site ne vérifie pas de fichiers. Tout le reste fonctionne sans cela ; la personne qui a installé la page peut l'activer.",
+      absent: "Ce site ne vérifie pas de fichiers. Tout le reste fonctionne sans cela ; la personne qui a installé la page peut l'activer.",
       busy: "D'autres fichiers sont en cours de vérification. Réessayez dans une minute.",
       long: "Le serveur de cette page n'accepte pas un fichier de cette taille.",
       broken: "Le serveur de cette page ne répond pas, aucun fichier ne peut donc être vérifié pour le moment. Tout le reste fonctionne.",
     },
     lead:
       "Voyez ce que dit un fichier EDIFACT, ou ce qui y est faux et où. Le fichier va au serveur de cette page, qui le lit et n'en " +
-      "garde rien. Il ne va pas au hub : rien n'est commandé, répondu ou annoncé.",
+      "garde rien. Il ne va pas au hub : aucune commande, réponse ou annonce n'est faite.",
     more: "Que le hub l'accepte dépend aussi de qui l'envoie et de vos commandes. Le hub le vérifie à l'envoi.",
-    unreadable: "Votre navigateur n'a pas pu lire ce fichier. Il a peut-être été déplacé ou modifié : choisissez-le de nouveau.",
+    unreadable: "Votre navigateur n'a pas pu lire ce fichier. Il a peut-être été déplacé ou modifié : choisissez-le de nouveau.",
     reading: (name) => `Lecture de ${name}…`,
     oneAtATime: "Déposez un seul fichier à la fois.",
     refusedAsAWhole: "Ce fichier serait refusé en entier.",
-    notUnderstood: "La page ne comprend pas ce que le serveur dit de ce fichier :",
+    notUnderstood: "La page ne comprend pas ce que le serveur dit de ce fichier :",
     sender: "Expéditeur",
     recipient: "Destinataire",
     prepared: "Préparé",
@@ -305,13 +305,13 @@ export const fr = {
   },
   supplierFile: {
     shortened: (written) => `le tableur a raccourci le GLN en ${written}. Mettez sa colonne au format texte.`,
-    notAGln: (written) => `« ${written} » n'est pas un GLN.`,
+    notAGln: (written) => `« ${written} » n'est pas un GLN.`,
     missing: "le GLN manque.",
     twice: (digits) => `${digits} figure déjà dans un rang précédent.`,
     tooMany: (most) => `une liste a au plus ${figure(most)} fournisseurs.`,
   },
   filter: { shown: "Affichage" },
-  gln: { wrong: "Un GLN a 13 chiffres, et ceci n'en est pas un : cherchez un chiffre faux." },
+  gln: { wrong: "Un GLN a 13 chiffres, et ceci n'en est pas un : cherchez un chiffre faux." },
   itemKinds: {
     CU: "unité consommateur",
     DU: "unité d'expédition",
@@ -330,7 +330,7 @@ export const fr = {
   labels: {
     titleOf: (despatch) => ["Étiquettes de l'expédition ", despatch],
     hint:
-      "Deux étiquettes pour chaque palette, une par page : collez-les sur deux côtés voisins. Imprimez à 100 %, sans ajuster à la page.",
+      "Deux étiquettes pour chaque palette, une par page : collez-les sur deux côtés voisins. Imprimez à 100 %, sans ajuster à la page.",
     none: "Pas d'étiquettes",
     noneHere:
       "Cet onglet n'a pas d'expédition acceptée à cette adresse. Les étiquettes peuvent être imprimées jusqu'à ce que vous vous " +
@@ -344,7 +344,7 @@ export const fr = {
   leaving: { stay: "Rester" },
   leftLines: {
     left: (pieces, some, lines) =>
-      `Reste : ${counted(pieces, "pièce", "pièces")} de ${figure(some)} sur ${counted(lines, "ligne", "lignes")}`,
+      `Reste : ${counted(pieces, "pièce", "pièces")} de ${figure(some)} sur ${counted(lines, "ligne", "lignes")}`,
     nothing: "Il ne reste rien",
     tooMuch: (lines) => `trop de ${counted(lines, "ligne", "lignes")}`,
     caption: "Ce qui reste des lignes",
@@ -356,8 +356,8 @@ export const fr = {
     chosen: (lines, pieces) =>
       `${counted(lines, "ligne choisie", "lignes choisies")}, dont ${counted(pieces, "pièce ouverte", "pièces ouvertes")}.`,
     cancel: (lines) => `Annuler ${counted(lines, "ligne", "lignes")}…`,
-    oneTooMany: (order, line) => `C'est le maximum à la fois : la commande ${order}, ligne ${line}, n'est pas choisie.`,
-    tooMany: (lines) => `C'est le maximum à la fois : ${counted(lines, "n'est pas choisie", "ne sont pas choisies")}.`,
+    oneTooMany: (order, line) => `C'est le maximum à la fois : la commande ${order}, ligne ${line}, n'est pas choisie.`,
+    tooMany: (lines) => `C'est le maximum à la fois : ${counted(lines, "n'est pas choisie", "ne sont pas choisies")}.`,
     chooseNone: "N'en choisir aucune",
     choose: (order, line) => `Choisir la commande ${order}, ligne ${line}`,
     chooseIt: "La choisir, pour en annuler plusieurs à la fois",
@@ -369,7 +369,7 @@ export const fr = {
     markOne: (document) => `Marquer ${document} comme traité`,
     caption: "Nouvelles entrées de la boîte de réception",
     empty: "Rien de nouveau. Ce que vous avez marqué comme traité figure ci-dessous.",
-    notUnderstoodLines: "La page ne comprend pas ces lignes de la liste :",
+    notUnderstoodLines: "La page ne comprend pas ces lignes de la liste :",
     number: "Numéro",
     document: "Document",
     notRead: "non lu",
@@ -420,7 +420,7 @@ export const fr = {
     ofAllLines: "Pour toutes les lignes",
     packages: "Emballages",
     currency: "Monnaie",
-    unread: "La page ne lit pas entièrement ces segments de la commande :",
+    unread: "La page ne lit pas entièrement ces segments de la commande :",
     remarks: "Remarques",
     pack: "Conditionnement",
     price: "Prix",
@@ -452,9 +452,9 @@ export const fr = {
     code: (type) => `code ${type}`,
   },
   outcomes: {
-    accepted: "Accepté : le hub l'a pris, et le conserve.",
-    repeated: "Le hub l'avait déjà : il a été accepté auparavant, et rien n'a été fait deux fois.",
-    refused: "Refusé : rien n'a été modifié.",
+    accepted: "Accepté : le hub l'a pris, et le conserve.",
+    repeated: "Le hub l'avait déjà : il a été accepté auparavant, et rien n'a été fait deux fois.",
+    refused: "Refusé : rien n'a été modifié.",
   },
   overview: {
     title: "Vue d'ensemble",
@@ -488,14 +488,14 @@ export const fr = {
     on: (lines, pieces) => `${counted(lines, "ligne", "lignes")}, ${counted(pieces, "pièce", "pièces")}`,
     nothingOnIt: "Encore rien dessus",
     toCorrect: (on, wrong) => `${on}, ${figure(wrong)} à corriger`,
-    labelled: "Étiquetée : son étiquette est imprimée",
+    labelled: "Étiquetée : son étiquette est imprimée",
     nothing: "Mettez quelque chose sur cette palette, ou retirez-la.",
     hint: "18 chiffres, tapés ou scannés. Tapez-en 17, et la page ajoute le chiffre de contrôle.",
     digits: "Un SSCC a 18 chiffres.",
     lastDigit: (digit) => `Le dernier chiffre devrait être ${digit} : cherchez un chiffre faux.`,
     otherPrefix: (prefix) => `Après son premier chiffre, il ne commence pas par votre préfixe ${prefix}.`,
     twice: "Une autre palette de ce formulaire a le même SSCC.",
-    used: "Vous avez déjà utilisé ce SSCC. Prenez-en un nouveau : un SSCC ne sert qu'une fois, pour toujours.",
+    used: "Vous avez déjà utilisé ce SSCC. Prenez-en un nouveau : un SSCC ne sert qu'une fois, pour toujours.",
   },
   palletLines: {
     quantityOf: (order, line) => `Quantité de la commande ${order}, ligne ${line}`,
@@ -508,19 +508,19 @@ export const fr = {
       `Seulement ${counted(open, "est ouverte", "sont ouvertes")}, et ${counted(placed, "est", "sont")} sur vos palettes.`,
   },
   palletRows: {
-    nameTheColumns: "Rang 1 : nommez les colonnes Commande, Ligne, Quantité et Palette.",
+    nameTheColumns: "Rang 1 : nommez les colonnes Commande, Ligne, Quantité et Palette.",
     twice: (row) => `la même ligne et la même palette figurent aussi au rang ${row}.`,
     noOrder: (order) => `aucune commande ${order} n'a de quantité ouverte.`,
     severalOrders: (order) => `plusieurs commandes s'appellent ${order}, à des espaces près à la fin. Tapez plutôt leurs quantités.`,
     noLine: (order, line) => `la commande ${order} n'a pas de ligne ${line} avec une quantité ouverte.`,
     orderMissing: "la commande manque.",
     lineMissing: "le numéro de ligne manque.",
-    notWhole: (quantity) => `« ${quantity} » n'est pas un nombre entier.`,
+    notWhole: (quantity) => `« ${quantity} » n'est pas un nombre entier.`,
     palletMissing: "la palette manque.",
     shortened: (text) => `le tableur a raccourci le SSCC en ${text}. Mettez sa colonne au format texte.`,
-    notAnSscc: (text) => `${text} n'est pas un SSCC : cherchez un chiffre faux.`,
+    notAnSscc: (text) => `${text} n'est pas un SSCC : cherchez un chiffre faux.`,
     notAPallet: (text, most) =>
-      `« ${text} » n'est pas une palette. Donnez son numéro dans le formulaire, de 1 à ${figure(most)}, ou son SSCC.`,
+      `« ${text} » n'est pas une palette. Donnez son numéro dans le formulaire, de 1 à ${figure(most)}, ou son SSCC.`,
     gap: (gap) => `Aucun rang n'est pour la palette ${gap} : numérotez les palettes sans trou.`,
     tooMany: (most) => `Cela fait plus de ${figure(most)} palettes.`,
   },
@@ -542,7 +542,7 @@ export const fr = {
     unchanged: (pallets) => `${counted(pallets, "inchangée", "inchangées")}.`,
     copied: (pallet) => `La palette ${pallet} en est une copie.`,
     copiedWhatWasLeft: (pallet, pieces) =>
-      `La palette ${pallet} en est une copie avec ce qui restait : ${counted(pieces, "pièce", "pièces")} de moins.`,
+      `La palette ${pallet} en est une copie avec ce qui restait : ${counted(pieces, "pièce", "pièces")} de moins.`,
     split: (first, last) =>
       `Réparti sur cette palette et ${first === last ? `la palette ${first}` : `les palettes ${first} à ${last}`}.`,
     placed: (pieces, rows, pallets) => {
@@ -566,19 +566,19 @@ export const fr = {
     title: "Coller des réponses depuis un tableur",
     label: "Rangs d'un tableur",
     take: "Reprendre ces rangs",
-    wrong: "Rien n'a été modifié. Corrigez ceci, et reprenez les rangs :",
+    wrong: "Rien n'a été modifié. Corrigez ceci, et reprenez les rangs :",
   },
   pastePallets: {
     more: (rows) => `et ${counted(rows, "autre rang", "autres rangs")}`,
     hint:
-      "Un rang pour chaque ligne sur une palette : commande, ligne, quantité et palette, dans cet ordre ou sous ces titres. La palette " +
-      "est son numéro dans ce formulaire ou son SSCC ; la page ajoute des palettes au besoin. Ce qui est maintenant sur ces palettes " +
+      "Un rang pour chaque ligne sur une palette : commande, ligne, quantité et palette, dans cet ordre ou sous ces titres. La palette " +
+      "est son numéro dans ce formulaire ou son SSCC ; la page ajoute des palettes au besoin. Ce qui est maintenant sur ces palettes " +
       "est remplacé.",
     noQuantity: "Aucun rang n'a de quantité.",
     title: "Coller des palettes depuis un tableur",
     label: "Rangs de commande, ligne, quantité et palette",
     take: "Mettre sur les palettes",
-    wrong: "Rien n'a été modifié. Corrigez ceci, et collez de nouveau :",
+    wrong: "Rien n'a été modifié. Corrigez ceci, et collez de nouveau :",
   },
   preview: {
     title: "Ce qui sera envoyé",
@@ -590,7 +590,7 @@ export const fr = {
     connection: "La connexion s'est interrompue.",
     patience: "Aucune réponse n'est venue en quatre minutes.",
     cut: "Seule une partie est arrivée au hub (400).",
-    slow: "L'envoi au hub a pris trop de temps : votre connexion est lente (408).",
+    slow: "L'envoi au hub a pris trop de temps : votre connexion est lente (408).",
     "too many": "Trop de demandes sont venues de votre adresse réseau (429).",
     busy: "Le hub est occupé (503).",
     stopped: "Le hub s'est arrêté pendant le traitement (503).",
@@ -602,7 +602,7 @@ export const fr = {
     replacedLater: (advice, pallets, ssccs) =>
       `Un avis ultérieur a remplacé ce que ${advice} dit ${plural(pallets, "de la palette", "des palettes")} ${ssccs}. ` +
       "Le statut dit ce qui compte maintenant.",
-    replaces: "Cet avis en remplace un précédent (fonction 5) : ce qui a été dit auparavant de ces palettes ne compte plus.",
+    replaces: "Cet avis en remplace un précédent (fonction 5) : ce qui a été dit auparavant de ces palettes ne compte plus.",
     retailer: "le distributeur",
     date: "Date de l'avis",
     caption: "Palettes reçues, à côté de ce qui était annoncé",
@@ -610,9 +610,9 @@ export const fr = {
   },
   replies: { noEnd: "(le rapport n'a pas de fin)" },
   round: {
-    denied: "Refus : déconnectez-vous et reconnectez-vous.",
+    denied: "Refus : déconnectez-vous et reconnectez-vous.",
     unknown: "Inconnu du hub.",
-    unreadable: "La page ne comprend pas tout le rapport : ouvrez le statut.",
+    unreadable: "La page ne comprend pas tout le rapport : ouvrez le statut.",
     noAnswer: (reason) => `Pas de réponse. ${reason}`,
   },
   rows: {
@@ -633,9 +633,9 @@ export const fr = {
   search: {
     found: (text, lines, pallets, suppliers) => {
       const counts = `${counted(lines, "ligne de commande", "lignes de commande")} et ${counted(pallets, "palette", "palettes")}`;
-      return `« ${text} » figure dans ${counts} de ${counted(suppliers, "fournisseur relevé", "fournisseurs relevés")}.`;
+      return `« ${text} » figure dans ${counts} de ${counted(suppliers, "fournisseur relevé", "fournisseurs relevés")}.`;
     },
-    cut: (most) => `Ce sont les ${figure(most)} premières de chaque sorte : donnez davantage du numéro.`,
+    cut: (most) => `Ce sont les ${figure(most)} premières de chaque sorte : donnez davantage du numéro.`,
     title: "Recherche",
     empty: "Rien ne correspond.",
     titleOf: (text) => `Recherche de ${text}`,
@@ -646,27 +646,27 @@ export const fr = {
   },
   sending: {
     first: "Un envoi précédent n'a pas encore de réponse. Renvoyez-le d'abord, avec le bouton en haut de la page.",
-    safe: "Renvoyer est sans risque : le hub retient la référence, et ne fait jamais deux fois la même chose.",
+    safe: "Renvoyer est sans risque : le hub retient la référence, et ne fait jamais deux fois la même chose.",
     held: (why, at) => `${why} Cela n'a pas été fait. La page l'envoie d'elle-même${at && `, à ${at}`}.`,
     pausing: (why, at) => `${why} La page renvoie exactement la même chose, d'elle-même${at && `, à ${at}`}.`,
     unanswered: (what, tries, why) =>
       `${what} : ${tries === 1 ? "un envoi" : `${figure(tries)} envois`}, et aucune réponse. C'est peut-être arrivé, peut-être pas. ` +
-      `La dernière fois : ${why}`,
+      `La dernière fois : ${why}`,
     sending: "Envoi en cours…",
     resending: "Nouvel envoi de la même chose…",
     noAnswer: "Pas de réponse du hub",
     askedToWait: (time) => `Vous êtes prié d'attendre jusqu'à ${time} : la page l'enverra alors.`,
     again: "Renvoyer la même chose",
-    denied: "Refus : le hub ne connaît pas ce GLN avec cette clé, ou c'est à l'autre côté de le demander. Reconnectez-vous.",
-    tooLarge: "Trop grand : un interchange a au plus 1 048 576 octets. Divisez-le.",
-    notTaken: (reply) => `Le hub ne l'a pas pris, et rien n'a été modifié. Sa réponse : ${reply}`,
-    hubSaid: "Réponse du hub :",
+    denied: "Refus : le hub ne connaît pas ce GLN avec cette clé, ou cette demande est réservée à l'autre partie. Reconnectez-vous.",
+    tooLarge: "Trop grand : un interchange a au plus 1 048 576 octets. Divisez-le.",
+    notTaken: (reply) => `Le hub ne l'a pas pris, et rien n'a été modifié. Sa réponse : ${reply}`,
+    hubSaid: "Réponse du hub :",
   },
   sendingForm: {
     isBack: "Ce que vous aviez saisi ici est de retour. Cela n'a pas été envoyé.",
     check: (noun) => `Vérifier ${noun}`,
     fromScratch: "Repartir de zéro",
-    lost: (missing) => `Il s'y trouvait quelque chose qui n'est plus dans le formulaire : ${missing}.`,
+    lost: (missing) => `Il s'y trouvait quelque chose qui n'est plus dans le formulaire : ${missing}.`,
   },
   sent: {
     title: "Envois",
@@ -680,13 +680,13 @@ export const fr = {
   },
   session: { begins: (text) => `elle commence par ${text}` },
   signIn: {
-    denied: "Refus : le hub ne connaît pas ce GLN avec cette clé. Vérifiez les deux, et demandez au distributeur si vous êtes admis.",
+    denied: "Refus : le hub ne connaît pas ce GLN avec cette clé. Vérifiez les deux, et demandez au distributeur si vous êtes admis.",
     kept:
       "Cet onglet garde le GLN et la clé jusqu'à ce que vous vous déconnectiez ou le fermiez, pour que vous puissiez le recharger. La " +
       "clé ne figure jamais dans une adresse ou un cookie, et l'onglet l'oublie après dix minutes sans activité de votre part. Seule la " +
       "langue que vous choisissez reste dans le navigateur.",
     wasLocked:
-      "Personne n'a utilisé cet onglet pendant dix minutes, il a donc oublié votre clé. Ce que vous avez saisi est toujours là : " +
+      "Personne n'a utilisé cet onglet pendant dix minutes, il a donc oublié votre clé. Ce que vous avez saisi est toujours là : " +
       "connectez-vous pour reprendre où vous en étiez.",
     left:
       "Cet onglet a encore ce que vous avez saisi et envoyé avec ce GLN. Connectez-vous avec le même GLN, et vous le retrouvez. Si un " +
@@ -700,7 +700,7 @@ export const fr = {
     keyHint: "La clé que le distributeur vous a donnée.",
     wrongKey: "Une clé a de 8 à 64 lettres, chiffres ou signes, sans espaces.",
     noAnswer: "Le hub ne répond pas. Réessayez dans un instant.",
-    notAHub: (what) => `Ce n'est pas la réponse d'un hub : ${what}. Votre réseau vous demande peut-être d'abord quelque chose.`,
+    notAHub: (what) => `Ce n'est pas la réponse d'un hub : ${what}. Votre réseau vous demande peut-être d'abord quelque chose.`,
   },
   sortChoice: {
     descending: (title) => `${title}, décroissant`,
@@ -715,20 +715,20 @@ export const fr = {
     prefixHint: "De 4 à 12 chiffres. Avec lui, la page propose le SSCC suivant. Il reste dans cet onglet.",
     firstHint: "Facultatif. La page propose des SSCC à partir de ce numéro, sinon après votre dernier.",
     digitsAlone: "Un numéro de série n'a que des chiffres.",
-    prefixToo: "Donnez aussi votre préfixe entreprise : le numéro de série vient après lui.",
+    prefixToo: "Donnez aussi votre préfixe entreprise : le numéro de série vient après lui.",
     tooLong: (prefix, most) => `Après le préfixe ${prefix}, un numéro de série a au plus ${most} chiffres.`,
     prefixNeeded: "Donnez votre préfixe entreprise, pour que la page puisse proposer un SSCC.",
   },
   start: {
     sides: { supplier: "Fournisseur", retailer: "Distributeur" },
     withoutAnswer: (documents) => `(${figure(documents)} sans réponse)`,
-    tryAfter: (time) => `Rien n'est perdu : réessayez après ${time}.`,
-    tryInAMoment: "Rien n'est perdu : réessayez dans un instant.",
+    tryAfter: (time) => `Rien n'est perdu : réessayez après ${time}.`,
+    tryInAMoment: "Rien n'est perdu : réessayez dans un instant.",
     kept:
-      "Cet onglet garde ce que vous avez saisi : rouvrez l'écran, et vous le retrouvez. C'est perdu quand vous vous déconnectez ou " +
+      "Cet onglet garde ce que vous avez saisi : rouvrez l'écran, et vous le retrouvez. C'est perdu quand vous vous déconnectez ou " +
       "fermez l'onglet.",
-    notSentYet: (what) => `Pas encore envoyé : ${what}`,
-    noAnswerYet: (what) => `Pas encore de réponse : ${what}`,
+    notSentYet: (what) => `Pas encore envoyé : ${what}`,
+    noAnswerYet: (what) => `Pas encore de réponse : ${what}`,
     reload: "Recharger",
     leave: "Quitter",
     noAnswer: "Pas de réponse",
@@ -741,8 +741,8 @@ export const fr = {
     draftsGone: "Vous avez saisi quelque chose qui n'est pas envoyé. Si vous vous déconnectez, c'est perdu.",
     screens: "Écrans",
     skip: "Aller au contenu",
-    denied: "Refus : le hub ne connaît plus ce GLN avec cette clé. Déconnectez-vous et reconnectez-vous.",
-    wentWrong: (what) => `Quelque chose s'est mal passé : ${what}`,
+    denied: "Refus : le hub ne connaît plus ce GLN avec cette clé. Déconnectez-vous et reconnectez-vous.",
+    wentWrong: (what) => `Quelque chose s'est mal passé : ${what}`,
   },
   status: {
     allLines: "Toutes les lignes",
@@ -754,13 +754,13 @@ export const fr = {
     filterLines: "Commande ou article",
     noPalletFits: "Aucune palette ne correspond.",
     filterPallets: "SSCC ou article",
-    notUnderstood: "La page ne comprend pas ces lignes du rapport :",
+    notUnderstood: "La page ne comprend pas ces lignes du rapport :",
     refused: "Refusé",
     shares: "Parts",
     notReceived: "pas encore reçue",
     state: "État",
   },
-  subjects: { AAI: "", ZZZ: "", DEL: "Livraison : ", PUR: "Achats : " },
+  subjects: { AAI: "", ZZZ: "", DEL: "Livraison : ", PUR: "Achats : " },
   summary: {
     noTurningBack: "Ce qui est envoyé ne peut pas être repris.",
     title: "Avant l'envoi",
@@ -780,7 +780,7 @@ export const fr = {
     namesNone: (file) => `${file} ne nomme aucun fournisseur.`,
     choose: "Choisissez une liste de fournisseurs, ou déposez-la ici",
     chooseHint:
-      "Un fichier CSV avec un rang pour chaque fournisseur : GLN et nom. L'onglet le garde jusqu'à ce que vous vous déconnectiez ou le " +
+      "Un fichier CSV avec un rang pour chaque fournisseur : GLN et nom. L'onglet le garde jusqu'à ce que vous vous déconnectiez ou le " +
       "fermiez.",
     besidePage: (suppliers, file) => `${counted(suppliers, "fournisseur", "fournisseurs")} dans ${file}, placé à côté de cette page.`,
     inFile: (suppliers, file) => `${counted(suppliers, "fournisseur", "fournisseurs")} dans ${file}.`,
@@ -788,7 +788,7 @@ export const fr = {
     none: "Il n'y a pas encore de liste de fournisseurs. Sans elle, demandez chaque fournisseur sous Statut, par son GLN.",
     useAnother: "Utiliser une autre liste",
     give: "Donner une liste",
-    leftOut: "Ceci a été laissé de côté :",
+    leftOut: "Ceci a été laissé de côté :",
   },
   table: {
     nothing: "Rien ici.",
@@ -807,14 +807,14 @@ export const fr = {
     asOf: (time) => `Situation à ${time}.`,
     refreshed: (most) =>
       "Tant que cet onglet est visible, la page regarde de nouveau toutes les cinq minutes. Chaque fois, elle interroge le hub au plus " +
-      `${figure(most)} fois ; ` +
+      `${figure(most)} fois ; ` +
       "d'une grande boîte, elle apprend donc chaque fois une partie.",
-    lookFor: (what) => `Boîte de réception : chercher ${what}`,
+    lookFor: (what) => `Boîte de réception : chercher ${what}`,
     answer: "Répondre",
     despatch: "Expédier",
     order: (order) => `commande ${order}`,
     leftOver:
-      "Votre boîte n'est pas encore entièrement parcourue : quelques dates et liens manquent. Le reste viendra aux prochains passages.",
+      "Votre boîte n'est pas encore entièrement parcourue : quelques dates et liens manquent. Le reste viendra aux prochains passages.",
     first: (most) => `Ce sont les ${figure(most)} premiers. Tous figurent sous Statut.`,
     noAnswer: (time) => `Le hub n'a pas répondu à ${time}. La page redemandera.`,
     again: "Regarder de nouveau",
@@ -851,7 +851,7 @@ export const fr = {
     content: (messages, bytes) => `${messages}, ${counted(bytes, "octet", "octets")}. Pas encore envoyé.`,
     unread: (bytes) => `${counted(bytes, "octet", "octets")}, dans une écriture que la page ne lit pas. Pas encore envoyé.`,
     unreadable:
-      "Votre navigateur n'a pas pu lire ce fichier. Il a peut-être été déplacé ou modifié : choisissez-le de nouveau. Les autres " +
+      "Votre navigateur n'a pas pu lire ce fichier. Il a peut-être été déplacé ou modifié : choisissez-le de nouveau. Les autres " +
       "fichiers sont envoyés.",
     paused: "Un fichier n'a pas eu de réponse, les suivants attendent donc. Renvoyez-le d'abord, ou continuez avec la suite.",
     title: "Envoyer des fichiers",

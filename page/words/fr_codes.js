@@ -11,7 +11,7 @@ export const CODES = {
   E02: {
     meaning: "La chaîne de service (UNA) au début est erronée ou tronquée.",
     cause: "Le programme de l'expéditeur utilise des séparateurs non autorisés, par exemple un même caractère pour deux d'entre eux.",
-    remedy: "Réglez le programme sur les séparateurs habituels : : + . ? et l'apostrophe.",
+    remedy: "Réglez le programme sur les séparateurs habituels : : + . ? et l'apostrophe.",
   },
   E03: {
     meaning: "Le fichier contient un caractère interdit dans un interchange.",
@@ -19,22 +19,22 @@ export const CODES = {
     remedy: "Retirez ce caractère, ou enregistrez le fichier en ISO 8859-1.",
   },
   E04: {
-    meaning: "Le fichier est tronqué : il se termine au milieu d'un segment.",
+    meaning: "Le fichier est tronqué : il se termine au milieu d'un segment.",
     cause: "Un transfert s'est interrompu, ou la fin du dernier segment manque.",
     remedy: "Envoyez le fichier entier.",
   },
   E05: {
     meaning: "Le fichier contient autre chose qu'un nom de segment là où il en faut un.",
     cause: "Ce n'est pas un fichier EDIFACT, ou un texte contient une apostrophe sans caractère d'échappement devant elle.",
-    remedy: "Vérifiez que vous avez choisi le bon fichier, et faites écrire chaque apostrophe d'un texte sous la forme ?'.",
+    remedy: "Vérifiez que vous avez choisi le bon fichier, et faites écrire chaque apostrophe d'un texte sous la forme ?'.",
   },
   E06: {
-    meaning: "Le fichier ne commence pas par UNB et ne finit pas par UNZ, ou contient deux fois l'un des deux.",
+    meaning: "Le fichier ne commence pas par UNB ou ne finit pas par UNZ, ou contient deux fois l'un des deux.",
     cause: "Le fichier est incomplet, ou contient plusieurs interchanges.",
     remedy: "Envoyez chaque interchange en entier, dans son propre fichier.",
   },
   E07: {
-    meaning: "L'en-tête (UNB) est erroné : sa syntaxe, l'expéditeur, le destinataire, la date, l'heure ou la référence.",
+    meaning: "L'en-tête (UNB) est erroné : sa syntaxe, l'expéditeur, le destinataire, la date, l'heure ou la référence.",
     cause: "Le programme de l'expéditeur est réglé sur une autre syntaxe ou version, ou sur un qualifiant autre que 14.",
     remedy: "Réglez-le sur UNOC et la version 3, avec un GLN et le qualifiant 14 pour l'expéditeur et le destinataire.",
   },
@@ -46,17 +46,17 @@ export const CODES = {
   E09: {
     meaning: "Le destinataire indiqué dans le fichier n'est pas ce hub.",
     cause: "Le programme de l'expéditeur a un autre GLN pour le hub.",
-    remedy: "Corrigez le destinataire dans UNB : le GLN du hub ; un fournisseur peut aussi donner celui du distributeur.",
+    remedy: "Corrigez le destinataire dans UNB : le GLN du hub ; un fournisseur peut aussi donner celui du distributeur.",
   },
   E10: {
-    meaning: "Chaque message n'est pas formé d'un UNH, de ses segments et d'un UNT.",
+    meaning: "Les messages ne sont pas tous formés d'un UNH, de leurs segments et d'un UNT.",
     cause: "Un UNH ou un UNT manque, ou le programme de l'expéditeur écrit des groupes fonctionnels (UNG et UNE).",
     remedy: "Faites réécrire le fichier sans groupes.",
   },
   E11: {
     meaning: "L'en-tête d'un message (UNH) est erroné, ou le compte dans son UNT n'est pas un nombre.",
     cause: "La référence du message manque ou dépasse 14 caractères, ou le type de message est incomplet.",
-    remedy: "Corrigez UNH : une référence, et un type comme ORDRSP:D:01B:UN.",
+    remedy: "Corrigez UNH : une référence, et un type comme ORDRSP:D:01B:UN.",
   },
   E12: {
     meaning: "Le nombre de segments dans l'UNT d'un message est faux.",
@@ -134,7 +134,7 @@ export const CODES = {
     remedy: "Faites écrire un UNS+S après la dernière ligne.",
   },
   M07: {
-    meaning: "Une ligne est erronée : son numéro, son article ou sa réponse.",
+    meaning: "Une ligne est erronée : son numéro, son article ou sa réponse.",
     cause: "Le chiffre de contrôle d'un GTIN est faux, ou un numéro d'article interne est donné à sa place.",
     remedy: "Donnez à chaque ligne son numéro et le GTIN de son article.",
   },
@@ -150,19 +150,19 @@ export const CODES = {
     remedy: "Donnez le numéro de la commande (RFF+ON) tel qu'il y figure, et envoyez une réponse pour chaque commande.",
   },
   M10: {
-    meaning: "Une palette est erronée : son SSCC manque ou n'est pas valable, ou deux palettes ont le même.",
+    meaning: "Une palette est erronée : son SSCC manque ou n'est pas valable, ou deux palettes ont le même.",
     cause: "Le chiffre de contrôle d'un SSCC est faux, ou une ligne précède la première palette.",
     remedy: "Donnez à chaque palette son propre SSCC, et placez chaque ligne sur une palette.",
   },
   M11: {
     meaning: "Le nombre de lignes (CNT+2) est faux.",
     cause: "Une ligne manque, ou le programme de l'expéditeur compte autre chose.",
-    remedy: "Faites réécrire le message ; le compte peut aussi être omis.",
+    remedy: "Faites réécrire le message ; le compte peut aussi être omis.",
   },
   M12: {
     meaning: "Le message n'a aucune ligne.",
     cause: "Le document était encore vide quand il a été envoyé.",
-    remedy: "Envoyez au moins une ligne ; seule une réponse à une commande entière (fonction 27 ou 29) s'en passe.",
+    remedy: "Envoyez au moins une ligne ; seule une réponse à une commande entière (fonction 27 ou 29) s'en passe.",
   },
   B01: {
     meaning: "L'acheteur du message n'est pas le distributeur de ce hub.",
@@ -177,7 +177,7 @@ export const CODES = {
   B03: {
     meaning: "Autre chose a déjà été envoyé sous la même référence.",
     cause: "Un document a été modifié et renvoyé, ou le programme de l'expéditeur a recommencé à compter.",
-    remedy: "Envoyez-le sous une nouvelle référence ; la page en prend une nouvelle quand vous renvoyez.",
+    remedy: "Envoyez-le sous une nouvelle référence ; la page en prend une nouvelle quand vous renvoyez.",
   },
   B04: {
     meaning: "Le fournisseur a déjà une commande de ce numéro.",
@@ -191,13 +191,13 @@ export const CODES = {
   },
   B06: {
     meaning: "La commande n'a pas cette ligne, ou on ne sait pas de quelle ligne il s'agit.",
-    cause: "Le numéro de ligne est faux ; ou aucun n'est donné, et l'article ne figure sur aucune ligne ou sur plusieurs.",
+    cause: "Le numéro de ligne est faux ; ou aucun n'est donné, et l'article ne figure sur aucune ligne ou sur plusieurs.",
     remedy: "Donnez le numéro de la ligne tel qu'il figure dans la commande.",
   },
   B07: {
     meaning: "La ligne n'attend plus de réponse.",
     cause: "Quelqu'un y a déjà répondu, peut-être une personne de votre équipe.",
-    remedy: "Consultez le statut : la réponse qui compte y figure.",
+    remedy: "Consultez le statut : la réponse qui compte y figure.",
   },
   B08: {
     meaning: "La quantité modifiée est inférieure à ce qui est expédié, ou supérieure à la somme de l'expédié et de l'ouvert.",
@@ -222,7 +222,7 @@ export const CODES = {
   B12: {
     meaning: "Le SSCC a déjà servi.",
     cause: "L'expédition a déjà été envoyée, ou le programme de l'expéditeur a recommencé ses numéros de série.",
-    remedy: "Prenez-en un nouveau : un SSCC ne sert qu'une fois.",
+    remedy: "Prenez-en un nouveau : un SSCC ne sert qu'une fois.",
   },
   B13: {
     meaning: "Le fournisseur a déjà envoyé un avis d'expédition de ce numéro.",
@@ -242,7 +242,7 @@ export const CODES = {
   B16: {
     meaning: "La boîte du fournisseur est pleine.",
     cause: "Elle contient 99 999 999 999 999 entrées, le maximum.",
-    remedy: "Adressez-vous à l'exploitant du hub : le fournisseur a besoin d'un autre hub.",
+    remedy: "Adressez-vous à l'exploitant du hub : le fournisseur a besoin d'un autre hub.",
   },
   B17: {
     meaning: "L'annulation dépasse ce qui est ouvert.",
@@ -252,7 +252,7 @@ export const CODES = {
   B18: {
     meaning: "Le GLN est déjà celui du hub, du distributeur ou d'un fournisseur.",
     cause: "Le fournisseur a déjà été enregistré, peut-être par une commande dont la réponse s'est perdue.",
-    remedy: "Si le fournisseur est dans le hub, il n'y a plus rien à faire ; sinon, vérifiez le GLN.",
+    remedy: "Si le fournisseur est dans le hub, il n'y a plus rien à faire ; sinon, vérifiez le GLN.",
   },
   B19: {
     meaning: "Un préfixe est le début de celui d'un autre fournisseur, ou l'inverse.",

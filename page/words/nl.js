@@ -549,8 +549,8 @@ export const nl = {
   pasteAnswers: {
     taken: (lines) => `${counted(lines, "regel is", "regels zijn")} beantwoord zoals in de rijen. Er is nog niets verzonden.`,
     hint:
-      "Download de tabel hieronder als CSV, vul Uw antwoord (geaccepteerd, geweigerd of gewijzigd) en Gewijzigd in in, kopieer de rijen " +
-      "met hun titels, en plak ze hier. Of plak rijen met regelnummer, antwoord en aantal. Regels zonder antwoord blijven zoals ze zijn.",
+      "Download de tabel hieronder als CSV, vul de kolommen ‘Uw antwoord’ (geaccepteerd, geweigerd of gewijzigd) en ‘Gewijzigd in’ in, " +
+      "kopieer de rijen met hun titels, en plak ze hier. Of plak rijen met regelnummer, antwoord en aantal. Regels zonder antwoord blijven zoals ze zijn.",
     noAnswer: "Geen rij heeft een antwoord.",
     title: "Antwoorden uit een spreadsheet plakken",
     label: "Rijen uit een spreadsheet",
@@ -741,7 +741,7 @@ export const nl = {
     filterPallets: "SSCC of artikel",
     notUnderstood: "De pagina begrijpt deze regels van het rapport niet:",
     refused: "Geweigerd",
-    shares: "Aandelen",
+    shares: "Verdeling",
     notReceived: "nog niet ontvangen",
     state: "Toestand",
   },

@@ -29,7 +29,7 @@ export const CODES = {
     remedy: "Controleer of u het juiste bestand hebt gekozen, en laat elke apostrof in een tekst als ?' schrijven.",
   },
   E06: {
-    meaning: "Het bestand begint niet met UNB en eindigt niet met UNZ, of heeft een van beide twee keer.",
+    meaning: "Het bestand begint niet met UNB of eindigt niet met UNZ, of heeft een van beide twee keer.",
     cause: "Het bestand is onvolledig, of er staan meerdere interchanges in.",
     remedy: "Verzend elke interchange in zijn geheel en in een eigen bestand.",
   },
@@ -70,7 +70,7 @@ export const CODES = {
   },
   E14: {
     meaning: "Het aantal berichten in UNZ is fout.",
-    cause: "Er ontbreekt een bericht, of er is met de hand een toegevoegd.",
+    cause: "Er ontbreekt een bericht, of er is er met de hand een toegevoegd.",
     remedy: "Laat het bestand opnieuw schrijven.",
   },
   E15: {

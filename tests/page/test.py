@@ -59,7 +59,7 @@ def main():
     asked.add_argument("program", type=os.path.abspath)
     asked.add_argument("name", nargs="?", default="")
     asked.add_argument("--browser", choices=BROWSERS)
-    words = asked.parse_args()
+    words = asked.parse_intermixed_args()
     results = [] if words.browser == "firefox" else [tried(name, it, words.program) for name, it in ALONE.items() if words.name in name]
     chosen = {name: trial for name, trial in IN_BROWSER.items() if words.name in name}
     for kind in [words.browser] if words.browser else BROWSERS:
