@@ -64,7 +64,7 @@ goes_on t entry = (entry.number == 1) || is_some (entry_at (view entry.supplier 
 
 -- The row of this kind and key shows it: a pallet that is under no prefix of its supplier; a line without its order; a
 -- content without its pallet; a receipt of a pallet that was not received; an entry after a gap; and among what some
--- supplier sees a line that is out of balance, or a content without its line. Where the tables hold no register, no one
+-- supplier sees a line that is out of balance, or a content without its line. If the tables hold no register, no single
 -- row shows it.
 abbrev pub ShowsUnsound : Tables → RowKind → Key → Type 0
 ShowsUnsound t Hub key = HoldsNone t

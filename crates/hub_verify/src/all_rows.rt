@@ -28,7 +28,7 @@ pub enum Read<T> {
     Unclean(Items<KeyCell>),
 }
 
-/// The rows of a hub, which are read one kind after another and looked up. No call changes them.
+/// The rows of a hub, which are read one kind after another and looked up. A call that answers has not changed them.
 pub trait AllRows {
     /// The rows.
     ghost content: { Self → Tables };

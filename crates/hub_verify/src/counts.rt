@@ -120,6 +120,10 @@ fn entries<S: AllRows>(store: &mut S) -> Result<(usize, usize), StoreFault>
 }
 
 /// Counts the rows.
+///
+/// # Errors
+///
+/// Those of the rows, and `Unclean` if one does not have the form of its kind.
 pub fn count<S: AllRows>(store: &mut S) -> Result<Counts, StoreFault>
     ensures { Tells S.content S.honest AreCounts store.old store.new result }
 {

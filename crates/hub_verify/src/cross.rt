@@ -21,7 +21,7 @@ use hub_store::StoreFault;
 use hub_tables::{ContentRow, LineRow, MailRow, PalletRow, ReceiptRow};
 use std::alloc::Global;
 
-/// Takes the rows that were read. None lacks the form of its kind, as that was looked for before.
+/// Takes the rows that were read. The error is `Unclean` if one does not have the form of its kind.
 pub(crate) fn rows_of<T: Drop>(read: Read<T>) -> Result<Items<T>, StoreFault>
     ensures { IfOk result (λ rows. read ≡ Read.Rows rows) }
 {

@@ -61,7 +61,7 @@ fn with_pallets(mut glns: Items<Gln>, pallets: &[PalletRow]) -> Result<Items<Gln
     Ok(glns)
 }
 
-// The suppliers that have a line. Its rows are let go before others are read.
+// Returns the suppliers that have a line. The lines are dropped before other rows are read.
 fn line_suppliers<S: AllRows>(store: &mut S, alloc: Global) -> Result<Items<Gln>, StoreFault>
     ensures { Tells S.content S.honest CoversLines store.old store.new result }
 {
@@ -126,7 +126,7 @@ fn misfit_of<S: AllRows>(
     Ok(found)
 }
 
-// The same of any of these suppliers.
+// Like `misfit_of`, for several suppliers.
 fn misfit_among<S: AllRows>(
     store: &mut S,
     alloc: Global,

@@ -1,13 +1,13 @@
-//! What is found of all rows.
+//! Says whether rows are a sound start.
 use hub_sound::Finding;
 
-/// What is found of all rows.
+/// Whether rows are clean and a sound start.
 #[derive(Drop)]
 pub enum Verdict {
-    /// They are clean, and a sound start.
+    /// The rows are clean and a sound start.
     Sound,
-    /// The row does not have the form of its kind.
+    /// This row does not have the form of its kind.
     Unclean(Finding),
-    /// The row shows that they are no sound start.
+    /// The rows are clean, but this one shows that they are not a sound start.
     Unsound(Finding),
 }

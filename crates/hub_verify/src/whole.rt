@@ -11,12 +11,13 @@ use crate::verdict::Verdict;
 use hub_store::StoreFault;
 use std::alloc::Global;
 
-/// Returns `Sound` exactly if the rows are clean and a sound start; otherwise the row that shows it. It reads the tables one
-/// after another, and at no time keeps more of them than one table, or the rows of one supplier.
+/// Returns `Sound` exactly if the rows are clean and a sound start, and otherwise the row that shows that they are not. The
+/// contract asks that the keys of each kind rise, as they do in a database file. Apart from the register and the GLNs of
+/// suppliers, it keeps at most one table, or the rows of one supplier, at a time.
 ///
 /// # Errors
 ///
-/// Those of the rows. What was found before is then not told.
+/// Those of the rows; what was found before is then lost.
 pub fn verify<S: AllRows>(store: &mut S, alloc: Global) -> Result<Verdict, StoreFault>
     ensures { Tells S.content S.honest (λ t verdict. Rising t → IsVerdict t verdict)
         store.old store.new result }
