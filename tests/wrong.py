@@ -31,7 +31,7 @@ import time
 from concurrent.futures import FIRST_COMPLETED, ThreadPoolExecutor, wait
 from dataclasses import dataclass
 
-from tests.harness.crate_functions import edits, functions_of, pairs_of, sources, without_bodies
+from tests.harness.crate_functions import as_others_see, edits, functions_of, given_out, pairs_of, sources
 from tests.harness.tree import ROOT
 from tests.harness.tree_copies import PARTS, copied, crates, lanes, library_proved, linked, room_beside, run
 
@@ -105,8 +105,9 @@ class Kept:
 
     @functools.cache
     def promised(self, crate):
-        """Returns the checksum of what a crate promises to those above it: its definitions, and its functions without their bodies."""
-        return summed(crate, ("src", "specs"), lambda path, text: without_bodies(text) if path.endswith(".rt") else text)
+        """Returns the checksum of what a crate promises to those above it: its definitions, and its public functions without their bodies."""
+        given = given_out(sources(crate))
+        return summed(crate, ("src", "specs"), lambda path, text: as_others_see(text, given) if path.endswith(".rt") else text)
 
     @functools.cache
     def toolchain(self):

@@ -82,12 +82,18 @@ def functions_in(file, text):
     return [function_from(file, lines, first) for first in range(len(lines)) if HEADER.match(lines[first])]
 
 
-def without_bodies(text):
-    """A source file as callers see it: of each function what it promises, and not its body."""
+def as_others_see(text, given):
+    """A source file as other crates see it, which may use the names that its crate gives out: of each function that they may call what it
+    promises, and not its body; of others nothing."""
     lines, kept, after = text.split("\n"), [], 0
     for function in functions_in("", text):
         first, last = function.lines[0] - 1, function.lines[-1] - 1
-        if function.has_body and first >= after:
+        if first < after:
+            continue
+        if not function.is_public(given):
+            kept += lines[after:first]
+            after = last + 1
+        elif function.has_body:
             kept += lines[after : opening_of(lines, first, last) + 1]
             after = last
     return "\n".join(kept + lines[after:])
