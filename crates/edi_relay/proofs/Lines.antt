@@ -37,7 +37,7 @@ front_of_second old mid new first second begun h = (
   Appends-trans old mid new first h.0 begun h.3,
 )
 
--- a line is told, whole or, at a fault of the writer, in front
+-- a line was written, or a prefix of it if the writer failed
 pub tells : {E : Type 0} (old new : Option (List ℕ)) (failed : Bool) (line : List ℕ) (written : Result (Unit {0}) E)
     → OnOk written (Appends old new line)
     → OnErr written (AppendsFront old new line)

@@ -25,7 +25,7 @@ use Rattle.edi_relay.specs.Relaying.{Flagged}
 use Rattle.edi_relay.proofs.ReadOn.{never_read}
 use Rattle.edi_relay.specs.Run.{read_limit, Delivers, DeliversFront, IfToEnd, IsRefused, Ran}
 
--- ---- one byte more than the longest text tells as much as all
+-- ---- reading one byte more than the longest text gives the same as reading all
 
 same_length : (k : List ℕ) → nat_lt text_limit (length (take read_limit k)) ≡ nat_lt text_limit (length k)
 same_length k =

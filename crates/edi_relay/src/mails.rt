@@ -1,8 +1,10 @@
 //! Writes the mail texts of the messages of an interchange while its segments come.
 
-ghost use Rattle.std.specs.Prelude.{◌≡◌, ◌≢◌, ℕ, ◌+◌, ◌∷◌, ◌++◌, List, [], true, false, IfOk, OnOk};
+ghost use Rattle.std.specs.Prelude.{◌≡◌, ◌≢◌, ℕ, ◌+◌, ◌∷◌, ◌++◌, List, [], true, false, codes, IfOk, OnOk};
+ghost use Rattle.std.specs.List.{flat_map};
 ghost use Rattle.edi_segments.specs.declared.segment.Segment.{Segment};
 ghost use Rattle.edi_segments.specs.SegmentRef.{segment_in};
+ghost use Rattle.edi_tokens.specs.Text.{una};
 ghost use Rattle.edi_envelope.specs.Check.{Placed};
 ghost use Rattle.edi_relay.specs.Mails.{Keeps, Whole, Writes, header_text, front_text, trailer_text};
 
@@ -26,20 +28,33 @@ pub(crate) struct Mails {
     begun: bool,
 }
 
+// Appends parts, one after another.
+fn append_all(out: &mut Vec<u8>, parts: &[&[u8]]) -> Result<(), MemoryFault>
+    ensures { OnOk result (out.new.items ≡ out.old.items ++ flat_map (λ part. part.now) parts.now) }
+{
+    for part in parts {
+        out.extend_from_slice(part)?;
+    }
+    Ok(())
+}
+
 // Returns the interchange header from one partner to another, up to its number.
 fn header_text(alloc: Global, words: &RelayWords) -> Result<Vec<u8>, MemoryFault>
     ensures { IfOk result (λ header. header.items ≡ header_text words.now) }
 {
     let mut header = Vec::new(alloc);
-    header.extend_from_slice(b"UNB+UNOC:3+")?;
-    header.extend_from_slice(&words.hub)?;
-    header.extend_from_slice(b":14+")?;
-    header.extend_from_slice(&words.owner)?;
-    header.extend_from_slice(b":14+")?;
-    header.extend_from_slice(&date_digits(words.moment))?;
-    header.extend_from_slice(b":")?;
-    header.extend_from_slice(&time_digits(words.moment))?;
-    header.extend_from_slice(b"+")?;
+    let parts = [
+        b"UNB+UNOC:3+".as_slice(),
+        &words.hub,
+        b":14+",
+        &words.owner,
+        b":14+",
+        &date_digits(words.moment),
+        b":",
+        &time_digits(words.moment),
+        b"+",
+    ];
+    append_all(&mut header, &parts)?;
     Ok(header)
 }
 
@@ -58,10 +73,20 @@ fn append_trailer(alloc: Global, out: &mut Vec<u8>, number: u64) -> Result<(), M
     ensures { OnOk result (out.new.items ≡ out.old.items ++ trailer_text number) }
 {
     let number = format!(in alloc; "{number}")?;
-    out.extend_from_slice(b"UNZ+1+")?;
-    out.extend_from_slice(number.as_bytes())?;
-    out.extend_from_slice(b"'")?;
-    Ok(())
+    append_all(out, &[b"UNZ+1+", number.as_bytes(), b"'"])
+}
+
+// Appends the service string with this decimal mark, and UNB, of which all up to the number is given.
+fn append_front(
+    out: &mut Vec<u8>,
+    header: &[u8],
+    mark: u8,
+    number: &[u8],
+) -> Result<(), MemoryFault>
+    ensures { OnOk result (out.new.items
+        ≡ out.old.items ++ (una mark ++ (header.now ++ (number.now ++ codes "'")))) }
+{
+    append_all(out, &[&service_string(mark), header, number, b"'"])
 }
 
 impl Mails {
@@ -88,10 +113,12 @@ impl Mails {
         ensures number { self.new.number ≡ self.old.number }
     {
         let number = format!(in alloc; "{}", self.number)?;
-        self.out.extend_from_slice(&service_string(mark))?;
-        self.out.extend_from_slice(self.header.as_slice())?;
-        self.out.extend_from_slice(number.as_bytes())?;
-        self.out.extend_from_slice(b"'")?;
+        append_front(
+            &mut self.out,
+            self.header.as_slice(),
+            mark,
+            number.as_bytes(),
+        )?;
         self.begun = true;
         Ok(())
     }
