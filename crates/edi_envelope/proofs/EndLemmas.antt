@@ -153,7 +153,7 @@ pub ends_lost : (lent : List Segment) (z : Segment) (h : HeaderMarks) →
 ends_lost [] z h f unz row = absurd (false≢true f.begins)
 ends_lost (u ∷ m) z h f unz row = lost_at u m z h f unz row
 
--- the marks of the check are the conditions, as far as they tell
+-- the marks of the check are the conditions, where they decide the fault
 module _ (u : Segment) (m : List Segment) (z : Segment) (j : EnvelopeCheck) (r : IsBetween (u ∷ m) j) (unz : is_unz z ≡ true) where
   abbrev all : List Segment
   all = u ∷ m ++ z ∷ []

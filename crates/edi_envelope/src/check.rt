@@ -72,7 +72,7 @@ pub(crate) struct Marks {
     character_set: bool,
 }
 
-/// What of an interchange has come, as far as its fault hangs on it.
+/// What the check remembers of the segments so far.
 #[derive(Drop)]
 pub struct EnvelopeCheck {
     stage: Stage,
@@ -151,7 +151,7 @@ fn lowest(marks: Marks) -> Option<EnvelopeFault>
 }
 
 impl EnvelopeCheck {
-    /// Nothing has come. Takes no memory.
+    /// Starts a check before the first segment. Takes no memory.
     pub fn new(alloc: Global) -> Self
         ensures { Checked [] result }
     {

@@ -36,23 +36,30 @@ fn copied_elements(alloc: Global, elements: &[Items<Items<u8>>]) -> Result<Eleme
     Ok(copy)
 }
 
-// Returns an element of two components.
-fn pair(alloc: Global, first: &[u8], second: &[u8]) -> Result<Items<Items<u8>>, MemoryFault>
-    ensures { IfOk result (λ element. element ≡ first.now ∷ second.now ∷ []) }
+// Appends an element of two components.
+fn push_pair(
+    alloc: Global,
+    elements: &mut Elements,
+    first: &[u8],
+    second: &[u8],
+) -> Result<(), MemoryFault>
+    ensures { OnOk result (elements.new ≡ elements.old ++ (first.now ∷ second.now ∷ []) ∷ []) }
 {
     let mut element = Items::new(alloc);
     element.push(copied(alloc, first)?)?;
     element.push(copied(alloc, second)?)?;
-    Ok(element)
+    elements.push(element)?;
+    Ok(())
 }
 
-// Returns an element of one component.
-fn single(alloc: Global, only: &[u8]) -> Result<Items<Items<u8>>, MemoryFault>
-    ensures { IfOk result (λ element. element ≡ only.now ∷ []) }
+// Appends an element of one component.
+fn push_single(alloc: Global, elements: &mut Elements, only: &[u8]) -> Result<(), MemoryFault>
+    ensures { OnOk result (elements.new ≡ elements.old ++ (only.now ∷ []) ∷ []) }
 {
     let mut element = Items::new(alloc);
     element.push(copied(alloc, only)?)?;
-    Ok(element)
+    elements.push(element)?;
+    Ok(())
 }
 
 // UNB of the hub's interchange.
@@ -67,11 +74,16 @@ fn header(
         segment ≡ unb_from hub.now owner.now (date_text moment) (time_text moment) reference.now) }
 {
     let mut elements = Items::new(alloc);
-    elements.push(pair(alloc, b"UNOC", b"3")?)?;
-    elements.push(pair(alloc, hub, b"14")?)?;
-    elements.push(pair(alloc, owner, b"14")?)?;
-    elements.push(pair(alloc, &date_digits(moment), &time_digits(moment))?)?;
-    elements.push(single(alloc, reference)?)?;
+    push_pair(alloc, &mut elements, b"UNOC", b"3")?;
+    push_pair(alloc, &mut elements, hub, b"14")?;
+    push_pair(alloc, &mut elements, owner, b"14")?;
+    push_pair(
+        alloc,
+        &mut elements,
+        &date_digits(moment),
+        &time_digits(moment),
+    )?;
+    push_single(alloc, &mut elements, reference)?;
     Ok(Segment {
         tag: *b"UNB",
         elements,
@@ -83,8 +95,8 @@ fn trailer(alloc: Global, reference: &[u8]) -> Result<Segment, MemoryFault>
     ensures { IfOk result (λ segment. segment ≡ unz_of reference.now) }
 {
     let mut elements = Items::new(alloc);
-    elements.push(single(alloc, b"1")?)?;
-    elements.push(single(alloc, reference)?)?;
+    push_single(alloc, &mut elements, b"1")?;
+    push_single(alloc, &mut elements, reference)?;
     Ok(Segment {
         tag: *b"UNZ",
         elements,
@@ -126,6 +138,20 @@ fn numbered_segment(alloc: Global, segment: &Segment) -> Result<Segment, MemoryF
     })
 }
 
+// Appends copies of segments, with `1` as the message reference number of UNH and UNT.
+fn push_numbered(
+    alloc: Global,
+    out: &mut Items<Segment>,
+    segments: &[Segment],
+) -> Result<(), MemoryFault>
+    ensures { OnOk result (out.new ≡ out.old ++ map renumbered segments.now) }
+{
+    for segment in segments {
+        out.push(numbered_segment(alloc, segment)?)?;
+    }
+    Ok(())
+}
+
 /// Returns the segments of the hub's interchange to a supplier that carries one message: UNB from `hub` to `owner`
 /// (GLNs of 13 digits) with date and time of `moment` at UTC and `number` as control reference, the message with the
 /// message reference number `1`, and UNZ. Written after a service string they are the mail text. Fails only for memory.
@@ -148,9 +174,7 @@ pub fn wrap(
     let reference = format!(in alloc; "{number}")?;
     let mut segments = Items::new(alloc);
     segments.push(header(alloc, hub, owner, moment, reference.as_bytes())?)?;
-    for segment in message.segments.as_slice() {
-        segments.push(numbered_segment(alloc, segment)?)?;
-    }
+    push_numbered(alloc, &mut segments, message.segments.as_slice())?;
     segments.push(trailer(alloc, reference.as_bytes())?)?;
     Ok(segments)
 }

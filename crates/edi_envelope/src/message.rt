@@ -28,11 +28,16 @@ pub(crate) fn is_frame(segment: &SegmentRef<'_>) -> bool
     tag == *b"UNH" || tag == *b"UNT" || tag == *b"UNG" || tag == *b"UNE"
 }
 
-// Returns the message reference number in UNH.
-fn reference_of(block: &[Segment]) -> &[u8]
-    ensures { result.now ≡ spec.reference_of block.now }
+// Returns a copy of a component of the first segment.
+fn copied_component(
+    alloc: Global,
+    block: &Items<Segment>,
+    element: usize,
+    place: usize,
+) -> Result<Items<u8>, MemoryFault>
+    ensures { IfOk result (λ copy. copy ≡ component (first_segment block.now) element place) }
 {
-    first_component(block, 0, 0)
+    copied(alloc, first_component(block.as_slice(), element, place))
 }
 
 /// Whether UNH's reference and message identifier are within their limits.
@@ -51,12 +56,12 @@ pub(crate) fn has_identity(unh: &SegmentRef<'_>) -> bool
 pub(crate) fn message_of(alloc: Global, block: Items<Segment>) -> Result<RawMessage, MemoryFault>
     ensures { IfOk result (λ message. message ≡ spec.message_of block) }
 {
-    let reference = copied(alloc, reference_of(block.as_slice()))?;
-    let kind = copied(alloc, first_component(block.as_slice(), 1, 0))?;
-    let version = copied(alloc, first_component(block.as_slice(), 1, 1))?;
-    let release = copied(alloc, first_component(block.as_slice(), 1, 2))?;
-    let agency = copied(alloc, first_component(block.as_slice(), 1, 3))?;
-    let association = copied(alloc, first_component(block.as_slice(), 1, 4))?;
+    let reference = copied_component(alloc, &block, 0, 0)?;
+    let kind = copied_component(alloc, &block, 1, 0)?;
+    let version = copied_component(alloc, &block, 1, 1)?;
+    let release = copied_component(alloc, &block, 1, 2)?;
+    let agency = copied_component(alloc, &block, 1, 3)?;
+    let association = copied_component(alloc, &block, 1, 4)?;
     Ok(RawMessage {
         reference,
         kind,

@@ -1,4 +1,4 @@
-//! Counts what the headers and the trailers of messages say, as they come.
+//! Keeps count of the headers and trailers of messages while they are read.
 
 ghost use Rattle.std.specs.Prelude.{◌≡◌, ◌∷◌, ◌++◌, ◌+◌, true, length, List, [], IfOk, OnOk};
 ghost use Rattle.edi_segments.specs.declared.segment.Segment.{Segment};

@@ -1,7 +1,8 @@
 use Rattle.std.proofs.Common.{Bool, true, false, Result, Ok, refl, ap, ◌∙◌}
 use Rattle.std.proofs.lemmas.Result.{err_from_is_err_and}
 use Rattle.edi_segments.specs.declared.fault.TokenFault.{TokenFault}
-use Rattle.edi_envelope.proofs.ReadLemmas.{nothing_read, bound_then, ends_then, fault_flagged, fault_told, fault_of_some, end_told, end_of_some, more_read, still_flagged}
+use Rattle.edi_envelope.proofs.ReadLemmas.{nothing_read, more_read, end_told, end_of_some, fault_told, fault_of_some}
+use Rattle.edi_envelope.proofs.ReadLemmas.{bound_then, ends_then, fault_flagged, still_flagged}
 use Rattle.edi_tokens.proofs.Stopping.{stays_still, stays_then, stops_by_fault, stops_not}
 use Rattle.edi_envelope.proofs.opening.read.Goals as goal
 
@@ -114,7 +115,8 @@ returns-in_err-advance-clause-flag g c = λ begun.
     let p = err_from_is_err_and c.from_residual.result c.from_residual.ensures.1 in
     rw (p.1, p.2)
     (fault_flagged (g.R.Source.remaining c.args.reader.now) (g.R.Source.failed c.args.reader.now) c.args.lender.now _ _ _ _
-    c.loop-opening.lender _ c.loop-opening.opening c.advance.result c.loop-opening.invariant.read c.advance.ensures.feeds _ c.in_err-advance.was begun)
+    c.loop-opening.lender _ c.loop-opening.opening c.advance.result c.loop-opening.invariant.read c.advance.ensures.feeds _
+    c.in_err-advance.was begun)
 
 pub returns-in_err-copy-clause-flag : goal.returns-in_err-copy-clause-flag
 returns-in_err-copy-clause-flag g c = λ begun.
