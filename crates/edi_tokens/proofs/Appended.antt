@@ -59,3 +59,14 @@ ended_by out old text last new is more = more ∙ ap (λ l. l ++ last) is ∙ ap
 
 pub kept_as : (was new : List ℕ) → new ≡ was → Keeps was new
 kept_as was new is = kept_by was [] new (is ∙ sym (append-nil was))
+
+-- what was kept so far is kept by one more addition, or if nothing is added
+pub kept_more : (was so_far more new : List ℕ) → Keeps was so_far → new ≡ so_far ++ more → Keeps was new
+kept_more was so_far more new kept is = kept_through was so_far new kept (kept_by so_far more new is)
+
+pub kept_still : (was so_far new : List ℕ) → Keeps was so_far → new ≡ so_far → Keeps was new
+kept_still was so_far new kept is = kept_through was so_far new kept (kept_as so_far new is)
+
+-- what was kept after a first addition
+pub kept_after : (was more next new : List ℕ) → next ≡ was ++ more → Keeps next new → Keeps was new
+kept_after was more next new is kept = kept_through was next new (kept_by was more next is) kept

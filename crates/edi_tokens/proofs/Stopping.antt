@@ -57,7 +57,7 @@ module _ {R : Type 0} (remaining : R → Option (List ℕ)) (first between after
       let told = stopped_by_fault fault is in
       record { told_is = told; stays = stays_then; stands = λ going. cc (told, going) }
 
-  -- a fault that no lender answers first had been told before
+  -- a fault that no lender reports first had been reported before
   memory_was_told : result ≡ Err Memory → (stopped old ≡ None → stopped now ≡ None) → stopped new ≡ stopped old
   memory_was_told is going =
       elim (stopped old) as (λ s. stopped old ≡ s → IfSome s (λ _. (new ≡ old) × (after ≡ first)) → stopped new ≡ stopped old) [

@@ -3,7 +3,7 @@ use Rattle.std.specs.List.{flat_map}
 use Rattle.edi_segments.specs.Segment.{element_at}
 use Rattle.edi_segments.specs.SegmentRef.{segment_in}
 use Rattle.edi_tokens.specs.Text.{element_text}
-use Rattle.edi_tokens.proofs.Appended.{appended, ended, ended_by, kept_as, kept_by, kept_through}
+use Rattle.edi_tokens.proofs.Appended.{appended, ended, ended_by, kept_as, kept_more, kept_still, kept_through}
 use Rattle.edi_tokens.proofs.appending.append_parts.Goals as goal
 
 pub loop-element-preserved : goal.loop-element-preserved
@@ -31,13 +31,11 @@ returns-in_err-append_element-clause-kept c =
 
 pub returns-in_err-push-clause-kept : goal.returns-in_err-push-clause-kept
 returns-in_err-push-clause-kept c =
-    kept_through c.args.out.now.items c.loop-element.out.items c.push.new.self.items c.loop-element.invariant.kept
-    (kept_as c.loop-element.out.items c.push.new.self.items c.in_err-push.ensures.items)
+    kept_still _ c.loop-element.out.items c.push.new.self.items c.loop-element.invariant.kept c.in_err-push.ensures.items
 
 pub returns-clause-kept : goal.returns-clause-kept
 returns-clause-kept c =
-    kept_through c.args.out.now.items c.loop-element.out.items c.push.new.self.items c.loop-element.invariant.kept
-    (kept_by c.loop-element.out.items (39 ∷ []) c.push.new.self.items c.in_ok-push.ensures.items)
+    kept_more _ c.loop-element.out.items (39 ∷ []) c.push.new.self.items c.loop-element.invariant.kept c.in_ok-push.ensures.items
 
 pub returns-clause-ok : goal.returns-clause-ok
 returns-clause-ok c =

@@ -4,7 +4,8 @@ use Rattle.edi_segments.specs.Segment.{element_at}
 use Rattle.edi_segments.specs.SegmentRef.{segment_in}
 use Rattle.edi_tokens.specs.Text.{element_text}
 use Rattle.edi_tokens.specs.Appending.{Keeps, elements_with, with_first}
-use Rattle.edi_tokens.proofs.Appended.{all_elements, appended, element_beside, element_with, ended, ended_by, kept_as, kept_by, kept_through}
+use Rattle.edi_tokens.proofs.Appended.{all_elements, appended, element_beside, element_with, ended, ended_by}
+use Rattle.edi_tokens.proofs.Appended.{kept_as, kept_more, kept_still, kept_through}
 use Rattle.edi_tokens.proofs.appending.append_parts_with.Goals as goal
 use Rattle.edi_tokens.proofs.appending.append_parts_with.Goals.{then-element-place+in_ok-append_element_with}
 use Rattle.edi_tokens.proofs.appending.append_parts_with.Goals.{else-element-place+in_ok-append_element}
@@ -22,7 +23,8 @@ loop-element-preserved c =
       | then-element-place+in_ok-append_element_with w ↦
           record {
             text =
-                appended element_text (elements_with elements place first) i (with_first (element_at elements i) first) [] out c.if-element-place.out.items _ among
+                appended element_text (elements_with elements place first) i (with_first (element_at elements i) first) [] out
+                c.if-element-place.out.items _ among
                 (element_with elements place i first w.if-element-place.true within) c.loop-element.invariant.text
                 (ap (λ new. new.items) w.out-is ∙ w.in_ok-append_element_with.ensures.ok);
             kept =
@@ -32,7 +34,8 @@ loop-element-preserved c =
       | else-element-place+in_ok-append_element w ↦
           record {
             text =
-                appended element_text (elements_with elements place first) i (element_at elements i) [] out c.if-element-place.out.items _ among
+                appended element_text (elements_with elements place first) i (element_at elements i) [] out
+                c.if-element-place.out.items _ among
                 (element_beside elements place i first w.if-element-place.false) c.loop-element.invariant.text
                 (ap (λ new. new.items) w.out-is ∙ w.in_ok-append_element.ensures.ok);
             kept =
@@ -57,13 +60,11 @@ returns-in_err-append_element-clause-kept c =
 
 pub returns-in_err-push-clause-kept : goal.returns-in_err-push-clause-kept
 returns-in_err-push-clause-kept c =
-    kept_through c.args.out.now.items c.loop-element.out.items c.push.new.self.items c.loop-element.invariant.kept
-    (kept_as c.loop-element.out.items c.push.new.self.items c.in_err-push.ensures.items)
+    kept_still _ c.loop-element.out.items c.push.new.self.items c.loop-element.invariant.kept c.in_err-push.ensures.items
 
 pub returns-clause-kept : goal.returns-clause-kept
 returns-clause-kept c =
-    kept_through c.args.out.now.items c.loop-element.out.items c.push.new.self.items c.loop-element.invariant.kept
-    (kept_by c.loop-element.out.items (39 ∷ []) c.push.new.self.items c.in_ok-push.ensures.items)
+    kept_more _ c.loop-element.out.items (39 ∷ []) c.push.new.self.items c.loop-element.invariant.kept c.in_ok-push.ensures.items
 
 pub returns-clause-ok : goal.returns-clause-ok
 returns-clause-ok c =

@@ -3,7 +3,8 @@ use Rattle.std.specs.List.{flat_map}
 use Rattle.edi_base.specs.Buffer.{Goes}
 use Rattle.edi_tokens.specs.Text.{component_text, components_text, element_text}
 use Rattle.edi_base.proofs.Going.{goes_none, goes_put, goes_cut, goes_as, puts_cut}
-use Rattle.edi_tokens.proofs.Canonical.{flat_map-drop}
+use Rattle.std.proofs.lemmas.List.{nil_from_length}
+use Rattle.edi_tokens.proofs.Canonical.{flat_map-drop, flat_map-drop_all}
 use Rattle.edi_tokens.proofs.text.put_element.Given as given
 use Rattle.edi_tokens.proofs.text.put_element.Goals as goal
 use Rattle.edi_tokens.proofs.text.put_element.Goals.{After-put_component}
@@ -74,3 +75,15 @@ loop-component-preserved g c =
       bytes = goes_put parted (rw c.as_slice-in-loop-component.ensures at c.in_ok-put_component-2.ensures.bytes);
       flag = c.in_ok-put_component-2.ensures.flag ∙ c.in_ok-put-2.ensures.flag ∙ c.loop-component.invariant.flag;
     }
+
+pub returns-in_default-clause-bytes : goal.returns-in_default-clause-bytes
+returns-in_default-clause-bytes g c =
+    goes_as _ _ (ap components_text (nil_from_length c.args.components.now c.in_default.ensures.cases))
+    (goes_put (goes_none (g.W.Sink.contents c.args.out.now) c.args.buffer.now (element_text c.args.components.now))
+    c.in_ok-put.ensures.bytes)
+
+pub returns-clause-bytes : goal.returns-clause-bytes
+returns-clause-bytes g c =
+    goes_as _ _
+    (flat_map-drop_all (λ (component : List ℕ). 58 ∷ component_text component) c.in-Some.others.now c.loop-component.component-index
+    c.loop-component-test.false) c.loop-component.invariant.bytes

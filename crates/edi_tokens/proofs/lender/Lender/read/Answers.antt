@@ -45,7 +45,8 @@ returns-then-self-gt0-clause-some g c = λ lent came.
       | inl more ↦
           some_more lent c.args.self.now came c.requires.piece _ _ c.fill.new.self c.in-Ok.count c.in-Ok.ensures.bytes more room
       | inr within ↦
-          some_within_more lent c.args.self.now came c.requires.piece _ _ c.fill.new.self c.in-Ok.count c.in-Ok.ensures.bytes within room
+          some_within_more lent c.args.self.now came c.requires.piece _ _ c.fill.new.self c.in-Ok.count c.in-Ok.ensures.bytes
+          within room
     ]
 
 pub returns-in-Within-clause-some : goal.returns-in-Within-clause-some
@@ -56,7 +57,10 @@ returns-in-Within-clause-some g c = λ lent came.
 pub returns-in_default-tail : goal.returns-in_default-tail
 returns-in_default-tail g c =
     let more : c.args.self.now.tail ≡ More =
-    elim (may_read c.args.self.now.tail c.requires.tail) [ inl more ↦ more | inr within ↦ absurd (c.in_default-tail.not-Within within) ] in
+    elim (may_read c.args.self.now.tail c.requires.tail) [
+      | inl more ↦ more
+      | inr within ↦ absurd (c.in_default-tail.not-Within within)
+    ] in
     let some : 0 < c.in-Ok.count = omega (arith, c.if-count-eq0.false) in
     let no_room : c.args.self.now.room - c.in-Ok.count ≡ 0 = omega (arith, c.if-self-gt0.false) in
     record {

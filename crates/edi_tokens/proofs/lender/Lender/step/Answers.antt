@@ -3,7 +3,7 @@ use Rattle.edi_segments.specs.declared.fault.TokenFault.{TokenFault}
 use Rattle.std.specs.Io.KnownBytes.{IsAtEnd}
 use Rattle.std.proofs.lemmas.Result.{err_from_is_err_and}
 use Rattle.edi_segments.specs.Machine.{reading_of}
-use Rattle.edi_tokens.specs.Lender.{Came, Fed, Took, FitsSome, Filled, FillsSome, TakesOf}
+use Rattle.edi_tokens.specs.Lender.{AtEnd, Came, Fed, Took, FitsSome, Filled, FillsSome, TakesOf}
 use Rattle.edi_tokens.proofs.Lending.{takes_then, has_cause, finish_text}
 use Rattle.edi_tokens.proofs.lender.Lender.step.Given as given
 use Rattle.edi_tokens.proofs.lender.Lender.step.Goals as goal
@@ -25,6 +25,13 @@ bound : (g : given.Over) (c : After-refill g)
     (g.R.Source.remaining c.refill.new.reader) c.args.self.now.room c.refill.new.self.room
 bound g c =
     takes_then _ _ _ _ _ _ c.loop-self.invariant.bound (rw c.in_ok-take_piece.ensures.room at c.refill.ensures.bound)
+
+ends : (g : given.Over) (c : After-refill g)
+    → AtEnd (g.R.Source.remaining c.args.reader.now) c.args.self.now
+    → AtEnd (g.R.Source.remaining c.refill.new.reader) c.refill.new.self
+ends g c old = c.refill.ensures.ends (λ is.
+    subst (λ (room : ℕ). IsAtEnd (g.R.Source.remaining c.loop-self.reader) ⊎ (room ≡ 0)) (sym c.in_ok-take_piece.ensures.room)
+    (c.loop-self.invariant.ends old (sym c.in_ok-take_piece.ensures.ended ∙ is)))
 
 flag : (g : given.Over) (c : In_ok-refill g) → g.R.Source.failed c.refill.new.reader ≡ g.R.Source.failed c.args.reader.now
 flag g c = c.in_ok-refill.ensures.flag ∙ c.loop-self.invariant.flag
@@ -92,9 +99,7 @@ loop-self-preserved g c = record {
   origin = c.refill.ensures.origin ∙ c.loop-self.invariant.origin;
   flag = flag g (goal.at.loop-self-preserved g c).In_ok-refill;
   bound = bound g (goal.at.loop-self-preserved g c).After-refill;
-  ends = λ old. c.refill.ensures.ends (λ is.
-      subst (λ (room : ℕ). IsAtEnd (g.R.Source.remaining c.loop-self.reader) ⊎ (room ≡ 0)) (sym c.in_ok-take_piece.ensures.room)
-      (c.loop-self.invariant.ends old (sym c.in_ok-take_piece.ensures.ended ∙ is)));
+  ends = ends g (goal.at.loop-self-preserved g c).After-refill;
   unread = omega (
     arith,
     c.in_ok-refill.ensures.unread (ap said c.if-not-branch.false),
@@ -140,3 +145,40 @@ pub returns-then-not-branch-clause-some : goal.returns-then-not-branch-clause-so
 returns-then-not-branch-clause-some g c = λ lent came.
     let end = some_ended g (goal.at.returns-then-not-branch-clause-some g c).In_ok-refill lent c.if-not-branch.true came in
     (end.0, (end.1.0, end.1.1 ∙ c.in_ok-finish.ensures lent))
+
+-- the lender has a segment
+pub returns-then-branch-clause-told : goal.returns-then-branch-clause-told
+returns-then-branch-clause-told g c = λ all lent fed.
+    subst (λ (b : Bool). Took (g.R.Source.remaining c.loop-self.reader) all lent (Ok b) c.take_piece.new.self) c.if-branch.true
+    (c.in_ok-take_piece.ensures.told _ all lent (c.loop-self.invariant.told all lent fed))
+
+pub returns-then-branch-clause-some : goal.returns-then-branch-clause-some
+returns-then-branch-clause-some g c = λ lent came.
+    subst (λ (b : Bool). FitsSome lent (Ok b) c.take_piece.new.self) c.if-branch.true
+    (c.in_ok-take_piece.ensures.some lent (c.loop-self.invariant.some lent came))
+
+pub returns-then-branch-clause-fewer : goal.returns-then-branch-clause-fewer
+returns-then-branch-clause-fewer g c = λ _.
+    omega (
+      arith,
+      c.in_ok-take_piece.ensures.fewer (ap said c.if-branch.true),
+      c.in_ok-take_piece.ensures.room,
+      c.loop-self.invariant.unread,
+    )
+
+pub returns-then-branch-clause-bound : goal.returns-then-branch-clause-bound
+returns-then-branch-clause-bound g c = rw c.in_ok-take_piece.ensures.room c.loop-self.invariant.bound
+
+pub returns-then-branch-clause-ends : goal.returns-then-branch-clause-ends
+returns-then-branch-clause-ends g c = λ old is.
+    subst (λ (room : ℕ). IsAtEnd (g.R.Source.remaining c.loop-self.reader) ⊎ (room ≡ 0)) (sym c.in_ok-take_piece.ensures.room)
+    (c.loop-self.invariant.ends old (sym c.in_ok-take_piece.ensures.ended ∙ is))
+
+pub returns-in_err-refill-clause-ends : goal.returns-in_err-refill-clause-ends
+returns-in_err-refill-clause-ends g c = ends g (goal.at.returns-in_err-refill-clause-ends g c).After-refill
+
+pub returns-in_err-finish-clause-ends : goal.returns-in_err-finish-clause-ends
+returns-in_err-finish-clause-ends g c = ends g (goal.at.returns-in_err-finish-clause-ends g c).After-refill
+
+pub returns-then-not-branch-clause-ends : goal.returns-then-not-branch-clause-ends
+returns-then-not-branch-clause-ends g c = ends g (goal.at.returns-then-not-branch-clause-ends g c).After-refill
