@@ -1,4 +1,4 @@
-//! The hub in a database file: opened for the work, and closed after it.
+//! Opens the hub in a database file for some work, and closes it after that.
 ghost use Rattle.hub_tables.specs.Register.{HoldsRegister};
 ghost use Rattle.hub_sql.specs.Stored.{content, honest};
 
@@ -18,12 +18,12 @@ use sqlite_std_file::FileFrom;
 use sqlite_store::FileStore;
 use std::path::Path;
 
-/// What is to be done with the hub.
+/// What to do with the hub.
 #[derive(Drop)]
 pub(crate) enum Work<'a> {
     /// One command.
     Command(Asked<'a>),
-    /// Serving it over the network.
+    /// Serve it over the network.
     Serve(ServeWords<'a>),
 }
 
@@ -35,7 +35,7 @@ fn db_of<'a>(work: &Work<'a>) -> &'a str {
     }
 }
 
-/// Whether a file can be opened in the folder of a path, and none stands there. Opening it would make one.
+/// Whether a file can be opened in the folder of a path, and does not exist. Opening it would make one.
 pub(crate) fn is_missing(rt: &HostRuntime, path: &str) -> bool {
     let path = Path::new(path);
     let folder = match path.parent() {
@@ -45,7 +45,7 @@ pub(crate) fn is_missing(rt: &HostRuntime, path: &str) -> bool {
     folder.is_dir(rt) && matches!(path.try_exists(rt), Ok(false))
 }
 
-// Does the work over the hub in these tables, and gives them back, also where nothing was done.
+// Does the work over the hub in these tables, and gives them back, even if nothing was done.
 fn over_tables<A: Alter + Drop>(
     rt: &HostRuntime,
     tables: SqliteStore<A>,
@@ -65,8 +65,8 @@ fn over_tables<A: Alter + Drop>(
     (status, tables)
 }
 
-// Does the work over the hub in a file, and closes it, with all that stands in the log beside it. What was accepted is
-// kept where that fails too. No file is made: a hub is founded by `init` alone.
+// Does the work over the hub in a file, and closes it, together with everything in the log beside it. If closing fails,
+// what was accepted is kept. No file is made: only `init` founds a hub.
 fn over_file<S: Start>(rt: &HostRuntime, work: Work<'_>, start: S) -> Result<u8, BeginFault> {
     let db = db_of(&work);
     if is_missing(rt, db) {
@@ -78,7 +78,7 @@ fn over_file<S: Start>(rt: &HostRuntime, work: Work<'_>, start: S) -> Result<u8,
     status
 }
 
-/// Does the work over the hub in the database file that its words name, and answers the exit status.
+/// Does the work over the hub in the database file that its words name, and returns the exit status.
 pub(crate) fn over_a_hub(rt: &HostRuntime, work: Work<'_>) -> u8 {
     match over_file(rt, work, Unknown) {
         Ok(status) => status,

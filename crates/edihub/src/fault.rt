@@ -1,4 +1,4 @@
-//! Why a hub was not founded, or a command over one not begun or not ended.
+//! Says why founding a hub failed, or why a command over one did not begin or end.
 use edi_base::ReadFault;
 use hub_commands::TextFault;
 use hub_store::{LastingFault, StoreFault};
@@ -6,23 +6,23 @@ use std::alloc::AllocError;
 use std::error::Error;
 use std::fmt;
 
-/// Why a hub was not founded, or a command over one not begun, in the order in which it is looked for, or not ended. Files
-/// with keys are read first of all.
+/// Why founding a hub failed, or why a command over one did not begin, in the order in which this is checked, or did
+/// not end. Files with keys are read before anything else.
 #[derive(Clone, Copy, Debug)]
 pub(crate) enum BeginFault {
-    /// The database file was not opened.
+    /// Opening the database file failed.
     Store(StoreFault),
-    /// The port cannot be listened on, or no more connections can be taken.
+    /// Listening on the port failed, or no more connections can be taken.
     Listen,
-    /// The clock does not answer, or is out of range.
+    /// The clock failed, or is out of range.
     Clock,
-    /// A file or folder cannot be read, or standard output not be written.
+    /// Reading a file or a folder failed, or writing to standard output.
     File,
-    /// Out of memory.
+    /// Memory ran out.
     Memory,
 }
 
-// How a fault of the store is told.
+// Returns the word for a fault of the store.
 fn word_of(fault: StoreFault) -> &'static str {
     match fault {
         StoreFault::Memory => "memory",
@@ -88,10 +88,10 @@ impl From<ReadFault> for BeginFault {
     }
 }
 
-/// Why a command was not begun with its keys.
+/// Why a command with keys did not begin.
 #[derive(Clone, Copy, Debug)]
 pub(crate) enum KeyFault {
-    /// A file with a key was not read.
+    /// Reading a file with a key failed.
     Unread(BeginFault),
     /// The file of a supplier that joins has no key.
     Refused,

@@ -1,4 +1,4 @@
-//! Founding a hub.
+//! Founds a hub.
 use crate::fault::BeginFault;
 use crate::register::register_text;
 use crate::tell;
@@ -14,10 +14,10 @@ use sqlite_store::FileStore;
 use std::fs::OpenOptions;
 use std::os::unix::fs::OpenOptionsExt;
 
-// Who may read and write a database file that is made: its owner alone. The log beside it is given the same mode.
+// The mode of a new database file: only its owner may read and write it. The log beside it gets the same mode.
 const OWNER_ALONE: u32 = 0o600;
 
-// Makes an empty database file, where nothing stands at the path. Opening it tells why none could be made.
+// Makes an empty database file, if there is nothing at the path. If that fails, opening the file will say why.
 fn make_missing(rt: &HostRuntime, path: &str) {
     let _ = OpenOptions::new()
         .write(true)
@@ -41,8 +41,8 @@ fn found_file<S: Start>(
     Ok(())
 }
 
-// Founds a hub with a register, and gives what is to be told of it. What is told where that went well takes its memory
-// before, so that nothing fails once the register is in the file.
+// Founds a hub with a register, and returns what to report. Memory for the report of a success is taken before, so that
+// nothing fails once the register is in the file.
 fn founded(rt: &HostRuntime, path: &str, register: &Register) -> Result<Verdict, BeginFault> {
     let verdict = Verdict::ok(rt.alloc(), register)?;
     match found_file(rt, path, register, Unknown) {
@@ -52,7 +52,7 @@ fn founded(rt: &HostRuntime, path: &str, register: &Register) -> Result<Verdict,
     }
 }
 
-// Does what the words ask, and gives what is to be told of it.
+// Does what the words ask, and returns what to report.
 fn verdict_on(rt: &HostRuntime, words: &InitWords<'_>) -> Result<Verdict, BeginFault> {
     let text = register_text(rt, words.register)?;
     match Register::from_toml(rt.alloc(), text.as_str()) {
@@ -62,8 +62,8 @@ fn verdict_on(rt: &HostRuntime, words: &InitWords<'_>) -> Result<Verdict, BeginF
     }
 }
 
-/// Founds a hub with the register and in the database file that the words name, and answers the exit status. The
-/// register is looked at first: a database file is made only for one without a fault.
+/// Founds a hub with the register and in the database file that the words name, and returns the exit status. The
+/// register is checked first: a database file is made only for one without a fault.
 pub(crate) fn init(rt: &HostRuntime, words: &InitWords<'_>) -> u8 {
     match verdict_on(rt, words) {
         Ok(verdict) => print_verdict(

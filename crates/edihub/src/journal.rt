@@ -6,13 +6,13 @@ use std::os::unix::fs::{MetadataExt, OpenOptionsExt};
 use std::path::Path;
 use std::{fs, io};
 
-// Who may read and write a journal that is made: its owner alone.
+// The mode of a new journal: only its owner may read and write it.
 const OWNER_ALONE: u32 = 0o600;
 
-// What the names of the files end with that SQLite has beside a database: a journal of that name would be taken for its own.
+// The endings of the files that SQLite has beside a database: it would take a journal with such a name for its own.
 const BESIDE: [&str; 3] = ["-journal", "-wal", "-shm"];
 
-// Whether a file of this name would be one of those beside the database.
+// Whether a file with this name would be one of those beside the database.
 fn is_beside(path: &str, db: &str) -> bool {
     let (Some(name), Some(db)) = (Path::new(path).file_name(), Path::new(db).file_name()) else {
         return false;
@@ -23,7 +23,7 @@ fn is_beside(path: &str, db: &str) -> bool {
     }
 }
 
-/// The journal in the file at a path. The file is opened for each line, so that it can be renamed meanwhile.
+/// The journal in the file at a path. The file is opened again for each line, so it can be renamed meanwhile.
 #[derive(Drop)]
 pub(crate) struct FileJournal<'a> {
     rt: &'a HostRuntime,
@@ -33,7 +33,7 @@ pub(crate) struct FileJournal<'a> {
 }
 
 impl<'a> FileJournal<'a> {
-    /// The journal of the hub in this database file. No line was written yet.
+    /// Names the journal of the hub in this database file. No line has been written yet.
     pub(crate) fn at(rt: &'a HostRuntime, path: &'a str, db: &'a str) -> Self {
         FileJournal {
             rt,
@@ -51,8 +51,8 @@ impl<'a> FileJournal<'a> {
         }
     }
 
-    // Whether lines can be added to what has the journal's name: a file, but not the database, nor one of the files beside
-    // it. To open a pipe that nobody reads could wait without end.
+    // Whether lines can be added under the journal's name: it is a file, but not the database, nor one of the files
+    // beside it. Opening a pipe that nobody reads could wait without end.
     fn takes_lines(&self) -> bool {
         if is_beside(self.path, self.db) {
             return false;
@@ -81,7 +81,7 @@ impl<'a> FileJournal<'a> {
 }
 
 impl<'a> Journal for FileJournal<'a> {
-    // The first line that cannot be written is told of, and the connections go on.
+    // Only the first line that cannot be written is reported, and the connections go on.
     fn append(&mut self, line: &[u8]) {
         if self.add(line).is_err() && !self.has_failed {
             self.has_failed = true;

@@ -1,4 +1,4 @@
-//! Changing the key of one party.
+//! Changes the key of one party.
 use crate::database::is_missing;
 use crate::fault::BeginFault;
 use crate::keys::key_at;
@@ -16,7 +16,7 @@ use sqlite_disk::{Start, Unknown};
 use sqlite_std_file::FileFrom;
 use sqlite_store::FileStore;
 
-// Changes the key in the database file, and closes it, with all that stands in the log beside it. No file is made.
+// Changes the key in the database file, and closes it, together with everything in the log beside it. No file is made.
 fn rekey_file<S: Start>(
     rt: &HostRuntime,
     path: &str,
@@ -36,7 +36,7 @@ fn rekey_file<S: Start>(
     told
 }
 
-// Whose key the words name.
+// Returns whose key the words name.
 fn owner_of(words: &RekeyWords<'_>) -> KeyOwner {
     match words.supplier {
         Some(gln) => KeyOwner::Supplier(gln),
@@ -44,7 +44,7 @@ fn owner_of(words: &RekeyWords<'_>) -> KeyOwner {
     }
 }
 
-// Does what the words ask. The file with the key is read first: the database is opened for a key alone.
+// Does what the words ask. The file with the key is read first, so that the database is opened only if there is a key.
 fn outcome_of(rt: &HostRuntime, words: &RekeyWords<'_>) -> Result<KeyOutcome, BeginFault> {
     let text = key_at(rt, words.key_file)?;
     let Some(key) = Key::parse(text.as_slice()) else {
@@ -56,7 +56,7 @@ fn outcome_of(rt: &HostRuntime, words: &RekeyWords<'_>) -> Result<KeyOutcome, Be
     }
 }
 
-// Does it and prints what became of it.
+// Changes the key, and prints the outcome.
 fn print_outcome(rt: &HostRuntime, words: &RekeyWords<'_>) -> Result<u8, BeginFault> {
     let outcome = outcome_of(rt, words)?;
     let mut out = OfWrite::new(rt.stdout());
@@ -64,7 +64,7 @@ fn print_outcome(rt: &HostRuntime, words: &RekeyWords<'_>) -> Result<u8, BeginFa
     written(&out, status)
 }
 
-/// Changes the key of the party and in the database file that the words name, and answers the exit status.
+/// Changes the key of the party in the database file that the words name, and returns the exit status.
 pub(crate) fn change_key(rt: &HostRuntime, words: &RekeyWords<'_>) -> u8 {
     match print_outcome(rt, words) {
         Ok(status) => status,

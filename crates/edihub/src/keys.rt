@@ -1,4 +1,4 @@
-//! The keys of a command, read before the hub is opened.
+//! Reads the keys of a command before the hub is opened.
 use crate::fault::{BeginFault, KeyFault};
 use edi_base::OfRead;
 use edi_envelope::Moment;
@@ -12,7 +12,7 @@ use std::fs::File;
 pub(crate) enum Task<'a> {
     /// Uploads what is in this folder.
     Import(&'a str),
-    /// Asks once.
+    /// Makes one request.
     Ask(Request),
 }
 
@@ -21,23 +21,23 @@ pub(crate) enum Task<'a> {
 pub(crate) struct Asked<'a> {
     /// The path of the database's file.
     pub(crate) db: &'a str,
-    /// Who asks.
+    /// The caller.
     pub(crate) caller: Gln,
-    /// The key with which it is asked.
+    /// The caller's key.
     pub(crate) key: Vec<u8>,
-    /// When it is asked; now where there is none.
+    /// The moment of the command; now if there is none.
     pub(crate) moment: Option<Moment>,
     /// What is asked.
     pub(crate) task: Task<'a>,
 }
 
-/// The key in the file at a path.
+/// Returns the key in the file at a path.
 pub(crate) fn key_at(rt: &HostRuntime, path: &str) -> Result<Vec<u8>, BeginFault> {
     let file = File::open(rt, path).map_err(|_| BeginFault::File)?;
     Ok(read_key(rt.alloc(), &mut OfRead::new(file))?)
 }
 
-// The key that is given, or that is in the file which is given.
+// Returns the key that is given, or the one in the given file.
 fn key_of(rt: &HostRuntime, word: KeyWord<'_>) -> Result<Vec<u8>, BeginFault> {
     match word {
         KeyWord::Given(key) => Ok(Vec::from_slice(rt.alloc(), key.as_bytes())?),
@@ -45,7 +45,7 @@ fn key_of(rt: &HostRuntime, word: KeyWord<'_>) -> Result<Vec<u8>, BeginFault> {
     }
 }
 
-// The request to register a supplier whose key is in a file.
+// Returns the request to register a supplier whose key is in a file.
 fn join_of(rt: &HostRuntime, words: &JoinByFile<'_>) -> Result<Request, KeyFault> {
     let key = key_at(rt, words.key_file)?;
     match words.with_key(rt.alloc(), key.as_slice())? {
@@ -54,7 +54,7 @@ fn join_of(rt: &HostRuntime, words: &JoinByFile<'_>) -> Result<Request, KeyFault
     }
 }
 
-// What a command does, with the key of a supplier that joins.
+// Returns what a command does, with the key of a supplier that joins.
 fn task_of<'a>(rt: &HostRuntime, task: HubTask<'a>) -> Result<Task<'a>, KeyFault> {
     match task {
         HubTask::Import(folder) => Ok(Task::Import(folder)),
@@ -66,7 +66,7 @@ fn task_of<'a>(rt: &HostRuntime, task: HubTask<'a>) -> Result<Task<'a>, KeyFault
     }
 }
 
-/// What the words of a command ask, with the keys that are in files. The caller's key is read first.
+/// Returns what the words of a command ask, with the keys that are in files. The caller's key is read first.
 pub(crate) fn with_keys<'a>(rt: &HostRuntime, words: HubWords<'a>) -> Result<Asked<'a>, KeyFault> {
     let HubWords {
         db,

@@ -27,7 +27,7 @@ use std::fmt::Display;
 use std::process::ExitCode;
 use std::{env, io};
 
-// Prints a line on standard error. Where that fails, the exit status alone tells.
+// Prints a line on standard error. If that fails, the exit status alone reports the fault.
 pub(crate) fn tell<T: Display + Drop>(rt: &HostRuntime, line: T, status: u8) -> u8 {
     let _ = rt.eprintln(line);
     status
@@ -41,7 +41,7 @@ fn tell_words(rt: &HostRuntime, error: &Error) -> u8 {
     }
 }
 
-// Prints why words are not taken.
+// Prints why words are refused.
 fn tell_refused(rt: &HostRuntime, fault: &WordsFault) -> u8 {
     match fault {
         WordsFault::Told(error) => tell_words(rt, error),
@@ -49,7 +49,7 @@ fn tell_refused(rt: &HostRuntime, fault: &WordsFault) -> u8 {
     }
 }
 
-// Does a command over a hub, once its keys are read.
+// Runs a command over a hub, once its keys are read.
 fn with_the_hub(rt: &HostRuntime, given: &[String], words: HubWords<'_>) -> u8 {
     match with_keys(rt, words) {
         Ok(asked) => over_a_hub(rt, Work::Command(asked)),

@@ -1,4 +1,4 @@
-//! Serving a hub over the network.
+//! Serves a hub over the network.
 use crate::fault::BeginFault;
 use crate::journal::FileJournal;
 use crate::tasks::written;
@@ -12,7 +12,7 @@ use hub_serve::{
 };
 use hub_store::Store;
 
-// What is done once the store has failed for good.
+// Returns what to do once the store has failed for good.
 fn on_broken(words: &ServeWords<'_>) -> OnBroken {
     if words.stop_when_broken {
         OnBroken::Stop
@@ -60,7 +60,7 @@ fn serve_journaled<L: Connections + Drop, S: Store, M: Moments, W: Sink>(
     (status, journaled.into_connections())
 }
 
-/// Serves what comes over the network. A fault is told where it ends that.
+/// Serves connections from the network. If a fault ends that, it is printed.
 pub(crate) fn serve_over<S: Store>(
     rt: &HostRuntime,
     hub: &mut Hub<S>,

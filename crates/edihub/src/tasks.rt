@@ -1,4 +1,4 @@
-//! What a command asks of a hub.
+//! Does what a command asks of a hub.
 use crate::fault::BeginFault;
 use crate::keys::{Asked, Task};
 use edi_base::OfWrite;
@@ -8,12 +8,12 @@ use hub_commands::{Folder, Hub, Request, import_run, reply_run};
 use hub_serve::moment_now;
 use hub_store::Store;
 
-// What the clock tells.
+// Returns the current moment of the clock.
 pub(crate) fn now(rt: &HostRuntime) -> Result<Moment, BeginFault> {
     moment_now(rt).ok_or(BeginFault::Clock)
 }
 
-// The exit status, where all was written.
+// Returns the exit status, if everything was written.
 pub(crate) fn written<W>(out: &OfWrite<W>, status: u8) -> Result<u8, BeginFault> {
     if out.failed() {
         return Err(BeginFault::File);
@@ -21,7 +21,7 @@ pub(crate) fn written<W>(out: &OfWrite<W>, status: u8) -> Result<u8, BeginFault>
     Ok(status)
 }
 
-// Uploads what is in a folder.
+// Uploads the files of a folder.
 fn import<S: Store>(
     rt: &HostRuntime,
     hub: &mut Hub<S>,
@@ -36,7 +36,7 @@ fn import<S: Store>(
     written(&out, status)
 }
 
-// Asks once, and prints the reply.
+// Makes one request, and prints the reply.
 fn ask<S: Store>(
     rt: &HostRuntime,
     hub: &mut Hub<S>,

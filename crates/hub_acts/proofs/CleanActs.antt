@@ -1,4 +1,5 @@
--- Calls that look, judge and commit answer no `Unclean` of clean rows, and leave them clean.
+-- Proves that calls that look up, decide and commit never fail with `Unclean` over rows that have their form, and leave
+-- such rows.
 use Rattle.std.proofs.Common.{◌≡◌, ◌≢◌, inl, inr, ℕ, ◌==◌, Bool, true, false, cond, List, [], ◌∷◌}
 use Rattle.std.proofs.Common.{Some, None, Result, Ok, Err, OnOk, OnErr}
 use Rattle.std.proofs.Common.{refl, sym, subst, ap, ◌∙◌}
@@ -31,7 +32,7 @@ fault_again : {X Y : Type 0} (a b : StoreFault)
     → ◌≡◌ {A = Result Y StoreFault} (Err a) (Err b)
 fault_again a b h = let e : a ≡ b = cc in ap (λ fault. Err fault) e
 
--- a look-up that answers `Unclean` for a cause that there is not
+-- a look-up can fail with `Unclean` only for a cause, and there is none
 module _ {S X : Type 0} (g : Ghosts S) (old new : S)
     (cause : Type 0) (none_such : cause → ⊥) (fault : StoreFault)
     (unclean : g.honest new → g.broken old ≡ None → are_clean (g.content old) ≡ true
@@ -50,7 +51,7 @@ module _ {S X : Type 0} (g : Ghosts S) (old new : S)
       → StaysClean g old new result
   failed_stays result is stays = record { never = never_so result is; rows = λ h clean. ap are_clean (stays h) ∙ clean }
 
--- what was judged is carried out
+-- the decision is carried out
 module _ {S X : Type 0} (g : Ghosts S) (old middle new : S) (stays : Stays g old middle)
     (was : g.honest new → g.honest middle) (whole : g.broken middle ≡ g.broken old) (fits cleans : Tables → Type 0)
     (fit : g.honest middle → fits (g.content old))
@@ -69,7 +70,7 @@ module _ {S X : Type 0} (g : Ghosts S) (old middle new : S) (stays : Stays g old
       both : g.honest new → are_clean (g.content old) ≡ true → StaysClean g middle new result
       both h clean = then (subst fits (sym (same h)) (fit (was h))) (subst cleans (sym (same h)) (fine (was h) clean))
 
--- what is committed
+-- a commit
 
 clean_by : {S X : Type 0} (g : Ghosts S) (old new : S) (result : Result X StoreFault) (after : Tables)
     → OnOk result (g.content new ≡ after)
@@ -95,7 +96,7 @@ commits_clean g old new changes result commits fit places fine = record {
       clean_by g old new result (apply_all changes (g.content old)) (commits.done h fit) (commits.kept h) clean fine;
 }
 
--- Taken marks.
+-- Marking an entry as taken.
 
 uncleared : (entry : MailRow) → AllByRecursion (λ change. clears change ≡ false) (taking entry)
 uncleared entry =
@@ -136,7 +137,7 @@ mark_clean g old middle new stays whole gln number entry found rises changes is 
     (λ fit fine. commits_clean g middle new (taking entry) result
     (subst (λ changes. Commits g.content g.honest g.left g.broken middle new changes result) is commits) fit fine.0 fine.1)
 
--- the same fault of another call
+-- the same fault, of another call
 pub stays_at : {S X Y : Type 0} (g : Ghosts S) (old new : S)
     (fault : StoreFault)
     → StaysClean {X = X} g old new (Err fault)

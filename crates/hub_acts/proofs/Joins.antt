@@ -1,4 +1,4 @@
--- A register that takes a supplier, and the one that tables hold then.
+-- Proves that a register with a new supplier is the one that the tables hold after the join.
 use Rattle.std.proofs.Common.{◌≡◌, inl, inr, ℕ, Bool, true, false, cond, List, [], ◌∷◌, map, Option, Some, None, Result, Ok, Err}
 use Rattle.std.proofs.Common.{◌≢◌, ◌&&◌, refl, sym, ap, subst, ◌∙◌}
 use Rattle.std.proofs.lemmas.Bool.{and_parts}
@@ -44,7 +44,7 @@ use Rattle.hub_acts.specs.Acts.{Carried, FailsWith, as_told, no_answer}
 use Rattle.hub_acts.specs.Joins.{KeepsRows, MovesBy}
 use Rattle.hub_clean.proofs.Joined.{rules, changes_are}
 
--- Rows of which none has the GLN.
+-- Rows none of which has this GLN.
 module _ (row : SupplierRow) where
   abbrev IsNew : List SupplierRow → Type 0
   IsNew rows = list_any (same row.gln) (map (λ (s : SupplierRow). s.gln) rows) ≡ false
@@ -65,7 +65,7 @@ module _ (row : SupplierRow) where
         turned : is_gt (bytes_cmp s.gln row.gln) ≡ is_gt (ordering_reverse (bytes_cmp row.gln s.gln))
         turned = ap is_gt (nat_list_cmp_total.antisymm s.gln row.gln)
 
-  -- it stands where it stands among the rows of tables
+  -- the row takes the same position as among the rows of the tables
   put_same : (rows : List SupplierRow) → IsNew rows → put row rows ≡ order.put supplier_cmp row rows
   put_same [] new = refl
   put_same (s ∷ rows) new =
@@ -75,7 +75,7 @@ module _ (row : SupplierRow) where
       (λ e. ap (λ rest. s ∷ rest) (put_same rows parts.1)
       ∙ sym (ap (λ v. cond v (row ∷ s ∷ rows) (s ∷ order.put supplier_cmp row rows)) e))
 
-  -- and it is found there and taken out again
+  -- and it can be found there and taken out again
   without_put : (rows : List SupplierRow) → IsNew rows → without row.gln (put row rows) ≡ rows
   without_put [] new = ap (λ v. cond v [] (row ∷ [])) (same_if row.gln row.gln refl)
   without_put (s ∷ rows) new =
@@ -85,7 +85,7 @@ module _ (row : SupplierRow) where
       (λ e. ap (λ v. cond v (put row rows) (s ∷ without row.gln (put row rows))) parts.0
       ∙ ap (λ rest. s ∷ rest) (without_put rows parts.1))
 
-  -- it is nobody's who is found among them
+  -- a supplier found among the others is another one
   found_apart : (rows : List SupplierRow) → IsNew rows → (gln : List ℕ) (s : SupplierRow) → supplier_row rows gln ≡ Some s
       → same row.gln gln ≡ false
   found_apart [] new gln s known = cc
@@ -97,7 +97,7 @@ module _ (row : SupplierRow) where
         | false ↦ λ e known. found_apart rows parts.1 gln s known
       ] refl known
 
-  -- and who is found stays found beside it
+  -- and is still found once the row is added
   found_beside : (rows : List SupplierRow) → IsNew rows → (gln : List ℕ) (s : SupplierRow) → supplier_row rows gln ≡ Some s
       → supplier_row (put row rows) gln ≡ Some s
   found_beside rows new gln s known =
@@ -105,7 +105,7 @@ module _ (row : SupplierRow) where
       ∙ find_past supplier_cmp (λ supplier. same supplier.gln gln) rows row (found_apart rows new gln s known)
       ∙ known
 
--- A supplier that the register takes.
+-- A supplier that joins the register.
 module _ (register : RegisterRows) (row : SupplierRow) (changes : List Change)
     (accepted : judge_join register row ≡ Accept changes) where
   new : IsNew row register.suppliers
@@ -113,11 +113,11 @@ module _ (register : RegisterRows) (row : SupplierRow) (changes : List Change)
       let one = or_parts (same row.gln register.hub) _ (rules register row changes accepted).0 in
       (or_parts (same row.gln register.retailer) _ one.1).1
 
-  -- who was registered has its row
+  -- suppliers that were registered keep their rows
   pub keeps_with : KeepsRows register (joined_by row register)
   keeps_with = record { parties = refl; key = refl; rows = found_beside row register.suppliers new }
 
-  -- without it the register is what it was
+  -- without it the register is as before
   pub goes_back : left_by row.gln (joined_by row register) ≡ register
   goes_back = ap (λ suppliers. record register { suppliers = suppliers }) (without_put row register.suppliers new)
 
@@ -128,14 +128,14 @@ module _ (register : RegisterRows) (row : SupplierRow) (changes : List Change)
     pub sound_with : SoundHub (apply_all changes t)
     sound_with = by.sound
 
-    -- with it, it is that of the tables with its rows
+    -- with it, the register is that of the tables with its rows
     pub of_tables_with : joined_by row register ≡ register_of (apply_all changes t)
     of_tables_with =
         ap (λ suppliers. record register { suppliers = suppliers }) (put_same row register.suppliers new)
         ∙ ap (λ (r : RegisterRows). record r { suppliers = order.put supplier_cmp row r.suppliers }) of_tables
         ∙ sym (λ i. register_by (hub_in (by.hubs i)) (by.suppliers i))
 
-  -- and it is a register
+  -- and it is still a register
   pub takes : IsRegister register → is_join row ≡ true → IsRegister (joined_by row register)
   takes right may =
       let t = founded register in
@@ -143,13 +143,13 @@ module _ (register : RegisterRows) (row : SupplierRow) (changes : List Change)
       let here = founded_sound register right in
       subst IsRegister (sym (of_tables_with may t here of_tables)) (sound_with may t here of_tables).register.right
 
--- it adds rows, and takes none away
+-- a join adds rows, and removes none
 prefixes_clear_none : (gln : List ℕ) (prefixes : List (List ℕ))
     → AllByRecursion (λ change. clears change ≡ false) (prefix_changes gln prefixes)
 prefixes_clear_none gln [] = tt
 prefixes_clear_none gln (prefix ∷ prefixes) = (refl, prefixes_clear_none gln prefixes)
 
--- What a join is, by its verdict.
+-- What a join does, by its verdict.
 pub joined_as : (register : RegisterRows) (row : SupplierRow) (verdict : Verdict)
     → judge_join register row ≡ verdict
     → is_join row ≡ true
@@ -163,7 +163,7 @@ Seen = Unit {0}
 
 module _ {S : Type 0} (g : Ghosts S) (old new : S)
     (register : RegisterRows) (row : SupplierRow) (may : is_join row ≡ true) where
-  -- one that is refused
+  -- the join is refused
   pub refused_carried : (verdict : Verdict) (reply : Reply)
       → judge_join register row ≡ verdict
       → ((t : Tables) → (act verdict t).1 ≡ t)
@@ -184,7 +184,7 @@ module _ {S : Type 0} (g : Ghosts S) (old new : S)
         (refl, prefixes_clear_none row.gln row.prefixes))
         (sound_rises (apply_all changes (g.content old)) (sound_with register row changes accepted may (g.content old) here of_tables))
 
-    -- one that is let in
+    -- the join is accepted
     pub let_in_carried : (reply : Reply) (done : Seen)
         → reply ≡ act_reply (told (Accept changes))
         → (Fit changes (g.content old) → Carried g old new (act (Accept changes)) (λ _. Accepted) (Ok done))
@@ -196,7 +196,7 @@ module _ {S : Type 0} (g : Ghosts S) (old new : S)
       crash = λ h. tt;
     }
 
-    -- one that the store did not take
+    -- the store failed to commit the join
     pub let_in_failed : (fault other : StoreFault) (result : Result Reply StoreFault)
         → result ≡ Err other
         → (Fit changes (g.content old)
@@ -214,7 +214,7 @@ module _ {S : Type 0} (g : Ghosts S) (old new : S)
           ];
         })
 
-    -- the register is that of the tables again
+    -- the register is again that of the tables
     pub let_in_same : (done : Seen)
         → (Fit changes (g.content old) → Carried g old new (act (Accept changes)) (λ _. Accepted) (Ok done))
         → g.honest new
@@ -223,7 +223,7 @@ module _ {S : Type 0} (g : Ghosts S) (old new : S)
         of_tables_with register row changes accepted may (g.content old) here of_tables
         ∙ ap register_of (λ i. ((then fits).done h i).1)
 
--- How it fails.
+-- How a join fails.
 module _ (plain : Bool) (old new : Option LastingFault) (may_answer : Reply → Type 0) (reply : Reply) where
   pub refused_fails : may_answer reply → FailsWith plain ⊥ may_answer old old (Ok reply)
   refused_fails may = record { again = always old; after = refl; only_memory = λ p. (refl, tt) }
@@ -243,7 +243,7 @@ module _ (plain : Bool) (old new : Option LastingFault) (may_answer : Reply → 
       never None impossible = tt
       never (Some fault) impossible = absurd impossible
 
--- the register takes what is judged so
+-- the register and the verdict agree whether the supplier joins
 pub both_joins : (register : RegisterRows) (row : SupplierRow) (verdict : Verdict)
     → judge_join register row ≡ verdict
     → is_join row ≡ true
@@ -251,7 +251,7 @@ pub both_joins : (register : RegisterRows) (row : SupplierRow) (verdict : Verdic
 both_joins register row verdict is may =
     ap (λ v. v && is_accepted (judge_join register row)) may ∙ ap is_accepted is
 
--- What is told of a join, and what becomes of the register.
+-- The reply to a join, and the register after it.
 module _ (register : RegisterRows) (row : SupplierRow) (reply : Reply) (may : is_join row ≡ true) where
   pub told_of : (verdict : Verdict) → judge_join register row ≡ verdict → reply ≡ act_reply (told verdict)
       → (t : Tables) → (joined register Whole row t).0 ≡ reply
@@ -275,7 +275,7 @@ pub moves_not : (register : RegisterRows) (row : SupplierRow) (reply : Reply) (c
     → MovesBy row register register reply
 moves_not register row reply code says = inr (λ e. refused_is_not code (sym says ∙ e), refl)
 
--- Who was registered has its row.
+-- Suppliers that were registered keep their rows.
 pub keeps_all : (old after : RegisterRows) → after ≡ old → KeepsRows old after
 keeps_all old after same = record {
   parties = ap parties_of same;

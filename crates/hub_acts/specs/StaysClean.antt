@@ -1,12 +1,12 @@
--- Rows of the kinds that a hub keeps before an act and after it, and that no `Unclean` is answered.
+-- Defines that an act keeps the form of all rows, and never fails with `Unclean`.
 use Rattle.std.specs.Prelude.{◌≡◌, ◌≢◌, true, None, Result, Err}
 use Rattle.hub_store.specs.Clean.{are_clean}
 use Rattle.hub_store.specs.declared.fault.StoreFault.{StoreFault}
 use Rattle.hub_store.specs.declared.fault.StoreFault.TheVariants.{Unclean}
 use Rattle.hub_store.specs.declared.store.Store.{Ghosts}
 
--- Where all rows are of the kinds, they are so after the call, whatever it answers; and of a store that is not broken it
--- does not answer `Unclean`.
+-- If all rows have the form of their kind, they do so after the call too, whatever it returns; and a store that is not
+-- broken does not return `Unclean`.
 pub record StaysClean {S X : Type 0} (g : Ghosts S) (old new : S) (result : Result X StoreFault) : Type 0 where
   pub never : g.honest new → g.broken old ≡ None → are_clean (g.content old) ≡ true → result ≢ Err Unclean
   pub rows : g.honest new → are_clean (g.content old) ≡ true → are_clean (g.content new) ≡ true

@@ -1,4 +1,4 @@
-//! What the rules say is carried out.
+//! Carries out what the rules decide.
 ghost use Rattle.std.specs.Prelude.{◌≡◌, ◌⊎◌, true, IfOk, OnOk, OnErr};
 ghost use Rattle.hub_tables.specs.Change.{apply_all};
 ghost use Rattle.hub_tables.specs.Sets.{Fit};
@@ -21,7 +21,7 @@ use hub_tables::Change;
 use hub_texts::{Decision, Outcome, Reply, told_line};
 use std::alloc::Global;
 
-// What is told of a message that is accepted, with these changes.
+// Decides between accepted and repeated by the changes of an accepted message.
 fn told_of_changes(changes: &[Change]) -> Decision
     ensures { told (Accept changes.now) ≡ told_of result }
 {
@@ -32,7 +32,7 @@ fn told_of_changes(changes: &[Change]) -> Decision
     }
 }
 
-/// What is told of a verdict.
+/// Returns the decision that reports a verdict.
 pub fn told_of_verdict(verdict: &Verdict) -> Decision
     ensures { told verdict.now ≡ told_of result }
 {
@@ -42,7 +42,7 @@ pub fn told_of_verdict(verdict: &Verdict) -> Decision
     }
 }
 
-/// The reply to one act that is no message: a cancellation, a join.
+/// Makes the reply to an act other than a message: a cancellation or a join.
 pub fn reply_to_act(alloc: Global, told: Decision) -> Result<Reply, MemoryFault>
     ensures { IfOk result (λ reply. reply ≡ act_reply (told_of told)) }
 {
@@ -53,7 +53,7 @@ pub fn reply_to_act(alloc: Global, told: Decision) -> Result<Reply, MemoryFault>
     })
 }
 
-// Makes the changes, where there are some.
+// Commits the changes, if there are any.
 fn make<S: Store>(store: &mut S, changes: &[Change]) -> Result<(), StoreFault>
     ensures done { Fit changes.now (S.content store.old) → S.honest store.new →
         OnOk result (S.content store.new ≡ apply_all changes.now (S.content store.old)) }
@@ -73,7 +73,7 @@ fn make<S: Store>(store: &mut S, changes: &[Change]) -> Result<(), StoreFault>
     store.commit(changes)
 }
 
-/// Carries out what the rules say.
+/// Carries out a verdict, and returns the decision that reports it.
 pub fn carry_out<S: Store>(store: &mut S, verdict: &Verdict) -> Result<Decision, StoreFault>
     ensures carried { VerdictFits verdict.now (S.content store.old) →
         Carried S.Store store.old store.new (act verdict.now) told_of result }

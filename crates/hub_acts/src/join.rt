@@ -1,4 +1,4 @@
-//! A join.
+//! Registers a supplier that joins.
 ghost use Rattle.std.specs.Prelude.{◌≡◌, true, false, IfOk, Ok, OnOk, OnErr};
 ghost use Rattle.std.specs.Option.{IfSome};
 ghost use Rattle.hub_parties.specs.Rows.{IsRegister};
@@ -28,7 +28,7 @@ use hub_tables::Change;
 use hub_texts::{Join, Reply};
 use std::alloc::Global;
 
-// Lets a supplier in by these changes, into the register and into the store, or at a fault into neither. Room in the
+// Adds a supplier to the register and to the store with these changes; after a fault, to neither. Memory for the
 // register is taken before the commit, so that nothing can fail after it.
 fn let_in<S: Store>(
     alloc: Global,
@@ -60,16 +60,15 @@ fn let_in<S: Store>(
     Ok(())
 }
 
-// The rows of a register are those of one.
+// Shows that a register's rows are those of a register.
 fn is_register(register: &Register)
     ensures { IsRegister register.now }
 {
-    // The contract of this call says that the register is one.
+    // This contract says so.
     let _hub = register.hub();
 }
 
-// Carries out a join that was judged, to which this is the reply. One that is refused changes nothing and is answered
-// without any memory.
+// Carries out the verdict on a join, and returns its reply. A refused join changes nothing and needs no memory.
 fn carry_out_join<S: Store>(
     alloc: Global,
     register: &mut Register,
@@ -108,9 +107,9 @@ fn carry_out_join<S: Store>(
     Ok(reply)
 }
 
-/// Lets a supplier in, as the retailer asks: judges the join by the register, and commits its rows as one act. The reply
-/// is made before. The register has the supplier from then on, exactly where the reply says that it is accepted; at a
-/// fault nothing was done, and it is as it was. What is refused looks at no row of the store, and commits nothing.
+/// Registers a supplier at the retailer's request: checks the join against the register, and commits its rows as one
+/// act. The reply is made before the commit. The register has the supplier afterwards exactly if the reply says that
+/// the join is accepted. After a fault nothing is done. A refused join reads no row of the store, and commits nothing.
 pub fn take_join<S: Store>(
     alloc: Global,
     register: &mut Register,

@@ -1,4 +1,4 @@
-//! One act over a store: what the rules say is carried out, a supplier joins, and a mailbox is listed, read and marked.
+//! Carries out one act over a store: a verdict, a join, and the list, an entry or a taken mark of a mailbox.
 #![tactic(auto)]
 
 mod carrying;

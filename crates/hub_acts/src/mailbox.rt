@@ -1,4 +1,4 @@
-//! A supplier's mailbox.
+//! Answers requests for a supplier's mailbox.
 ghost use Rattle.std.specs.Prelude.{◌≡◌, [], ◌∷◌, IfOk};
 ghost use Rattle.hub_tables.specs.State.{entry_at, untaken_after};
 ghost use Rattle.hub_tables.specs.Tables.{view};
@@ -20,10 +20,10 @@ use hub_tables::{Change, Column};
 use hub_texts::{LIST_LIMIT, Outcome, Reply, entry_text, list_text};
 use std::alloc::Global;
 
-// How many entries are looked up for a list: those that it shows, and one that tells that there are more.
+// The number of entries looked up for a list: those that it shows, and one more to know whether there are more.
 const LISTED_AND_ONE: usize = LIST_LIMIT + 1;
 
-/// A reply that something was done, with this text.
+/// Makes a reply with this text, which says that the request was carried out.
 pub fn done_reply(body: Items<u8>) -> Reply
     ensures { result ≡ done body }
 {
@@ -34,7 +34,7 @@ pub fn done_reply(body: Items<u8>) -> Reply
     }
 }
 
-/// A reply that there is no such thing.
+/// Makes a reply that says that there is no such thing.
 pub fn unknown_reply(alloc: Global) -> Result<Reply, MemoryFault>
     ensures { IfOk result (λ reply. reply ≡ unknown) }
 {
@@ -45,7 +45,7 @@ pub fn unknown_reply(alloc: Global) -> Result<Reply, MemoryFault>
     })
 }
 
-/// The list of the mailbox entries above a number that are not taken.
+/// Returns the list of the mailbox entries above a number that are not taken.
 pub fn mailbox_list<S: Store>(
     alloc: Global,
     store: &mut S,
@@ -63,7 +63,7 @@ pub fn mailbox_list<S: Store>(
     Ok(done_reply(text))
 }
 
-/// The mailbox entry of a number, as an interchange of the hub.
+/// Returns the mailbox entry with a number, as an interchange from the hub.
 pub fn mailbox_entry<S: Store>(
     alloc: Global,
     hub: &Gln,
@@ -84,7 +84,7 @@ pub fn mailbox_entry<S: Store>(
     Ok(done_reply(text))
 }
 
-// A change alone.
+// Returns a list of this one change.
 fn only(alloc: Global, change: Change) -> Result<Items<Change>, MemoryFault>
     ensures { IfOk result (λ changes. changes ≡ change ∷ []) }
 {
@@ -93,8 +93,8 @@ fn only(alloc: Global, change: Change) -> Result<Items<Change>, MemoryFault>
     Ok(changes)
 }
 
-/// Marks a mailbox entry as taken; one that is taken stays so, and is not written again. The reply is made before. At a
-/// fault nothing was done.
+/// Marks a mailbox entry as taken. If it is taken already, nothing is written. The reply is made before the commit, and
+/// after a fault nothing is done.
 pub fn take_entry<S: Store>(
     alloc: Global,
     store: &mut S,

@@ -1,4 +1,5 @@
--- The names of a folder that still come, and how many cannot be printed: they are no UTF-8, or have a control byte.
+-- Defines the names of a folder that still come, and how many cannot be printed: they are not UTF-8, or have a control
+-- byte.
 use Rattle.std.specs.Prelude.{◌≡◌, ℕ, ◌+◌, Bool, List, [], ◌∷◌, length, String, string_bytes, Option, Some, None}
 use Rattle.std.specs.Prelude.{Result, Ok, Err, ◌&&◌, ◌==◌, nat_le, not, true, All}
 use Rattle.std.specs.List.{list_all}

@@ -14,8 +14,8 @@ use Rattle.hub_commands.specs.declared.files.NextFile.{NextFile}
 use Rattle.hub_commands.specs.declared.files.NextFile.TheVariants as files
 
 -- What becomes of a file. Answered: it has this name and these bytes, which are those that its source was known to
--- give, if these are known, and this is the reply to their upload. Unread: it cannot be read. Unnamed: its name is not
--- UTF-8. NoMemory: memory ran out for its source, or before its name was known. Unprinted: its line could not be
+-- give, if these are known, and this is the reply to their upload. Unread: it cannot be read. Unnamed: its name cannot
+-- be printed. NoMemory: memory ran out for its source, or before its name was known. Unprinted: its line could not be
 -- written, and it was not uploaded.
 pub data Looked : Type 0 where
   Answered : List ℕ → List ℕ → Reply → Looked

@@ -16,12 +16,12 @@ pub struct NamedFile<B> {
 pub enum NextFile<B> {
     /// A file with its name.
     Named(NamedFile<B>),
-    /// A file whose name is not UTF-8.
+    /// A file whose name cannot be printed: it is not UTF-8, or has a control byte.
     Unnamed,
 }
 
-/// Files that come one after another, each with what its bytes are read from: first those that have names, in the order
-/// of the bytes of their names, then those whose names are no UTF-8.
+/// Files that arrive one after another, each with the source of its bytes: first those with names, in the order of the
+/// bytes of their names, then those whose names cannot be printed.
 pub trait Files {
     ghost use Rattle.std.specs.Prelude.{ℕ, List, Option, None};
     ghost use Rattle.hub_commands.specs.Files.{Gives, GoesDown};

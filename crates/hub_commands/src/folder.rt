@@ -15,7 +15,7 @@ use std::rt::Files as FileSystem;
 use std::{fs, io};
 
 /// The plain files of a folder, by the names that it had when it was opened: in the order of the bytes of their names,
-/// and then those whose names cannot be printed: they are no UTF-8, or have a control byte, with which a name could
+/// and then those whose names cannot be printed: they are not UTF-8, or have a control byte, with which a name could
 /// forge a line of a reply. Contracts see the names that still come, and how many cannot be printed.
 #[derive(Drop)]
 pub struct Folder<'a, R> {

@@ -128,11 +128,11 @@ fn import_file<S: Store, B: Source + Drop, W: Sink>(
 }
 
 /// Uploads files one after another, each as the caller with this GLN and this key, and prints for each the line `file
-/// NAME` before it is read, and then the reply. A file is opened as it is read, one segment at a time, and no more than
-/// 1,048,577 of its bytes are. For one that cannot be read the line `fault` comes in place of the reply, and for one
-/// whose name is not UTF-8 this line alone; the next file follows. A reply that is stopped ends the import, and so
-/// does running out of memory, with the line `stopped`, or a failed write; the files after the last one then still come.
-/// What was accepted stays accepted.
+/// NAME` before it is read, and then the reply. A file is opened as it is read, one segment at a time, and at most
+/// 1,048,577 of its bytes are. For a file that cannot be read the line `fault` replaces the reply, and for one whose
+/// name cannot be printed, because it is not UTF-8 or has a control byte, this line is the only one; the next file
+/// follows. A reply that is stopped ends the import, and so does running out of memory, with the line `stopped`, or a
+/// failed write; the files after the last one then still come. What was accepted stays accepted.
 ///
 /// Returns the exit status, the greatest of all files: of a reply 0, 1 or 3, as `reply_run` has it; 3 for a file that
 /// cannot be read or has no name, for want of memory, and for a failed write.

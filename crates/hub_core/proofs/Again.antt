@@ -1,4 +1,4 @@
--- What comes again in a run of a hub.
+-- Proves what a run of a hub replies to a message that comes again.
 use Rattle.std.proofs.Common.{◌≡◌, inl, inr, ℕ, zero, suc, ◌<◌, ◌≤◌, nat_lt, Bool, true, false, List, [], ◌∷◌, ◌++◌, length}
 use Rattle.std.proofs.Common.{slice_get, take, if◌then◌else◌, Some, refl, sym, ap, ◌∙◌, arith}
 use Rattle.std.proofs.lemmas.Bool.Decides.{nat_tests}
@@ -17,7 +17,7 @@ use Rattle.hub_requests.specs.declared.reply.Reply.{Reply}
 use Rattle.hub_requests.specs.declared.request.Input.{Input}
 use Rattle.hub_core.specs.Laws.{TellsOf}
 
--- the reply at a place of a run
+-- the reply at a position of a run
 pub reply_of_run : (t after : Tables) (marked before later : Inputs) (input : Input) (mark : Mark)
     (replies : List Reply)
     → shared_run t marked ≡ (replies, after)
@@ -36,7 +36,7 @@ no_more (suc k) (x ∷ xs) = let less = no_more k xs in omega arith
 under : {X : Type 0} (k : ℕ) (xs : List X) (place : ℕ) → place < length (take k xs) → place < k
 under k xs place below = let less = no_more k xs in omega arith
 
--- something is told of each
+-- each message has a result
 row_length : {X : Type 0} (step : X → Act) (xs : List X) (t : Tables) → length (in_row step xs t).0 ≡ length xs
 row_length step [] t = refl
 row_length step (x ∷ xs) t = ap suc (row_length step xs (step x t).1)
@@ -46,7 +46,7 @@ told_each upload moment t =
     row_length upload.act (messages_at moment upload.interchange) t
     ∙ length-map upload.interchange.messages (λ message. (message, incoming moment upload.interchange message))
 
--- what the reply to an upload that is looked at tells of a message that it reaches
+-- what the reply to an upload says of a message that it reaches
 module _ (t : Tables) (input : Input) (upload : Upload) (place : ℕ) (what : Told)
     (there : slice_get (all_acts upload input.moment t).0 place ≡ Some what) where
   tells_cut : (k : ℕ) (below : Bool) → nat_lt k (length upload.interchange.messages) ≡ below

@@ -1,4 +1,4 @@
--- What a request did that looked at the store, that was one act, or that was an upload.
+-- Proves what a request did that only looked things up, that was one act, or that was an upload.
 use Rattle.std.proofs.Common.{◌≡◌, true, inl, inr, ℕ, Option, Some, None, List, length, Result, Ok, Err, IfOk, refl, sym, ap, subst, ◌∙◌}
 use Rattle.std.specs.Borrow.{Bor}
 use Rattle.std.specs.Option.{is_some, option_copied}
@@ -103,7 +103,7 @@ module _ {S : Type 0} (g : Ghosts S)
   upload_taken old new opened interchange reply is answered =
       subst (λ opened. AskedOf old new opened reply) (sym is) (record { answered = answered; undone = λ h. tt })
 
--- a report of a supplier that was found
+-- the status of a supplier that was found
 pub reported : (found : Option (Bor SupplierRow)) (row : Option SupplierRow) (state : Tables)
     → true ≡ is_some found
     → option_copied found ≡ row

@@ -1,4 +1,4 @@
--- What becomes of a store's fault, for one request and for a run.
+-- Proves when a store is broken, after one request and after a run.
 use Rattle.std.proofs.Common.{◌≡◌, ◌⊎◌, inl, inr, ℕ, Bool, IsTrue, List, [], ◌∷◌, ◌++◌, length, Option, Some, None, Result, Ok, Err}
 use Rattle.std.proofs.Common.{IfOk, OnErr, IsSome, refl, sym, subst, ap, ◌∙◌, arith}
 use Rattle.std.specs.Option.{IfSome}
@@ -51,11 +51,11 @@ failed plain cause may (Some broken) new fault fails =
     (inl (lasts cause broken new fault fails.again fails.after), λ p. (fails.only_memory p).0)
 
 module _ (plain : Bool) (does : Does) (old : Option LastingFault) where
-  -- nothing was asked of the store
+  -- the request needed nothing of the store
   pub unasked : (reply : Reply) → OfNoRow does reply → Breaks plain does old old reply
   unasked reply is = record { after = inl refl; again = where_some old (inr is); over_plain = λ p. refl }
 
-  -- it was asked, by a call that a broken store does not answer
+  -- the request made a call that a broken store never answers
   pub by_call : (cause : Type 0) (new : Option LastingFault) (result : Result Reply StoreFault)
       → FailsWith plain cause no_answer old new result
       → BreaksAsked plain does old new result
@@ -66,7 +66,7 @@ module _ (plain : Bool) (does : Does) (old : Option LastingFault) where
   }
   by_call cause new (Err fault) fails = failed plain cause no_answer old new fault fails
 
-  -- it was asked, by a call that a broken store answers only where no row is in the answer
+  -- the request made a call that a broken store answers only if no row is in the answer
   pub by_answer : (cause : Type 0) (new : Option LastingFault) (result : Result Reply StoreFault)
       → FailsWith plain cause (OfNoRow does) old new result
       → BreaksAsked plain does old new result
@@ -77,7 +77,7 @@ module _ (plain : Bool) (does : Does) (old : Option LastingFault) where
   }
   by_answer cause new (Err fault) fails = failed plain cause (OfNoRow does) old new fault fails
 
-  -- it was stopped
+  -- the request was stopped
   pub stopped_by : (new : Option LastingFault) (reply : Reply)
       → ((new ≡ old) ⊎ (old ≡ None)) × (IsTrue plain → new ≡ old)
       → reply.outcome ≡ Stopped
@@ -88,7 +88,7 @@ module _ (plain : Bool) (does : Does) (old : Option LastingFault) where
     over_plain = left.1;
   }
 
-  -- the reply to what was asked
+  -- the reply to a request that was tried
   pub replied_breaks : (new : Option LastingFault) (answered : Result Reply StoreFault) (body : List ℕ) (given : Reply)
       → IfOk answered (λ told. given ≡ told)
       → OnErr answered (given ≡ reply Stopped body)
@@ -97,7 +97,7 @@ module _ (plain : Bool) (does : Does) (old : Option LastingFault) where
   replied_breaks new (Ok told) body given ok err breaks = subst (λ (r : Reply). Breaks plain does old new r) (sym ok) breaks
   replied_breaks new (Err fault) body given ok err breaks = stopped_by new given breaks (ap (λ (r : Reply). r.outcome) err)
 
--- who asks
+-- each caller
 pub breaks_as : (plain : Bool) (register : RegisterRows) (input : Input) (old new : Option LastingFault) (caller : Caller)
     (result : Result Reply StoreFault)
     → Known register input caller
@@ -106,7 +106,7 @@ pub breaks_as : (plain : Bool) (register : RegisterRows) (input : Input) (old ne
 breaks_as plain register input old new caller result known breaks =
     subst (λ (does : Does). BreaksAsked plain does old new result) (λ i mark t. step_is register input caller known mark t i) breaks
 
--- an upload of bytes, by what they are
+-- an upload of bytes, by what opening them gave
 pub opened_breaks : (plain : Bool) (register : RegisterRows) (caller : Caller) (moment : ℕ) (bytes : List ℕ) (upload : Opened)
     (old new : Option LastingFault) (result : Result Reply StoreFault)
     → interchange_in bytes ≡ upload
@@ -120,7 +120,8 @@ opened_breaks plain register (Supplier s) moment bytes upload old new result is 
     (λ mark t. uploaded (delivered register (Supplier s)) moment mark (addressed_by register (Supplier s) opened) t) old new result)
     (sym is) breaks
 
--- A register that moved while the store was whole: what is said of a broken one is said under that after it.
+-- A register that changed while the store was not broken: what holds over a broken store holds under the register after
+-- the change.
 module _ (plain : Bool) (before after : RegisterRows) (inputs : List Input) (replies : List Reply) (input : Input) (reply : Reply) where
   pub moved : (old middle : Option LastingFault)
       → IfSome middle (λ _. after ≡ before)
@@ -175,7 +176,7 @@ module _ (register : RegisterRows) where
 
   module _ (plain : Bool) (inputs : List Input) (replies : List Reply) (input : Input) (reply : Reply)
       (even : length inputs ≡ length replies) where
-    -- what follows over a store that was broken
+    -- the inputs after the first, over a store that was broken
     over_broken : (old new : Option LastingFault) (fault : LastingFault)
         → RunBreaks plain register old (Some fault) inputs replies
         → Breaks plain (does_input register input) (Some fault) new reply
@@ -196,7 +197,7 @@ module _ (register : RegisterRows) where
       over_plain = λ p. lasts ∙ run.over_plain p;
     }
 
-    -- over one that was not
+    -- the inputs after the first, over a store that was not broken
     over_whole : (old new : Option LastingFault)
         → RunBreaks plain register old None inputs replies
         → Breaks plain (does_input register input) None new reply

@@ -1,4 +1,4 @@
--- Who asks, and what it may.
+-- Proves what a caller may do.
 use Rattle.std.proofs.Common.{◌≡◌, ℕ, List, [], Some, Result, Ok, Err, sym, ap, subst, ◌∙◌}
 use Rattle.hub_parties.specs.Rows.{RegisterRows, row_of}
 use Rattle.hub_parties.specs.declared.role.Role.TheVariants as roles
@@ -25,7 +25,7 @@ use Rattle.hub_core.specs.Steps.{Does, Asked, SoundWith, acts_of}
 use Rattle.hub_core.specs.declared.caller.Caller.{Caller}
 use Rattle.hub_core.specs.declared.caller.Caller.TheVariants.{Retailer, Supplier}
 
--- what a message leaves is such that its caller may send another
+-- after a message, its caller may send another
 pub holds_after :
     {S X Y : Type 0} (holds : Tables → Type 0) (g : Ghosts S)
     (old new : S)
@@ -43,7 +43,7 @@ pub none_kept_for : (caller : Caller) (t : Tables) → KeepsFor caller [] t
 none_kept_for Retailer t = tt
 none_kept_for (Supplier s) t = none_kept (view s.now.gln t)
 
--- an upload of bytes, by what they are
+-- an upload of bytes, by what opening them gave
 pub opened_asked : {S : Type 0} (g : Ghosts S) (old new : S)
     (register : RegisterRows) (caller : Caller) (moment : ℕ) (bytes : List ℕ) (upload : Opened) (result : Result Reply StoreFault)
     → interchange_in bytes ≡ upload
@@ -65,7 +65,7 @@ opened_asked g old new register (Supplier s) moment bytes upload result is asked
 pub parties_rise : (t : Tables) → Rising t → PartiesRise t
 parties_rise t rising = record { hubs = rising.hubs; keys = rising.keys; prefixes = rising.prefixes }
 
--- what one act asks of the tables
+-- what one act needs of the tables
 pub delivers : (register : RegisterRows) (t : Tables) → SoundWith register t → SoundUnder register.suppliers t × PartiesRise t
 delivers register t here =
     let under : SoundUnder (register_of t).suppliers t =

@@ -1,4 +1,4 @@
--- Rows stay clean over a step and over a run.
+-- Proves that a step and a run keep the form of all rows.
 use Rattle.std.proofs.Common.{◌≡◌, true, List, [], ◌∷◌, map, sym, subst}
 use Rattle.std.specs.List.{AllByRecursion}
 use Rattle.hub_tables.specs.Tables.{Tables}

@@ -1,4 +1,4 @@
--- A request that is no join keeps the register, and one that is denied keeps all.
+-- Proves that only a join changes the register, and that a denied request changes nothing.
 use Rattle.std.proofs.Common.{◌≡◌, ◌⊎◌, inl, inr, ℕ, true, false, List, if◌then◌else◌, Option, Some, None, Result, Ok, Err, refl, sym, ap}
 use Rattle.std.proofs.Common.{◌≢◌, IfOk, OnErr, subst, ◌∙◌}
 use Rattle.hub_parties.specs.Rows.{RegisterRows, parties_of, supplier_row}
@@ -69,7 +69,7 @@ module _ (t : Tables) (here : SoundHub t) where
       (subst (λ (after : Reply × Tables). PartiesStay t after.1) (sym (step_is R input mark t))
       (keeps_by input mark (supplier_row (suppliers_of t) input.caller) refl other))
 
--- after a step that is no join the tables hold the register that they held
+-- after a step that is not a join, the tables hold the register that they held
 pub still_held : {register : RegisterRows} {t after : Tables} {before left : Tables → Type 0} {input : Input} {reply : Reply}
     → SoundWith register t
     → Stepped t after before left input reply
@@ -78,7 +78,7 @@ pub still_held : {register : RegisterRows} {t after : Tables} {before left : Tab
 still_held {register} {t} {after} {before} {left} {input} here step other =
     here.held ∙ sym (register_kept t here.sound input step.mark other) ∙ ap (λ (r : Reply × Tables). register_of r.1) step.is
 
--- a request is a join, or it is none
+-- a request is a join or is not
 pub join_or_none : (request : Request) → ((row : SupplierRow) × (request ≡ requests.Join row)) ⊎ IsNoJoin request
 join_or_none (requests.Upload bytes) = inr (λ row e. cc)
 join_or_none (requests.MailAfter number) = inr (λ row e. cc)
@@ -89,7 +89,7 @@ join_or_none (requests.StatusOf gln) = inr (λ row e. cc)
 join_or_none (requests.Cancel c) = inr (λ row e. cc)
 join_or_none (requests.Join row) = inl (row, refl)
 
--- what changes nothing whatever the tables
+-- a request that changes nothing, whatever the tables
 pub content_kept : {S : Type 0} (g : Ghosts S) (old new : S) (count : ℕ)
     (does : Does) (result : Result Reply StoreFault)
     → ((mark : Mark) (t : Tables) → (does mark t).1 ≡ t)
@@ -101,7 +101,7 @@ content_kept g old new count does (Ok reply) idle asked h =
     sym (ap (λ (r : Reply × Tables). r.1) a.is) ∙ idle a.mark (g.content old)
 content_kept g old new count does (Err fault) idle asked h = (asked.undone h).same
 
--- A join that is not accepted leaves the register.
+-- A join that is not accepted leaves the register as it is.
 other_outcome : (reply : Reply) → reply.outcome ≢ Done → reply ≢ act_reply Accepted
 other_outcome reply other e = other (ap (λ (r : Reply). r.outcome) e)
 
@@ -125,7 +125,7 @@ module _ (row : SupplierRow) (register : RegisterRows) (does : Does) (reply : Re
     );
   }
 
--- a join, as another says it that does the same
+-- two requests that do the same are the same join
 pub join_as : (row : SupplierRow) (old new : RegisterRows) (does same : Does) (result : Result Reply StoreFault)
     → ((t : Tables) → does Whole t ≡ same Whole t)
     → IfOk result (JoinAnswered row old new does)
@@ -136,7 +136,7 @@ join_as row old new does same (Ok reply) agree is = record {
 }
 join_as row old new does same (Err fault) agree is = tt
 
--- the reply of what was answered, or that it was stopped
+-- the reply to a join that was answered or stopped
 pub join_replied : (row : SupplierRow) (old new : RegisterRows) (does : Does) (result : Result Reply StoreFault) (body : List ℕ)
     (reply : Reply)
     → IfOk result (JoinAnswered row old new does)
@@ -147,7 +147,7 @@ pub join_replied : (row : SupplierRow) (old new : RegisterRows) (does : Does) (r
 join_replied row old new does (Ok answer) body reply is same says stops = subst (JoinAnswered row old new does) (sym says) is
 join_replied row old new does (Err fault) body reply is same says stops = join_stopped row old does reply new body stops same
 
--- who was registered has its row, whatever is asked
+-- suppliers that were registered keep their rows, whatever is asked
 pub rows_kept : (request : Request) (old new : RegisterRows) (does : Does) (reply : Reply)
     → ((row : SupplierRow) → request ≡ requests.Join row → JoinAnswered row old new does reply)
     → (IsNoJoin request → new ≡ old)

@@ -1,4 +1,4 @@
--- What an upload is.
+-- Proves what opening an upload gives.
 use Rattle.std.proofs.Common.{◌≡◌, ◌≢◌, inl, inr, ℕ, List, Result, Ok, Err, refl, ap, ◌∙◌}
 use Rattle.edi_segments.specs.Reading.{tokens_of, Fails}
 use Rattle.edi_segments.specs.declared.fault.TokenFault.{TokenFault}
@@ -24,7 +24,7 @@ fails_is token.LongSegment given not_memory fails = fails
 fails_is token.Read given not_memory fails = fails
 fails_is token.Memory given not_memory fails = absurd (not_memory refl)
 
--- the bytes of an upload, as they were opened
+-- the fault of an upload's bytes
 pub token_fault : (bytes : List ℕ) (fault : TokenFault) → HasCode (Token fault) → Fails fault (tokens_of bytes)
     → interchange_in bytes ≡ told_as (Err (Token fault))
 unfolding interchange_in
@@ -49,7 +49,7 @@ unfolding interchange_in
 opened_well bytes tokens interchange e f =
     ap (λ given. told_as (read_as given)) e ∙ ap (λ given. told_as (checked_as given)) f
 
--- an upload that was opened before, of some bytes
+-- an upload that was opened before, for some bytes
 opens_text : (fault : TokenFault) (given : Result Interchange OpenFault)
     → fault ≢ token.Read
     → HasCode (Token fault)

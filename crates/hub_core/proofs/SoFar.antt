@@ -1,4 +1,4 @@
--- The messages of an upload, one after another.
+-- Proves what the messages of an upload do, one after another.
 use Rattle.std.proofs.Common.{◌≡◌, ℕ, suc, Bool, true, false, ◌+◌, ◌<◌, ◌||◌, List, [], ◌∷◌, ◌++◌, map, length, take}
 use Rattle.std.proofs.Common.{get_or, Ok, refl, sym, ap, subst, ◌∙◌, arith, append_assoc, length-append}
 use Rattle.std.proofs.Common.{add-one, zero}
@@ -166,7 +166,7 @@ one_more : (deliver : Sent → Act) (moment : ℕ) (interchange : Interchange) (
 one_more deliver moment interchange t now count refused body below far =
     one_more_by deliver moment interchange t now count refused body (nat_lt (count + 1) (length interchange.messages)) refl below far
 
--- and the next one's act, with whatever is told of it
+-- and the act of the next message, with its result
 pub so_far_then :
     (deliver : Sent → Act) (moment : ℕ) (interchange : Interchange) (t before : Tables) (count : ℕ) (refused : Bool)
     (body : List ℕ) (message : RawMessage)

@@ -1,4 +1,4 @@
--- What a step and a run did is what the laws say of the machine.
+-- Proves that a step and a run of the hub do what the laws say of the shared machine.
 use Rattle.std.proofs.Common.{◌≡◌, ◌≢◌, ◌↔◌, inl, inr, ℕ, zero, suc, ◌+◌, drop, List, [], ◌∷◌}
 use Rattle.std.proofs.Common.{◌++◌, length, map, Option, refl, sym, ap, subst}
 use Rattle.std.proofs.Common.{◌∙◌, append_assoc}
@@ -24,7 +24,7 @@ use Rattle.hub_core.specs.Laws.{OfTheMachine}
 use Rattle.hub_core.specs.Steps.{OneMore, Leaves, LeavesOf, Answered, Asked, Stepped, RunAlone, StoppedSince, RunLeaves, StopsTold}
 use Rattle.hub_core.specs.Steps.{Does, Ran, SoundWith, acts_of}
 
--- what a request does to the tables to which it comes is all that is said of it
+-- two requests that do the same to these tables are answered the same
 module _ (count : ℕ) (does same : Does) (t : Tables) (agree : (mark : Mark) → does mark t ≡ same mark t) where
   pub leaves_as : (mark : Mark) (after : Tables) (before : Tables → Type 0) (u : Tables)
       → Leaves count does t mark after before u
@@ -116,7 +116,7 @@ module _ (laws : OfTheMachine) where
         leaves_sound = λ were u l. leaves_sound t (g.content new) (g.left old) (g.left new) input a.mark hub sound were u (a.leaves u l);
       }
 
-  -- the reply to what was asked: that it was stopped, where memory or the store gave out
+  -- the reply to a request that was tried: `stopped` if memory ran out or the store failed
   pub replied : {S : Type 0} (g : Ghosts S) (old new : S)
       (input : Input) (answered : Result Reply StoreFault) (body : List ℕ) (given : Reply)
       → body ≡ stopped_line
@@ -141,7 +141,7 @@ module _ (laws : OfTheMachine) where
         ];
       })
 
-  -- the empty reply, where there is no memory to say so
+  -- the empty reply, if there is no memory even for `stopped`
   pub unanswered : {S : Type 0} (g : Ghosts S) (store : S) (input : Input) (given : Reply)
       → given ≡ reply Stopped []
       → SoundHub (g.content store)
@@ -152,7 +152,7 @@ module _ (laws : OfTheMachine) where
     leaves = λ u l. inr (inl (refl, l));
   })
 
--- a fact of one of a list, where it holds of all
+-- what holds of all inputs holds of the one at a position
 pub all_at : (P : Input → Type 0) (xs : List Input) (i : ℕ) (x : Input) → AllByRecursion P xs → drop i xs ≡ x ∷ drop (i + 1) xs → P x
 all_at P xs i x all is = (subst (AllByRecursion P) is (all_drop i xs all)).0
   where
@@ -161,12 +161,12 @@ all_at P xs i x all is = (subst (AllByRecursion P) is (all_drop i xs all)).0
     all_drop (suc i) [] all = tt
     all_drop (suc i) (x ∷ xs) all = all_drop i xs all.1
 
--- a fact where a call failed
+-- what holds after a fault, when a call failed
 pub where_err : {X E P : Type 0} (r : Result X E) → IsErr r → OnErr r P → P
 where_err (Ok x) e p = absurd (false≢true e)
 where_err (Err fault) e p = p
 
--- a run, and one input more
+-- a run with one more input
 run_more : (t : Tables) (inputs : Inputs) (input : Input) (mark : Mark)
     → shared_run t (inputs ++ (input, mark) ∷ [])
     ≡ (

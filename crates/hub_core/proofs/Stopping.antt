@@ -1,4 +1,4 @@
--- An input that is stopped before anything was done does nothing.
+-- Proves that an input that is stopped before anything was done does nothing.
 use Rattle.std.proofs.Common.{◌≡◌, [], inl, refl, ap}
 use Rattle.hub_parties.specs.Rows.{RegisterRows}
 use Rattle.hub_store.specs.declared.store.Store.{Ghosts}

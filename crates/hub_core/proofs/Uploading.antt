@@ -1,4 +1,4 @@
--- What an upload leaves, whatever interchange was opened: tables as sound as before, with the register that they held.
+-- Proves that an upload, whatever was opened, leaves tables as sound as before, with the register that they held.
 use Rattle.std.proofs.Common.{◌≡◌, ℕ, List, [], ◌∷◌, Result, Ok, Err, sym, ap, subst, ◌∙◌}
 use Rattle.edi_envelope.specs.declared.interchange.RawMessage.{RawMessage}
 use Rattle.hub_parties.specs.Rows.{RegisterRows, parties_of}
@@ -25,7 +25,7 @@ use Rattle.hub_core.specs.declared.caller.Caller.{Caller}
 use Rattle.hub_core.specs.declared.caller.Caller.TheVariants.{Retailer, Supplier}
 use Rattle.hub_core.proofs.Callers.{parties_rise}
 
--- what each act leaves, by the laws of acts
+-- what each act leaves
 pub record ActsStay : Type 0 where
   pub of_suppliers :
       (register : RegisterRows) (s : SupplierRow) (message : RawMessage) (incoming : IncomingMessage) (t : Tables)
@@ -43,7 +43,7 @@ pub record ActsStay : Type 0 where
       (register : RegisterRows) (message : RawMessage) (incoming : IncomingMessage) (t : Tables)
       → SoundUnder register.suppliers t → PartiesStay t (deliver_named register (message, incoming) t).1
 
--- another message may come after it, under the same register
+-- another message may follow, under the same register
 record GoesOn (register : RegisterRows) (caller : Caller) (start t : Tables) : Type 0 where
   may : MayDeliver register caller t
   parties : PartiesStay start t
@@ -96,7 +96,7 @@ module _ (laws : ActsStay) (register : RegisterRows) (start : Tables) where
       sound_again caller _ here
       (acts_go caller (looked_at moment mark upload) start (record { may = may; parties = parties_same start }))
 
--- so it is after the call, answered or not
+-- the same after the call, whether it failed or not
 pub opened_sound : {S : Type 0} (g : Ghosts S) (old new : S)
     → ActsStay → (register : RegisterRows) (caller : Caller) (moment : ℕ) (upload : Opened) (count : ℕ)
     (result : Result Reply StoreFault)

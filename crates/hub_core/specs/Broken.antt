@@ -1,4 +1,4 @@
--- Whether the store of a hub is broken after a request and after a run, and what is replied over it then.
+-- Defines how a broken store shows in the replies to a request and to a run.
 use Rattle.std.specs.Prelude.{◌≡◌, ◌⊎◌, ⊤, Bool, IsTrue, List, [], ◌∷◌, Option, None, IsSome, Result, MatchResult}
 use Rattle.std.specs.Option.{IfSome}
 use Rattle.hub_parties.specs.Rows.{RegisterRows}
@@ -13,7 +13,7 @@ use Rattle.hub_requests.specs.declared.reply.Reply.{Reply}
 use Rattle.hub_requests.specs.declared.request.Input.{Input}
 use Rattle.hub_core.specs.Steps.{Does}
 
--- the reply is that to the request over whatever tables, and none is changed: no row of the store is in it
+-- the reply is the same over any tables, and none is changed: no row of the store is in it
 abbrev pub OfNoRow : Does → Reply → Type 0
 OfNoRow does reply = (t : Tables) → does Whole t ≡ (reply, t)
 
@@ -21,20 +21,20 @@ OfNoRow does reply = (t : Tables) → does Whole t ≡ (reply, t)
 abbrev pub StoppedUnless : Does → Reply → Type 0
 StoppedUnless does reply = (reply.outcome ≡ Stopped) ⊎ OfNoRow does reply
 
--- What a request leaves of its store's fault. A broken store stays so, by the same fault, and what needs it is stopped;
--- one that breaks stops the request; a plain one never breaks.
+-- How a request leaves its store. A broken store stays so, with the same fault, and a request that needs it is stopped;
+-- a store that breaks stops the request; a plain store never breaks.
 pub record Breaks (plain : Bool) (does : Does) (old new : Option LastingFault) (reply : Reply) : Type 0 where
   pub after : (new ≡ old) ⊎ ((old ≡ None) × (reply.outcome ≡ Stopped))
   pub again : IfSome old (λ _. StoppedUnless does reply)
   pub over_plain : IsTrue plain → new ≡ old
 
--- What a request leaves of its store's fault if a fault makes the reply a stop.
+-- How a request leaves its store, if a fault makes the reply `stopped`.
 abbrev pub BreaksAsked : Bool → Does → Option LastingFault → Option LastingFault → Result Reply StoreFault → Type 0
 BreaksAsked plain does old new result =
     MatchResult result (Breaks plain does old new)
     (λ _. ((new ≡ old) ⊎ (old ≡ None)) × (IsTrue plain → new ≡ old))
 
--- likewise of a store, before a request and after it
+-- the same for a store, before a request and after it
 module _ {S : Type 0} (g : Ghosts S) (does : Does) (old new : S) where
   abbrev pub BreaksOver : Reply → Type 0
   BreaksOver reply = Breaks g.plain does (g.broken old) (g.broken new) reply
@@ -42,12 +42,12 @@ module _ {S : Type 0} (g : Ghosts S) (does : Does) (old new : S) where
   abbrev pub BreaksAskedOver : Result Reply StoreFault → Type 0
   BreaksAskedOver result = BreaksAsked g.plain does (g.broken old) (g.broken new) result
 
--- An input, as the shared machine answers it under a register. It is that of the hub, and not of the tables: what a
--- broken store answers is said of all tables.
+-- What an input does under a register, as the shared machine answers it. The register is the hub's, not the one in the
+-- tables, because a broken store's replies do not depend on its tables.
 abbrev pub does_input : RegisterRows → Input → Does
 does_input register input mark t = step_under register t input mark
 
--- of each input what needs the store is stopped
+-- each input that needs the store is stopped
 abbrev pub AllStopped : RegisterRows → List Input → List Reply → Type 0
 AllStopped register [] [] = ⊤
 AllStopped register [] (reply ∷ replies) = ⊥
@@ -55,16 +55,16 @@ AllStopped register (input ∷ inputs) [] = ⊥
 AllStopped register (input ∷ inputs) (reply ∷ replies) =
     StoppedUnless (does_input register input) reply × AllStopped register inputs replies
 
--- one of the inputs was stopped, and after it all that needs the store
+-- one input was stopped, and then each one that needs the store
 abbrev pub StoppedSinceOne : RegisterRows → List Input → List Reply → Type 0
 StoppedSinceOne register [] replies = ⊥
 StoppedSinceOne register (input ∷ inputs) [] = ⊥
 StoppedSinceOne register (input ∷ inputs) (reply ∷ replies) =
     ((reply.outcome ≡ Stopped) × AllStopped register inputs replies) ⊎ StoppedSinceOne register inputs replies
 
--- What a run leaves of its store's fault, under the register after it, since nobody joins over a broken store. A broken
--- store stays so, by the same fault, and all that needs it is stopped; one that breaks stops the request at which it
--- does, and then all that needs it; a plain one never breaks.
+-- How a run leaves its store, under the register after the run, because nobody can join over a broken store. A broken
+-- store stays so, with the same fault, and each input that needs it is stopped; a store that breaks stops the input at
+-- which it does, and then each one that needs it; a plain store never breaks.
 pub record RunBreaks (plain : Bool) (register : RegisterRows) (old new : Option LastingFault) (inputs : List Input)
     (replies : List Reply) : Type 0 where
   pub after : (new ≡ old) ⊎ ((old ≡ None) × (IsSome new × StoppedSinceOne register inputs replies))

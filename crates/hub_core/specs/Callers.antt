@@ -1,4 +1,4 @@
--- Who asks, what becomes of its messages, and what it is answered.
+-- Defines what a caller may ask, what its messages do, and the replies to it.
 use Rattle.std.specs.Prelude.{◌≡◌, ⊤, ℕ, List, [], ◌∷◌, Some, Result}
 use Rattle.edi_envelope.specs.declared.interchange.RawMessage.{RawMessage}
 use Rattle.hub_parties.specs.Rows.{RegisterRows, parties_of, role_of, row_of}
@@ -21,51 +21,51 @@ use Rattle.hub_core.specs.Steps.{Asked, Does, acts_of}
 use Rattle.hub_core.specs.declared.caller.Caller.{Caller}
 use Rattle.hub_core.specs.declared.caller.Caller.TheVariants.{Retailer, Supplier}
 
--- the act of a message
+-- the act of a caller's message
 abbrev pub delivered : RegisterRows → Caller → RawMessage × IncomingMessage → Act
 delivered register Retailer = deliver_named register
 delivered register (Supplier s) = deliver_suppliers (view s.now.gln) (parties_of register) s.now
 
--- no prefix of one supplier begins a prefix of another, the tables are sound and the rows of their register rise, and a
--- supplier is registered
+-- no prefix of one supplier begins a prefix of another, the tables are sound, the rows of their register rise, and a
+-- supplier that calls is registered
 abbrev pub MayDeliver : RegisterRows → Caller → Tables → Type 0
 MayDeliver register Retailer t = SoundUnder register.suppliers t × PartiesRise t
 MayDeliver register (Supplier s) t = Registered register.suppliers s.now t × PartiesRise t
 
--- the orders that are kept of a supplier are those that it sees; the retailer's messages ask for none
+-- the orders that are kept for a supplier are those that it sees; the retailer's messages need none
 abbrev pub KeepsFor : Caller → Orders → Tables → Type 0
 KeepsFor Retailer orders t = ⊤
 KeepsFor (Supplier s) orders t = KeepsOrders orders (view s.now.gln t)
 
--- a GLN and a key show this caller
+-- a GLN and a key identify this caller
 abbrev pub IsCaller : RegisterRows → List ℕ → List ℕ → Caller → Type 0
 IsCaller register gln key Retailer = role_of register gln key ≡ Some roles.Retailer
 IsCaller register gln key (Supplier s) =
     (role_of register gln key ≡ Some roles.Supplier) × (row_of register gln ≡ Some s.now)
 
--- a supplier sends to the hub or to the retailer, the retailer to the hub
+-- checks the addresses: a supplier sends to the hub or to the retailer, the retailer to the hub
 abbrev pub addressed_by : RegisterRows → Caller → Opened → Opened
 addressed_by register Retailer = addressed register.retailer (register.hub ∷ [])
 addressed_by register (Supplier s) = addressed s.now.gln (register.hub ∷ register.retailer ∷ [])
 
--- what the bytes of an upload are
+-- what opening an upload's bytes gives
 abbrev pub opening_of : RegisterRows → Caller → List ℕ → Opened
 opening_of register caller bytes = addressed_by register caller (interchange_in bytes)
 
--- what an upload does that was opened as this, with each mark
+-- what an upload that was opened as this does, for each way to stop
 abbrev pub does_opened : RegisterRows → Caller → ℕ → Opened → Does
 does_opened register caller moment opened mark t = uploaded (delivered register caller) moment mark opened t
 
--- it was asked of a store, as one act for each of its messages
+-- the upload was tried over a store, with one act for each of its messages
 abbrev pub OpenedAsked : {S : Type 0} → Ghosts S → RegisterRows → Caller → ℕ → Opened → S → S → Result Reply StoreFault → Type 0
 OpenedAsked g register caller moment opened old new result =
     Asked g old new (acts_of (opened_for (delivered register caller) opened)) (does_opened register caller moment opened) result
 
--- how many acts a request is
+-- the number of acts of a request
 abbrev pub acts_by : RegisterRows → Caller → Request → ℕ
 acts_by register caller request = acts_of (upload_from (opening_of register caller) (delivered register caller) request)
 
--- what somebody asks, as the shared machine answers it
+-- what a caller's request does, as the shared machine answers it
 abbrev pub request_of : RegisterRows → Caller → ℕ → Request → Does
 request_of register Retailer moment request mark = retailer_request register moment mark request
 request_of register (Supplier s) moment request mark =

@@ -1,4 +1,4 @@
--- What the laws say of the machine, and what a reply to an upload tells of one of its messages.
+-- Defines what the laws say of the shared machine, and what a reply to an upload says of one of its messages.
 use Rattle.std.specs.Prelude.{◌≡◌, ◌≢◌, ◌⊎◌, ◌↔◌, ◌<◌, ℕ, List, [], length, slice_get, Some}
 use Rattle.edi_envelope.specs.declared.interchange.Interchange.{Interchange}
 use Rattle.hub_tables.specs.Register.{parties_in}
@@ -16,9 +16,9 @@ use Rattle.hub_requests.specs.declared.reply.Reply.{Reply}
 use Rattle.hub_requests.specs.declared.request.Input.{Input}
 use Rattle.hub_core.specs.Steps.{LinesBalance}
 
--- A sound start stays sound, under the same hub and retailer, and its lines balance. Each GLN but the retailer's sees and
--- is told what it would be alone, and so is the retailer of it. A reply says where its input was stopped; what is stopped
--- before anything was done does nothing.
+-- A sound start stays sound, under the same hub and retailer, and its lines balance. Each GLN but the retailer's sees
+-- what it would see alone, and gets the replies that it would get alone; and the retailer's status of it is as it would
+-- be alone. A reply says where its input was stopped, and an input stopped before anything was done does nothing.
 pub record OfTheMachine : Type 0 where
   pub step_own : (gln : List ℕ) (t : Tables) (input : Input) (mark : Mark) → SoundHub t → IsOther gln t → StepIsOwn gln t input mark
   pub run_own : (gln : List ℕ) (t : Tables) (inputs : Inputs) → SoundHub t → IsOther gln t → RunIsOwn gln t inputs
@@ -32,8 +32,8 @@ pub record OfTheMachine : Type 0 where
   pub empty : (t : Tables) (input : Input) → shared_step t input StoppedEmpty ≡ (with_body Stopped [], t)
   pub bare : (t : Tables) (input : Input) → shared_step t input StoppedBare ≡ (stopped, t)
 
--- Of each message something is told, and this of the one at the place. The reply is that of the upload, or, where it
--- was stopped after some messages, its first lines, among them the message's.
+-- Each message of the upload has a result, and this is the one of the message at this position. The reply is that to
+-- the upload or, if it was stopped after some messages, its first lines, which include the message's.
 pub record TellsOf (upload : Interchange) (place : ℕ) (what : Told) (reply : Reply) : Type 0 where
   pub told : List Told
   pub each : length told ≡ length upload.messages

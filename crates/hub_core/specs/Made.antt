@@ -1,4 +1,4 @@
--- How a hub is made.
+-- Defines what making a hub does.
 use Rattle.std.specs.Prelude.{Result}
 use Rattle.hub_parties.specs.Rows.{RegisterRows}
 use Rattle.hub_tables.specs.Register.{HoldsRegister, register_of}
@@ -6,8 +6,8 @@ use Rattle.hub_store.specs.Calls.{Looks, Fails, ReadsRegister}
 use Rattle.hub_store.specs.declared.fault.StoreFault.{StoreFault}
 use Rattle.hub_store.specs.declared.store.Store.{Ghosts}
 
--- the register of the rows of a store was asked for: what came, and what became of the store, where its rows hold one,
--- and whatever its rows are
+-- The register in a store's rows was read: what was returned, and how the store was left, if its rows hold a register
+-- and if they do not.
 pub record Reads {S : Type 0} (g : Ghosts S) (old new : S) (result : Result RegisterRows StoreFault) : Type 0 where
   pub looks : (g.honest old → HoldsRegister (g.content old)) →
       Looks g.content g.honest g.left g.broken old new (register_of (g.content old)) result

@@ -1,4 +1,4 @@
--- An upload with the code of its fault, as the code has it; and whether memory sufficed to open one.
+-- Defines what opening an upload gives: its interchange or the code of its fault, if there was enough memory.
 use Rattle.std.specs.Borrow.{Bor}
 use Rattle.std.specs.Prelude.{◌≡◌, ◌⊎◌, ⊤, ℕ, List, [], Result, Ok, Err}
 use Rattle.edi_segments.specs.declared.fault.TokenFault.TheVariants as token
@@ -15,23 +15,23 @@ abbrev pub with_code : Result Interchange (Bor (List ℕ)) → Opened
 with_code (Ok interchange) = Ok interchange
 with_code (Err code) = Err code.now
 
--- memory ran out, of the text or of the envelope
+-- memory ran out, for the text or for the envelope
 abbrev pub OfMemory : OpenFault → Type 0
 OfMemory fault = (fault ≡ Token token.Memory) ⊎ (fault ≡ Envelope envelope.Memory)
 
 abbrev pub HasCode : OpenFault → Type 0
 HasCode fault = OfMemory fault → ⊥
 
--- it was opened, or has a fault other than want of memory
+-- the upload was opened, or has a fault other than out of memory
 abbrev pub Sufficed : Result Interchange OpenFault → Type 0
 Sufficed (Ok interchange) = ⊤
 Sufficed (Err fault) = HasCode fault
 
--- memory ran out while it was opened
+-- memory ran out while the upload was opened
 abbrev pub RanOut : Result Interchange OpenFault → Type 0
 RanOut (Ok interchange) = ⊥
 RanOut (Err fault) = OfMemory fault
 
--- the reply to what is stopped before anything was done: the word alone, or nothing where there is no memory for it
+-- the reply to a request stopped before anything was done: the word alone, or nothing if there is no memory for it
 abbrev pub IsStopped : Reply → Type 0
 IsStopped r = (r ≡ stopped) ⊎ (r ≡ reply Stopped [])

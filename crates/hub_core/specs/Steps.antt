@@ -1,4 +1,4 @@
--- What a request did, what a step and a run of a hub did, and what a crash leaves after them.
+-- Defines what a request, a step and a run of a hub do, and what a crash leaves after them.
 use Rattle.std.specs.Prelude.{◌≡◌, ◌≢◌, ◌⊎◌, ◌↔◌, ◌+◌, ⊤, ℕ, List, [], ◌∷◌, ◌++◌, length, map, slice_get}
 use Rattle.std.specs.Prelude.{Option, Some, None, Result, IfOk, OnErr}
 use Rattle.std.specs.List.{AllByRecursion}
@@ -27,60 +27,61 @@ pub record SoundWith (register : RegisterRows) (t : Tables) : Type 0 where
   pub sound : SoundHub t
   pub held : register ≡ register_of t
 
--- a request is no join
+-- the request is not a join
 abbrev pub IsNoJoin : Request → Type 0
 IsNoJoin request = (row : SupplierRow) → request ≢ Join row
 
--- what a request does, with each mark
+-- what a request does, for each way to stop
 abbrev pub Does : Type 0
 Does = Mark → Tables → Reply × Tables
 
--- A join, from whatever tables: the reply is what it is told under the register, or says that it was stopped; and the
--- register takes the supplier's row exactly where the reply says that the join is accepted.
+-- A join, over any tables: the reply is the one under this register, or says that the join was stopped; and the
+-- register accepts the supplier's row exactly if the reply says that the join is accepted.
 pub record JoinAnswered (row : SupplierRow) (old new : RegisterRows) (does : Does) (reply : Reply) : Type 0 where
   pub told : (reply.outcome ≡ Stopped) ⊎ ((t : Tables) → (does Whole t).0 ≡ reply)
   pub moves : MovesBy row old new reply
 
--- how many acts a request is: each message of an upload is one, and so is any other request
+-- the number of acts of a request: one for each message of an upload, and one for any other request
 abbrev pub acts_of : Option Upload → ℕ
 acts_of (Some upload) = length upload.interchange.messages
 acts_of None = 1
 
--- the tables are those after one act more
+-- the tables are those after one more act
 pub record OneMore (count : ℕ) (does : Does) (t : Tables) (mark : Mark) (u : Tables) : Type 0 where
   pub more : Mark
   pub one : acts_done more count ≡ acts_done mark count + 1
   pub is : (does more t).1 ≡ u
 
--- What a crash leaves after a request of so many acts: the tables after the acts that are done; where they changed
--- nothing, what it left before; or the tables after one whole act more, at which the request was stopped.
+-- What a crash leaves after a request with this number of acts: the tables after the acts that are done; if they
+-- changed nothing, what it could leave before; or the tables after one more whole act, at which the request was
+-- stopped.
 abbrev pub Leaves : ℕ → Does → Tables → Mark → Tables → (Tables → Type 0) → Tables → Type 0
 Leaves count does t mark after before u = (u ≡ after) ⊎ (((after ≡ t) × before u) ⊎ OneMore count does t mark u)
 
--- a request was answered, whole or stopped at some place
+-- a request was answered, as a whole or up to where it was stopped
 pub record Answered {S : Type 0} (g : Ghosts S) (old new : S) (count : ℕ) (does : Does) (reply : Reply) : Type 0 where
   pub mark : Mark
   pub is : does mark (g.content old) ≡ (reply, g.content new)
   pub leaves : (u : Tables) → g.left new u → Leaves count does (g.content old) mark (g.content new) (g.left old) u
 
--- a request did nothing: a crash leaves what it left before, or the tables after its one act
+-- a request did nothing: a crash leaves what it could leave before, or the tables after the request's one act
 pub record Undone {S : Type 0} (g : Ghosts S) (old new : S) (count : ℕ) (does : Does) : Type 0 where
   pub same : g.content new ≡ g.content old
   pub leaves : (u : Tables) → g.left new u → g.left old u ⊎ OneMore count does (g.content old) StoppedBare u
 
--- A request over a store. At Ok it is answered, at a fault nothing is done.
+-- A request over a store: at Ok it is answered, and after a fault nothing is done.
 pub record Asked {S : Type 0} (g : Ghosts S) (old new : S) (count : ℕ) (does : Does) (result : Result Reply StoreFault)
     : Type 0 where
   pub answered : g.honest new → IfOk result (λ reply. Answered g old new count does reply)
   pub undone : g.honest new → OnErr result (Undone g old new count does)
 
--- an input, by its parts
+-- an input, from its parts
 abbrev pub input_of : ℕ → List ℕ → List ℕ → Request → Input
 input_of moment caller key request = record { moment = moment; caller = caller; key = key; request = request }
 
--- What is seen of a GLN's rows after a step is what comes of its items alone, and where it is the caller the reply is
--- what it is told alone. A status of it for which the retailer asks is the text of what it sees, or unknown before it
--- has its register row.
+-- A GLN sees after a step what it would see with its items alone, and if it is the caller, it gets the reply that it
+-- would get alone. If the retailer asks for its status, the reply is the text of what it sees, or unknown before it is
+-- registered.
 pub record SeenAlone (gln : List ℕ) (t after : Tables) (input : Input) (mark : Mark) (reply : Reply) : Type 0 where
   pub seen : view gln after ≡ (alone gln (items_of_input gln t input mark) t).1
   pub told : input.caller ≡ gln → (alone gln (items_of_input gln t input mark) t).0 ≡ reply ∷ []
@@ -90,13 +91,13 @@ pub record SeenAlone (gln : List ℕ) (t after : Tables) (input : Input) (mark :
 abbrev pub LeavesOf : Tables → Input → Mark → Tables → (Tables → Type 0) → Tables → Type 0
 LeavesOf t input = Leaves (acts_of (upload_of (register_of t) input)) (λ mark t. shared_step t input mark) t
 
--- on every order line ordered is open, refused, cancelled and despatched together
+-- on every order line, the ordered quantity is the sum of the open, refused, cancelled and despatched ones
 abbrev pub LinesBalance : Tables → Type 0
 LinesBalance t = AllByRecursion (λ line. Balanced (view line.supplier t) line) t.lines
 
--- A step: the shared machine's, whole, or stopped at some place, which the reply says. A sound start stays sound, so
--- lines balance, and each GLN but the retailer's, registered or not yet, sees and is told what it would be alone. What a
--- crash leaves is the acts done, or they and one more, and it is sound where it was.
+-- A step: the shared machine's, as a whole or up to where it was stopped, which the reply says. A sound start stays
+-- sound, so lines balance, and each GLN but the retailer's, registered or not, sees and is told what it would be alone.
+-- A crash leaves the acts that are done, or one more, and a sound start if there was one.
 pub record Stepped (t after : Tables) (before left : Tables → Type 0) (input : Input) (reply : Reply) : Type 0 where
   pub mark : Mark
   pub is : shared_step t input mark ≡ (reply, after)
@@ -108,8 +109,8 @@ pub record Stepped (t after : Tables) (before left : Tables → Type 0) (input :
   pub leaves : (u : Tables) → left u → LeavesOf t input mark after before u
   pub leaves_sound : ((u : Tables) → before u → SoundHub u) → (u : Tables) → left u → SoundHub u
 
--- What is seen of a GLN after a run: what it sees in the end, all replies to it, and a status of it for which the retailer asks at some
--- place, which is the text of what it sees there.
+-- What a GLN sees after a run, all replies to it, and its status if the retailer asks for it at some position, which is
+-- the text of what it sees there.
 pub record RunAlone (gln : List ℕ) (t after : Tables) (inputs : Inputs) (replies : List Reply) : Type 0 where
   pub seen : view gln after ≡ (alone gln (items gln t inputs) t).1
   pub told : replies_to gln inputs replies ≡ (alone gln (items gln t inputs) t).0
@@ -125,7 +126,7 @@ StopsTold ((input, mark) ∷ inputs) [] = ⊥
 StopsTold ((input, mark) ∷ inputs) (reply ∷ replies) =
     ((reply.outcome ≡ Stopped) ↔ (mark ≢ Whole)) × StopsTold inputs replies
 
--- An input of a run was stopped, and the tables are those after one act more of it; the later ones changed nothing.
+-- An input of a run was stopped, and the tables are those after one more act of it; the later inputs changed nothing.
 pub record StoppedSince (t after : Tables) (inputs : Inputs) (u : Tables) : Type 0 where
   pub earlier : Inputs
   pub input : Input
@@ -137,13 +138,13 @@ pub record StoppedSince (t after : Tables) (inputs : Inputs) (u : Tables) : Type
       (shared_run t earlier).1 mark u
   pub since : (shared_run t (earlier ++ (input, mark) ∷ [])).1 ≡ after
 
--- What a crash leaves after a run: the tables after all acts that are done; where they changed nothing, what it left
--- before; or those after one whole act more.
+-- What a crash leaves after a run: the tables after all acts that are done; if they changed nothing, what it could
+-- leave before; or the tables after one more whole act.
 abbrev pub RunLeaves : Tables → Inputs → Tables → (Tables → Type 0) → Tables → Type 0
 RunLeaves t inputs after before u = (u ≡ after) ⊎ (((after ≡ t) × before u) ⊎ StoppedSince t after inputs u)
 
--- A run: the shared machine's over the inputs, each whole or stopped at some place, which its reply says. A sound start
--- stays sound, so lines balance, and each GLN but the retailer's sees and is told what it would be alone.
+-- A run: the shared machine's over the inputs, each as a whole or up to where it was stopped, which its reply says. A
+-- sound start stays sound, so lines balance, and each GLN but the retailer's sees and is told what it would be alone.
 pub record RunBy (t after : Tables) (inputs : List Input) (replies : List Reply) : Type 0 where
   pub marked : Inputs
   pub are : map (λ x. x.0) marked ≡ inputs
@@ -154,7 +155,7 @@ pub record RunBy (t after : Tables) (inputs : List Input) (replies : List Reply)
   pub balance : LinesBalance after
   pub alone : (gln : List ℕ) → IsOther gln t → RunAlone gln t after marked replies
 
--- A run over a store: what a crash leaves is the acts done, or they and one more, and it is sound where it was.
+-- A run over a store: a crash leaves the acts that are done, or one more, and a sound start if there was one.
 pub record Ran (t after : Tables) (before left : Tables → Type 0) (inputs : List Input) (replies : List Reply)
     : Type 0 where
   pub run : RunBy t after inputs replies

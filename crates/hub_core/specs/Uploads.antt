@@ -1,4 +1,4 @@
--- The messages of an upload, one after another.
+-- Defines what the messages of an upload do, one after another.
 use Rattle.std.specs.Prelude.{◌≡◌, ℕ, Bool, List, length, take, Ok}
 use Rattle.std.specs.List.{list_any}
 use Rattle.edi_envelope.specs.declared.interchange.Interchange.{Interchange}
@@ -12,8 +12,8 @@ use Rattle.hub_core.specs.Callers.{MayDeliver, delivered, does_opened}
 use Rattle.hub_core.specs.Steps.{Does}
 use Rattle.hub_core.specs.declared.upload.OpenedUpload.{OpenedUpload}
 
--- An upload whose messages are taken: whether it may deliver them over tables, the act of each, and what it does, with
--- each mark.
+-- For an upload whose messages are handled: whether its caller may send them over these tables, the act of each, and
+-- what the upload does, for each way to stop.
 abbrev pub MayTake : OpenedUpload → Tables → Type 0
 MayTake upload = MayDeliver upload.register.now upload.caller
 
@@ -24,7 +24,7 @@ act_in upload message =
 abbrev pub does_upload : OpenedUpload → Does
 does_upload upload = does_opened upload.register.now upload.caller upload.moment (Ok upload.interchange.now)
 
--- the first so many are done, and told of in the lines
+-- the first messages are done, and the lines report them
 pub record DoneSoFar (deliver : RawMessage × IncomingMessage → Act) (moment : ℕ) (interchange : Interchange)
     (t now : Tables) (count : ℕ) (refused : Bool) (body : List ℕ) : Type 0 where
   pub told : List Told

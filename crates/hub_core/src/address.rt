@@ -1,4 +1,4 @@
-//! Sender and recipient of an upload.
+//! Checks the sender and the recipient of an upload.
 ghost use Rattle.std.specs.Prelude.{◌≡◌, Ok, Err};
 ghost use Rattle.std.specs.List.{list_any};
 ghost use Rattle.std.specs.Option.{IfSome, IfNone};
@@ -20,7 +20,7 @@ fn is_one_of(recipients: &[Gln], named: &[u8]) -> bool
         .any(|gln| named == gln.digits().as_slice())
 }
 
-// Why an interchange is not one of this sender for one of these recipients: E08 or E09.
+// Returns why this sender may not send an interchange to any of these recipients: E08 or E09.
 fn address_fault(
     interchange: &Interchange,
     sender: &Gln,
@@ -40,7 +40,7 @@ fn address_fault(
     Some("E09")
 }
 
-/// Why an interchange is not one that its caller may send: E08 or E09.
+/// Returns why its caller may not send an interchange: E08 or E09.
 pub(crate) fn address_fault_for(
     register: &Register,
     caller: Caller<'_>,

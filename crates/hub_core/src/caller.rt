@@ -1,4 +1,4 @@
-//! Finds out who asks.
+//! Identifies the caller.
 ghost use Rattle.std.specs.Prelude.{◌≡◌, None};
 ghost use Rattle.std.specs.Option.{IfSome, IfNone};
 ghost use Rattle.hub_parties.specs.Rows.{role_of};
@@ -8,7 +8,7 @@ use gs1_ids::Gln;
 use hub_parties::{Role, SupplierRow};
 use hub_register::Register;
 
-/// Who asks, known by its own GLN and its own key.
+/// The caller, identified by its own GLN and key.
 #[derive(Clone, Copy, Debug)]
 pub(crate) enum Caller<'a> {
     /// The retailer.
@@ -17,7 +17,7 @@ pub(crate) enum Caller<'a> {
     Supplier(&'a SupplierRow),
 }
 
-/// Returns who asks, if its own key shows it.
+/// Returns the caller with this GLN, if the key is its own.
 pub(crate) fn caller_of<'a>(register: &'a Register, caller: &Gln, key: &[u8]) -> Option<Caller<'a>>
     ensures some { IfSome result (IsCaller register.now caller.now key.now) }
     ensures none { IfNone result (role_of register.now caller.now key.now ≡ None) }

@@ -1,4 +1,5 @@
-//! A hub: its register and its store, one request, an upload that was opened before, and a run of requests.
+//! Defines a hub, a register over a store, and answers requests: one, an upload that was opened before, or several in a
+//! run.
 ghost use Rattle.std.specs.Prelude.{◌≡◌, ◌≢◌, true, ℕ, List, [], ◌∷◌, ◌++◌, IfOk, OnErr, Ok, Err, MatchResult};
 ghost use Rattle.edi_envelope.specs.Opened.{opened, Opens};
 ghost use Rattle.hub_parties.specs.Rows.{IsRegister, role_of};
@@ -31,9 +32,9 @@ use hub_transactions::STOPPED;
 use std::alloc::Global;
 use std::marker::Model;
 
-/// A hub: its register, and the store of its rows. Of the rows it asks nothing, since a file may hold any; what its
-/// calls promise they promise of sound rows that hold its register, as those of a register alone are, and each call
-/// leaves them so.
+/// A hub: a register, and the store of its rows. A file may hold any rows, so a hub requires nothing of them. What its
+/// calls promise holds for sound rows that hold its register, such as those of a new hub; and each call leaves such
+/// rows.
 #[derive(Drop)]
 pub struct Hub<S: Store> {
     alloc: Global,
@@ -50,8 +51,8 @@ impl<S: Store> Model for Hub<S> {
 }
 
 impl<S: Store> Hub<S> {
-    /// Makes a hub over this store, with the register that its rows hold. If they hold none, or the store has a fault, the
-    /// store comes back with the fault.
+    /// Makes a hub over this store, with the register that its rows hold. If they hold none, or the store has a fault,
+    /// the store comes back with the fault.
     pub fn new(alloc: Global, mut store: S) -> Result<Self, (S, StoreFault)>
         ensures reads { MatchResult result
             (λ hub. Reads S.Store store hub.1 (Ok hub.0))
@@ -69,7 +70,7 @@ impl<S: Store> Hub<S> {
         }
     }
 
-    // Returns the allocator that it was made with.
+    // Returns the allocator of the hub.
     fn allocator(&self) -> Global {
         self.alloc
     }
@@ -86,49 +87,50 @@ impl<S: Store> Hub<S> {
         (register, store)
     }
 
-    /// The store as it is now.
+    /// Returns the store as it is now.
     pub fn store(&self) -> &S
         ensures { result.now ≡ self.now.1 }
     {
         &self.store
     }
 
-    /// Returns why the store has failed for good, if it has: the fault that each look-up and commit answers from now on.
+    /// Returns why the store has failed for good, if it has: the fault that each look-up and commit returns from now
+    /// on.
     pub fn fault(&self) -> Option<LastingFault>
         ensures { result ≡ S.broken self.now.1 }
     {
         self.store.fault()
     }
 
-    /// Returns the side of a caller with this GLN and this key, as the register has it. Takes no memory.
+    /// Returns the role of a caller with this GLN and this key in the register. Takes no memory.
     pub fn role(&self, caller: &Gln, key: &[u8]) -> Option<Role>
         ensures { result ≡ role_of self.now.0 caller.now key.now }
     {
         self.register.may(caller, key)
     }
 
-    /// A law of the register: it keeps what every register keeps.
+    /// States a law of the register: it has the properties of every register.
     pub fn has_a_right_register(&self)
         ensures { IsRegister self.now.0 }
     {
-        // The contract of this call says that the register is one.
+        // This contract says that the register is one.
         let _hub = self.register.hub();
     }
 
-    /// Answers a request that comes at a moment of whoever has this GLN and this key.
+    /// Answers a request that arrives at a moment, from the caller with this GLN and this key.
     ///
-    /// If the caller is not known by the two, or may not ask this, the reply is `denied`. Each message of an upload, a
-    /// cancellation, a join and a taken mark is one act, and one commit. Only a join changes the register, whatever the
-    /// rows are, and only if its reply says that it is accepted; every party that was registered keeps its row. If memory
-    /// or the store gives out, the reply ends in `stopped`, after the lines of what was done; if there is no memory even
-    /// for that, it is empty and nothing was done.
+    /// If they do not identify a caller, or the caller may not ask this, the reply is `denied`. Each message of an
+    /// upload, a cancellation, a join and a taken mark is one act, and one commit. Only a join changes the register,
+    /// whatever the rows are, and only if its reply says that it is accepted; every party that was registered keeps its
+    /// row. If memory runs out or the store fails, the reply ends in `stopped`, after the lines of what was done; if
+    /// there is no memory even for that, it is empty and nothing was done.
     pub fn step(&mut self, moment: Moment, caller: &Gln, key: &[u8], request: Request) -> Reply
         ensures { AnswersInput S.Store self.old self.new (input_of moment caller.now key.now request) result }
     {
         self.reply_to(moment, caller, key, &request)
     }
 
-    // Answers a request, as `step` does, without taking it.
+    // Answers a request by reference, as `step` does.
     fn reply_to(&mut self, moment: Moment, caller: &Gln, key: &[u8], request: &Request) -> Reply
         ensures { AnswersInput S.Store self.old self.new (input_of moment caller.now key.now request.now) result }
     {
@@ -150,8 +152,8 @@ impl<S: Store> Hub<S> {
 
     /// Answers an upload whose bytes were opened before, as `step` answers its bytes.
     ///
-    /// If memory ran out while it was opened, nothing is done, and the reply is `stopped`, whoever asks. Nothing is known
-    /// of an upload that could not be read, so it must not be asked.
+    /// If memory ran out while it was opened, nothing is done, and the reply is `stopped`, whoever calls. Never pass an
+    /// upload that could not be read: nothing is known of it.
     pub fn step_opened(
         &mut self,
         moment: Moment,
@@ -187,8 +189,8 @@ impl<S: Store> Hub<S> {
         reply_or_stop(answered, stopped)
     }
 
-    /// A law of runs, for a caller that asks one request after another: no request at all is a run, and so is a run with
-    /// one step more.
+    /// States a law of runs, for a caller that makes one request after another: no request is a run, and so is a run
+    /// with one more step.
     pub fn steps_are_a_run(&self)
         ensures none { (store : S) → SoundHub (S.content store) → RanOver S.Store store store [] [] }
         ensures more { (old between new : S) (inputs : List Input) (replies : List Reply) (input : Input)
@@ -199,8 +201,8 @@ impl<S: Store> Hub<S> {
         laws_of_the_machine();
     }
 
-    /// Answers requests one after another, each as `step` does. Room for the replies is taken before the first: if there
-    /// is none, no request was looked at.
+    /// Answers requests one after another, each as `step` does. Room for the replies is taken before the first, so if
+    /// there is none, no request was looked at.
     pub fn run(&mut self, inputs: &[Input]) -> Result<Items<Reply>, MemoryFault>
         ensures ran { S.honest self.new.1 → SoundWith self.old.0 (S.content self.old.1) →
             IfOk result (RanOver S.Store self.old.1 self.new.1 inputs.now) }

@@ -1,4 +1,4 @@
-//! Laws of hubs that ran, each the contract of a function that does nothing.
+//! States laws of hubs that ran, each as the contract of a function that does nothing.
 ghost use Rattle.std.specs.Prelude.{◌≡◌, ℕ, ◌+◌, List, length, slice_get, ◌∷◌, ◌++◌, Some};
 ghost use Rattle.edi_envelope.specs.declared.interchange.RawMessage.{RawMessage};
 ghost use Rattle.hub_rules.specs.declared.cancel.Cancel.{Cancel};
@@ -26,11 +26,11 @@ use hub_law::{
     runs_alike, step_is_own, stops_are_told, stops_cut_uploads,
 };
 
-/// Two runs, each of a hub and a store of its own, that agree on a GLN are alike for it: it sees the same in the end,
-/// and all replies to it are the same, byte for byte. They agree on the GLNs of hub and retailer, on its rows at the
-/// start, its prefixes and its key among them or that it has none, and on its items. The other suppliers, the
-/// retailer's key, all other rows and all other inputs may differ. And a status of it for which the retailer asks after
-/// as many of its items in the one as in the other is the same.
+/// Two runs, each of a hub and a store of its own, that agree on a GLN show it the same: it sees the same in the end,
+/// and all replies to it are the same, byte for byte. To agree means: the same GLNs of hub and retailer, the same rows
+/// of the GLN at the start, among them its prefixes and its key or that it has none, and the same items. The other
+/// suppliers, the retailer's key, all other rows and all other inputs may differ. And a status of it for which the
+/// retailer asks after equally many of its items is the same in both.
 pub fn hubs_alike()
     ensures seen { (gln : List ℕ) (t after u later : Tables) (xs ys : List Input)
         (replies answers : List Reply)
@@ -52,8 +52,8 @@ pub fn hubs_alike()
     runs_alike();
 }
 
-/// A message that was accepted: the reply of its step tells of it as accepted, and in the tables of the hub it is
-/// remembered, under its references and with its content, after that step and whatever steps and runs follow.
+/// The reply to a message that was accepted reports it as accepted, and the hub's tables remember it, under its
+/// references and with its content, after that step and whatever steps and runs follow.
 pub fn accepted_by_steps()
     ensures told { (t : Tables) (input : Input) (mark : Mark) (place : ℕ) (message : RawMessage)
         (one : AcceptedAt t input mark place message) →
@@ -68,9 +68,9 @@ pub fn accepted_by_steps()
     stops_cut_uploads();
 }
 
-/// A message that was accepted and comes again, whatever steps and runs of a hub lie between, and whatever a crash
-/// left of them: each leaves the tables of the machine after some inputs with some marks. A step to which it comes
-/// again, and which is not stopped before it, tells of it as repeated, and its act changes nothing.
+/// A message that was accepted and comes again is reported as repeated, and its act changes nothing. Any steps and runs
+/// of a hub may lie between, and any crashes: each leaves the tables of the machine after some inputs, stopped in some
+/// way. The step to which it comes again must not be stopped before it.
 pub fn repeated_by_steps()
     ensures told { (t u : Tables) (before between : Inputs) (first second : Input) (mark other_mark : Mark)
         (place other_place : ℕ) (message : RawMessage)
@@ -93,9 +93,9 @@ pub fn repeated_by_steps()
     stops_cut_uploads();
 }
 
-/// In a run of a hub, a message that was accepted and comes again in a later upload that is looked at and was not
-/// stopped before it, is told of as repeated; and a cancellation that was accepted and comes again, where it was not
-/// stopped, is answered so.
+/// In a run of a hub, a message that was accepted and comes again in a later upload is reported as repeated, if that
+/// upload's messages are handled and it was not stopped before it; likewise a cancellation that was accepted and comes
+/// again, if it was not stopped.
 pub fn repeated_by_hubs()
     ensures message { (t after : Tables) (xs : List Input) (replies : List Reply)
         (run : RunBy t after xs replies)
@@ -122,7 +122,7 @@ pub fn repeated_by_hubs()
     stops_cut_uploads();
 }
 
-/// What the laws say of the machine.
+/// States what the laws say of the shared machine.
 pub(crate) fn laws_of_the_machine()
     ensures { OfTheMachine }
 {

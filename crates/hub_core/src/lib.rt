@@ -1,4 +1,5 @@
-//! The hub: who asks, what is asked, uploads and their messages, one request and a run of them, over a store.
+//! Answers requests to a hub over a store: identifies the caller, and handles uploads and their messages, other
+//! requests, and runs of them.
 #![tactic(auto)]
 
 mod address;

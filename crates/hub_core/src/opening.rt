@@ -1,4 +1,4 @@
-//! An upload is opened.
+//! Opens an upload.
 ghost use Rattle.std.specs.Prelude.{◌≡◌, IfOk, OnErr};
 ghost use Rattle.std.specs.Option.{IfSome, IfNone};
 ghost use Rattle.edi_envelope.specs.Opened.{code_text};
@@ -11,7 +11,7 @@ use edi_envelope::{EnvelopeFault, Interchange, OpenFault, open};
 use edi_tokens::{TokenFault, read_all};
 use std::alloc::{AllocError, Global};
 
-// The code of a fault; there is none for want of memory, and only for that.
+// Returns the code of a fault. Only out of memory has none.
 fn refusal_code(fault: OpenFault) -> Option<&'static str>
     ensures some { IfSome result (λ code. (code.now ≡ code_text fault) × HasCode fault) }
     ensures none { IfNone result (OfMemory fault) }
@@ -22,7 +22,7 @@ fn refusal_code(fault: OpenFault) -> Option<&'static str>
     }
 }
 
-/// An upload that was opened, with the code of the fault that it has, where memory sufficed.
+/// Returns an opened upload, or the code of its fault, if there was enough memory.
 pub(crate) fn with_code(
     upload: Result<Interchange, OpenFault>,
 ) -> Result<Result<Interchange, &'static str>, MemoryFault>
@@ -39,7 +39,7 @@ pub(crate) fn with_code(
     }
 }
 
-// The interchange that bytes are, or the first fault of their text, or else of their envelope.
+// Returns the interchange in these bytes, or the first fault of their text or, if that is valid, of their envelope.
 fn open_bytes(alloc: Global, bytes: &[u8]) -> Result<Interchange, OpenFault>
     ensures { Sufficed result → interchange_in bytes.now ≡ told_as result }
 {
@@ -48,7 +48,7 @@ fn open_bytes(alloc: Global, bytes: &[u8]) -> Result<Interchange, OpenFault>
     Ok(interchange)
 }
 
-/// The interchange that the bytes of an upload are, or the code of their fault.
+/// Returns the interchange in the bytes of an upload, or the code of their fault.
 pub(crate) fn opened_upload(
     alloc: Global,
     upload: &[u8],

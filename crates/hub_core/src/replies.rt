@@ -9,7 +9,7 @@ use hub_store::StoreFault;
 use hub_transactions::refused_line;
 use std::alloc::Global;
 
-/// The reply to who is not known by its key, or may not ask this.
+/// Makes the reply to a caller that is not identified by its key, or may not ask this.
 pub(crate) fn denied_reply(alloc: Global) -> Result<Reply, MemoryFault>
     ensures { IfOk result (λ reply. reply ≡ denied) }
 {
@@ -20,7 +20,7 @@ pub(crate) fn denied_reply(alloc: Global) -> Result<Reply, MemoryFault>
     })
 }
 
-/// The reply to an upload whose text, envelope or addresses have a fault.
+/// Makes the reply to an upload whose text, envelope or addresses have a fault.
 pub(crate) fn refused_upload(alloc: Global, code: &str) -> Result<Reply, MemoryFault>
     ensures { IfOk result (λ reply. reply ≡ refused_reply code.now) }
 {
@@ -31,7 +31,7 @@ pub(crate) fn refused_upload(alloc: Global, code: &str) -> Result<Reply, MemoryF
     })
 }
 
-/// The reply to what was stopped before anything was done.
+/// Makes the reply to a request that was stopped before anything was done.
 pub(crate) fn stopped_reply(body: Items<u8>) -> Reply
     ensures { result ≡ reply Stopped body }
 {
@@ -42,7 +42,7 @@ pub(crate) fn stopped_reply(body: Items<u8>) -> Reply
     }
 }
 
-/// The reply to what was answered; if memory or the store gave out, that it was stopped.
+/// Returns the reply; or `stopped`, if memory ran out or the store failed.
 pub(crate) fn reply_or_stop(answered: Result<Reply, StoreFault>, stopped: Items<u8>) -> Reply
     ensures ok { IfOk answered (λ reply. result ≡ reply) }
     ensures err { OnErr answered (result ≡ reply Stopped stopped) }

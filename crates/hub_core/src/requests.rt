@@ -1,4 +1,4 @@
-//! What is asked, by a supplier or by the retailer.
+//! Answers what a supplier or the retailer asks.
 ghost use Rattle.std.specs.Prelude.{◌≡◌, IfOk, OnErr};
 ghost use Rattle.hub_parties.specs.declared.row.SupplierRow.{SupplierRow};
 ghost use Rattle.hub_tables.specs.Register.{register_of};
@@ -27,7 +27,7 @@ use hub_transactions::{
 };
 use std::alloc::Global;
 
-/// Takes the messages of an upload that was opened, or tells the code of its fault.
+/// Handles the messages of an upload that was opened, or reports the code of its fault.
 pub(crate) fn take_opened<S: Store>(
     alloc: Global,
     register: &Register,
@@ -61,7 +61,7 @@ pub(crate) fn take_opened<S: Store>(
     Ok(take_messages(alloc, &upload, store, reply))
 }
 
-// Opens the bytes of an upload, and takes its messages.
+// Opens the bytes of an upload, and handles its messages.
 fn upload<S: Store>(
     alloc: Global,
     register: &Register,
@@ -81,7 +81,7 @@ fn upload<S: Store>(
     take_opened(alloc, register, caller, store, moment, interchange)
 }
 
-/// What a supplier asks.
+/// Answers a supplier's request.
 pub(crate) fn asked_by_supplier<S: Store>(
     alloc: Global,
     register: &Register,
@@ -116,7 +116,7 @@ pub(crate) fn asked_by_supplier<S: Store>(
     }
 }
 
-/// What the retailer asks. A join alone changes the register, and none where the store is broken.
+/// Answers the retailer's request. Only a join changes the register, and none does over a broken store.
 pub(crate) fn asked_by_retailer<S: Store>(
     alloc: Global,
     register: &mut Register,

@@ -1,4 +1,4 @@
-//! Finds who asks, and answers it.
+//! Identifies the caller, and answers its request.
 ghost use Rattle.std.specs.Prelude.{◌≡◌, ◌≢◌, ℕ, List, IfOk, OnErr, IsErr, Err};
 ghost use Rattle.std.specs.Option.{IfSome};
 ghost use Rattle.edi_envelope.specs.Opened.{opened, Opens};
@@ -23,7 +23,7 @@ use hub_requests::{Reply, Request};
 use hub_store::{Store, StoreFault};
 use std::alloc::Global;
 
-/// Answers a request, where memory and the store suffice.
+/// Answers a request, if there is enough memory and the store does not fail.
 pub(crate) fn answer<S: Store>(
     alloc: Global,
     register: &mut Register,
@@ -57,7 +57,7 @@ pub(crate) fn answer<S: Store>(
     }
 }
 
-/// Answers an upload that was opened before, where memory and the store suffice.
+/// Answers an upload that was opened before, if there is enough memory and the store does not fail.
 pub(crate) fn answer_opened<S: Store>(
     alloc: Global,
     register: &Register,

@@ -1,4 +1,4 @@
-//! The messages of an upload, one after another.
+//! Handles the messages of an upload, one after another.
 ghost use Rattle.std.specs.Prelude.{◌≡◌, ◌||◌, length, OnOk};
 ghost use Rattle.hub_law.specs.Replies.{interchange_line};
 ghost use Rattle.hub_law.specs.Told as law;
@@ -22,7 +22,7 @@ use hub_transactions::{
 };
 use std::alloc::Global;
 
-/// An upload whose messages are taken: its interchange, who sends it, and when, under a register.
+/// An upload whose messages are handled: its interchange, its caller, and the moment, under a register.
 #[derive(Clone, Copy)]
 pub(crate) struct OpenedUpload<'a> {
     pub(crate) register: &'a Register,
@@ -31,7 +31,7 @@ pub(crate) struct OpenedUpload<'a> {
     pub(crate) interchange: &'a Interchange,
 }
 
-// Takes a message of whoever sends it. Orders that are kept of a supplier follow what is committed.
+// Handles one message of the caller. The orders kept for a supplier follow what is committed.
 fn take_message<S: Store>(
     alloc: Global,
     upload: &OpenedUpload<'_>,
@@ -86,8 +86,8 @@ fn either_refused(before: bool, told: Decision) -> bool
     before || told.is_refused()
 }
 
-/// Takes the messages one after another, until one is stopped. An order of the supplier that they name is looked up
-/// once. The reply begins as the line of the interchange, with room for the line `stopped`.
+/// Handles the messages one after another, until one is stopped. Each order that a supplier's messages name is looked
+/// up once. The reply begins with the line of the interchange, and room for the line `stopped`.
 pub(crate) fn take_messages<S: Store>(
     alloc: Global,
     upload: &OpenedUpload<'_>,

@@ -1,4 +1,4 @@
--- What holds of each route's row holds of the one that a walk finds.
+-- Shows that what holds of each route holds of the one that is found.
 use Rattle.std.proofs.Common.{◌≡◌, ℕ, ◌-◌, List, [], ◌∷◌, length, true, false, cond, ltb, ◌==◌, Option, Some}
 use Rattle.std.proofs.Common.{None, subst, zero, suc}
 use Rattle.matchit.specs.Rows.{RowsOf, param_token, catch_all_token, comes_before}
@@ -6,12 +6,12 @@ use Rattle.matchit.specs.Order.{placed}
 use Rattle.matchit.specs.Seek.{own, step, or_else, with_suffix, longest_suffix, segment, has_slash, same_text, param_step, seek, first}
 
 module _ {K : Type 0} (P : K → Type 0) where
-  -- of each row
+  -- holds of each row
   abbrev pub Each : RowsOf K → Type 0
   Each [] = Unit {0}
   Each ((t, key) ∷ rest) = P key × Each rest
 
-  -- of the one that was found, if any
+  -- holds of the row that was found, if any
   abbrev pub Holds : Option K → Type 0
   Holds None = Unit {0}
   Holds (Some key) = P key

@@ -1,4 +1,4 @@
--- How much is read of a connection.
+-- Proves how much is read of a connection.
 use Rattle.std.proofs.Common.{◌≡◌, ℕ, ◌+◌, ◌-◌, ◌≤◌, Bool, true, false, List, [], ◌∷◌, Option, Some, None, Result, Ok, Err}
 use Rattle.std.proofs.Common.{not, nat_lt, refl, arith}
 use Rattle.std.specs.Prelude.{if◌then◌else◌, IfOk, ◌==◌, length}
@@ -20,24 +20,24 @@ use Rattle.hub_http.specs.declared.refusal.Refusal.{Refusal}
 use Rattle.hub_http.specs.declared.refusal.Refusal.TheVariants.{BadRequest, Method, Denied, Length, TooLarge}
 use Rattle.hub_http.specs.declared.route.Route.{Route}
 
--- first so many bytes at most, and then so many more
+-- at most this many bytes, and then at most as many more
 pub both_taken : (a b c : Option (List ℕ)) (first more : ℕ) → TakesAtMost a b first → TakesAtMost b c more
     → TakesAtMost a c (first + more)
 both_taken a b c first more taken later =
     let within = taken.within in
     takes_more a b c taken.front more (first + more) taken.taken later (omega (arith, within))
 
--- no more than fewer
+-- at most a number, and so at most a greater one
 pub taken_within : (a b : Option (List ℕ)) (few many : ℕ) → few ≤ many → TakesAtMost a b few → TakesAtMost a b many
 taken_within a b few many fits taken =
     let within = taken.within in
     record { front = taken.front; taken = taken.taken; within = omega (arith, within, fits) }
 
--- nor than the whole of which a part was there before
+-- at most the whole, of which a part was read before
 pub body_within : (size there : ℕ) (a b : Option (List ℕ)) → TakesAtMost a b (size - there) → TakesAtMost a b size
 body_within size there a b taken = taken_within a b (size - there) size (omega arith) taken
 
--- a size within the limit, where there is one
+-- a size, if there is one, is within the limit
 abbrev Short : Result ℕ Refusal → Type 0
 Short r = IfOk r (λ size. size ≤ longest_body)
 
@@ -101,7 +101,7 @@ at_short : (register : RegisterRows) (head : Heading) (found : Option (Route × 
 at_short register head None = omega arith
 at_short register head (Some (route, parts)) = route_short register head route (first parts) (second parts)
 
--- no longer body is asked for
+-- a head never asks for a longer body
 pub asked_short : (register : RegisterRows) (head : Heading) → size_asked (asked_by register head) ≤ longest_body
 asked_short register head =
     few_if (not (is_single head)) (Err BadRequest) (at_route register head (route_in head.target)) (omega arith)

@@ -1,4 +1,4 @@
--- Who asks has a GLN.
+-- Shows that only a party with a GLN is a caller.
 use Rattle.std.proofs.Common.{◌≡◌, ℕ, List, [], ◌∷◌, Bool, true, false, Some, None, Err, cond, map, refl, sym, ap, ◌∙◌}
 use Rattle.std.specs.List.{list_all}
 use Rattle.std.specs.Str.{bytes_eq}
@@ -13,12 +13,12 @@ use Rattle.hub_http.specs.Asked.{by_party, by_role}
 use Rattle.hub_http.specs.declared.refusal.Refusal.TheVariants.{Denied}
 use Rattle.hub_http.specs.declared.route.Route.{Route}
 
--- what is no GLN differs from a GLN
+-- bytes that are not a GLN differ from every GLN
 differs : (gln party : List ℕ) → is_gln gln ≡ true → is_gln party ≡ false → bytes_eq gln party ≡ false
 differs gln party is none =
     false_from_ne_true (bytes_eq gln party) (λ same. false≢true (sym none ∙ ap is_gln (sym ((bytes_eq-Decides gln party).0 same)) ∙ is))
 
--- no row of suppliers has it
+-- no supplier's row has them
 no_row : (suppliers : List SupplierRow) (party : List ℕ)
     → list_all is_gln (map (λ (row : SupplierRow). row.gln) suppliers) ≡ true
     → is_gln party ≡ false
@@ -28,7 +28,7 @@ no_row (s ∷ suppliers) party all none =
     let parts = and_parts (is_gln s.gln) (list_all is_gln (map (λ (row : SupplierRow). row.gln) suppliers)) all in
     rw (differs s.gln party parts.0 none) (no_row suppliers party parts.1 none)
 
--- nobody asks with it
+-- so nobody calls with them
 pub nobody : (register : RegisterRows) (party key : List ℕ) → IsRegister register → is_gln party ≡ false
     → role_of register party key ≡ None
 nobody register party key right none =
@@ -42,7 +42,7 @@ pub denied : (register : RegisterRows) (head : Heading) (route : Route) (party p
 denied register head route party part number key right none =
     ap (by_role head route party part number key) (sym (nobody register party key right none))
 
--- what is not read as a GLN is no GLN
+-- a text that is not read as a GLN is not one
 pub no_gln : (text : List ℕ) → gln_of text ≡ None → is_gln text ≡ false
 no_gln text none =
     false_from_ne_true (is_gln text) (λ is. none-some text (sym none ∙ ap (λ (b : Bool). cond b (Some text) None) is))

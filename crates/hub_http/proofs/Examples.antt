@@ -1,4 +1,4 @@
--- What connections ask, computed.
+-- Computes what some connections ask.
 use Rattle.std.proofs.Common.{◌≡◌, List, [], ◌∷◌, ℕ, Some, None, Result, Ok, Err, codes, refl}
 use Rattle.hub_requests.specs.declared.request.Request.TheVariants as asks
 use Rattle.hub_parties.specs.Rows.{RegisterRows, rows_by}
@@ -39,7 +39,7 @@ size digits = (codes "content-length", digits)
 abbrev asking : List ℕ → List ℕ → Fields → List ℕ → Heading
 asking method target fields rest = record { method = method; target = target; fields = fields; rest = rest }
 
--- what is asked on a route
+-- the question on a route
 abbrev asked : Route → List (List ℕ) → List ℕ → Fields → List ℕ → Result Question Refusal
 asked route parts method fields rest = and_body rest (at_route register (asking method [] fields rest) (Some (route, parts)))
 

@@ -1,4 +1,4 @@
--- How far requests were read.
+-- Proves whether a request was read to its end.
 use Rattle.std.proofs.Common.{◌≡◌, ℕ, ◌+◌, ◌-◌, ◌<◌, Bool, true, false, not, List, [], ◌∷◌, ◌++◌, length, Option, Some, None}
 use Rattle.std.proofs.Common.{Result, Ok, Err, codes, refl, sym, ap, subst, ◌∙◌, append_assoc, arith}
 use Rattle.std.specs.Prelude.{◌↔◌, if◌then◌else◌, max, nat_lt, IfOk, IfSome}
@@ -27,7 +27,7 @@ use Rattle.hub_http.specs.declared.route.Route.{Route}
 some_same : (a b : ℕ) → Some a ≡ Some b → a ≡ b
 some_same a b e = cc
 
--- So many bytes were read with a head and behind it: they are its body exactly where it has as many.
+-- The bytes read with the head and after it are the request's body exactly if there are as many as it has.
 reached : (front : List ℕ) (known after : Option (List ℕ)) (count read : ℕ) (size : Option ℕ) (told : Bool)
     → TakesExactly known after count
     → length front + count ≡ read
@@ -51,7 +51,7 @@ reached front (Some left) (Some rest) count read (Some size) told takes is tells
           tells.1 (ap Some (omega (arith, there, counted, is, long, whole, other))),
     )
 
--- no more was read than was read with the head
+-- nothing was read after the bytes read with the head
 pub reached_at_once : (front : List ℕ) (known after : Option (List ℕ)) (size : Option ℕ) (told : Bool) → after ≡ known
     → ((told ≡ true) ↔ (size ≡ Some (length front)))
     → TellsBody size front known after told
@@ -60,7 +60,7 @@ reached_at_once front known after size told same tells =
     reached front known after 0 (length front) size told
     (subst (λ (a : Option (List ℕ)). TakesExactly known a 0) (sym same) none) (omega arith) tells
 
--- all of a body was read
+-- the whole body was read
 pub reached_whole : (front : List ℕ) (known after : Option (List ℕ)) (whole : ℕ) (size : Option ℕ) (told : Bool)
     → TakesExactly known after (whole - length front)
     → ((told ≡ true) ↔ (size ≡ Some (max (length front) whole)))
@@ -72,7 +72,7 @@ below : (b : Bool) (xs : List ℕ) → None ≡ (if b then None else Some xs) �
 below true xs e = refl
 below false xs e = absurd (none-some xs e)
 
--- a body that is cut was not read
+-- a body that breaks off was not read
 pub reached_cut : (front : List ℕ) (known after : Option (List ℕ)) (whole : ℕ) (size : Option ℕ) (told : Bool) → told ≡ false
     → IfSome size (λ n. n ≡ whole)
     → IfSome known (λ left. body_in whole (front ++ left) ≡ None)
@@ -92,7 +92,7 @@ reached_cut front (Some left) (Some rest) whole (Some size) told not_so is cut =
           absurd (omega (arith, short, all, counted, is)),
     )
 
--- all of a body was read, or it is cut
+-- the whole body was read, or it breaks off
 pub reached_if : (front : List ℕ) (known after : Option (List ℕ)) (whole : ℕ) (size : Option ℕ) (found : Option (List ℕ)) (told : Bool)
     → IfSome found (λ _. TakesExactly known after (whole - length front))
     → IfSome known (λ left. found ≡ body_in whole (front ++ left))
@@ -113,7 +113,7 @@ ends_none (Some known) None told not_so found = absurd found
 ends_none (Some known) (Some left) told not_so found =
     (λ up. absurd (true≢false (sym up ∙ not_so)), λ end. absurd (found end.head_is.0 end.head.rest end.head_is.1))
 
--- with one, and the bytes behind it
+-- with a head, and the bytes after it
 ends_some : (old new after : Option (List ℕ)) (head : Heading) (told : Bool) → Finds old new (Some head)
     → TellsBody (body_size head) head.rest new after told
     → TellsEnd old after told
@@ -133,7 +133,7 @@ pub ends_with : {A E : Type 0} (told : A → Bool) (old new after : Option (List
 ends_with told old new after head (Ok done) found tells = ends_some old new after head (told done) found tells
 ends_with told old new after head (Err fault) found tells = tt
 
--- the size of what is asked for is that of the body, where this is known
+-- the size that a head asks for is that of the body, if it is known
 abbrev pub Sized : Heading → Result Asked Refusal → Type 0
 Sized head r = IfOk r (λ asked. IfSome (body_size head) (λ size. size ≡ asked.size))
 

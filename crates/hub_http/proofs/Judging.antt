@@ -1,4 +1,4 @@
--- What a head asks for, once its first check passed.
+-- Proves what a head asks for once it has passed the first check.
 use Rattle.std.proofs.Common.{◌≡◌, ℕ, List, Bool, true, false, not, Option, Some, Result, Ok, Err, ap, refl, sym, ◌∙◌}
 use Rattle.std.specs.Prelude.{if◌then◌else◌}
 use Rattle.hub_parties.specs.Rows.{RegisterRows}
@@ -11,7 +11,7 @@ use Rattle.hub_http.specs.declared.route.Route.{Route}
 use Rattle.hub_http.specs.declared.route.Route.TheVariants.{Interchanges, MailAfter, MailItem, MailTaken}
 use Rattle.hub_http.specs.declared.route.Route.TheVariants.{Status, StatusOf, Cancellations}
 
--- every route takes the party first
+-- the party is the first part on every route
 party_first : (route : Route) (path : List ℕ) → party path ≡ first (parts route path)
 party_first Interchanges path = refl
 party_first MailAfter path = refl
@@ -36,7 +36,7 @@ passed_so : (b : Bool) (asked : Asked) (r : Result Asked Refusal) → Ok asked �
 passed_so true asked r e = refl
 passed_so false asked r e = cc
 
--- a head that asks for something passed its first check
+-- a head that asks for something has passed the first check
 pub passed_first : (register : RegisterRows) (head : Heading) (asked : Asked) → Ok asked ≡ asked_by register head
     → is_single head ≡ true
 passed_first register head asked e = passed_so (is_single head) asked (at_route register head (route_in head.target)) e

@@ -1,5 +1,5 @@
--- Which routes two paths take, computed; each computes the whole router. The tests of calls have many more, of the function that
--- is proved to answer this definition.
+-- Computes the routes of two paths; each computes the whole router. The tests of calls try many more paths with the
+-- function that is proved to return what this definition says.
 use Rattle.std.proofs.Common.{◌≡◌, [], ◌∷◌, Some, None, codes, refl}
 use Rattle.matchit.proofs.OnLiterals.{matchit_on_literals}
 use Rattle.hub_http.specs.Paths.{seven, route_at}

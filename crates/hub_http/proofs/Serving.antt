@@ -1,4 +1,4 @@
--- The question of a connection, from its head.
+-- Proves which question a connection asks, from its head.
 use Rattle.std.proofs.Common.{◌≡◌, ℕ, ◌+◌, List, ◌++◌, Option, Some, None, Result, Ok, Err, Bool, true, false, refl, inl, inr}
 use Rattle.std.proofs.Common.{ap, sym, subst, ◌∙◌}
 use Rattle.std.specs.Prelude.{IfOk, IfSome, OnErr}
@@ -20,7 +20,7 @@ use Rattle.hub_http.specs.declared.answer.Answered.{Answered}
 use Rattle.hub_http.specs.declared.refusal.Refusal.{Refusal}
 use Rattle.hub_http.specs.declared.refusal.Refusal.TheVariants.{BadRequest}
 
--- what holds whatever comes of a call holds where it failed
+-- what holds whatever a call returns holds if it failed
 pub on_err : {A E : Type 0} {P : Type 0} (r : Result A E) → P → OnErr r P
 on_err (Ok a) p = tt
 on_err (Err e) p = p
@@ -32,7 +32,7 @@ module _ (register : RegisterRows) where
   cut_before None new taken = tt
   cut_before (Some known) new taken = inl taken
 
-  -- and behind it
+  -- a read failed after the head
   pub cut_behind : (old new after : Option (List ℕ)) (head : Heading) → Finds old new (Some head)
       → TakesAtMost old new longest_head
       → TakesAtMost new after (announced_by register (Some head))
@@ -43,7 +43,7 @@ module _ (register : RegisterRows) where
       inr (before left head, found, both_taken (Some known) (Some left) after _ _ first more)
 
 module _ (Replies : Question → Reply → Type 0) (Same : Type 0) (register : RegisterRows) where
-  -- where it is known what was answered, it is known what was asked
+  -- whoever knows the answer knows the question
   one_step : (passed : Bool) (question : Result Question Refusal) (answer : Answer)
       → Answers Replies Same passed question answer → OneStep Replies Same
   one_step passed (Ok question) answer (inl ends) = inr (question, ends.0, ends.1)
@@ -66,7 +66,7 @@ module _ (Replies : Question → Reply → Type 0) (Same : Type 0) (register : R
     taken = taken;
   }
 
-  -- with one, and the bytes behind it
+  -- with a head, and the bytes after it
   serves_head : (old new after : Option (List ℕ)) (head : Heading) (answer : Answer) → Finds old new (Some head)
       → TakesAtMost old after (longest_head + announced_by register (Some head))
       → IfSome new (λ left. Answers Replies Same (is_single head) (question_of register (Some (before left head))) answer)
@@ -91,7 +91,7 @@ module _ (Replies : Question → Reply → Type 0) (Same : Type 0) (register : R
       serves_head old new after head answered.answer found (both_taken old new after _ _ first more) answers
   serves_some old new after head (Err e) found first more answers = tt
 
-  -- what is answered to what a head asks for, with the bytes behind it, is answered to these
+  -- the answer to a head with the bytes after it is the answer to the bytes of the connection
   pub answers_head : {E : Type 0} (known : Option (List ℕ)) (head : Heading) (asked : Asked) (rest : List ℕ)
       (r : Result Answered E)
       → Ok asked ≡ asked_by register head
@@ -109,7 +109,7 @@ module _ (Replies : Question → Reply → Type 0) (Same : Type 0) (register : R
       (sym (passed_first register head asked asks))
       (subst (λ (q : Result Question Refusal). Answers Replies Same true q answered.answer) is answers)
 
-  -- a front of the response was written
+  -- a prefix of the response was written
   pub ended_cut : (known after was is : Option (List ℕ)) (answer : Answer)
       → IfSome known (λ bytes. Serves Replies Same register bytes after answer)
       → AppendsFront was is (response answer)
@@ -117,7 +117,7 @@ module _ (Replies : Question → Reply → Type 0) (Same : Type 0) (register : R
   ended_cut None after was is answer serves front = tt
   ended_cut (Some bytes) after was is answer serves front = (answer, serves, front)
 
-  -- all of it was
+  -- the whole response was written
   pub ended_whole : (known after was is : Option (List ℕ)) (answer : Answer) (status : ℕ)
       → IfSome known (λ bytes. Serves Replies Same register bytes after answer)
       → Appends was is (response answer)

@@ -1,4 +1,4 @@
--- The parts that the seven routes take, from the path alone.
+-- Proves that the seven routes take the parts that are computed from the path alone.
 use Rattle.std.proofs.Common.{◌≡◌, ℕ, ◌+◌, List, [], ◌∷◌, ◌++◌, length, map, drop}
 use Rattle.std.proofs.Common.{Bool, true, false, cond, ltb, suc, Some, Result}
 use Rattle.std.proofs.Common.{Ok, Err, codes, refl, ap, ◌∙◌, arith}
@@ -17,11 +17,11 @@ use Rattle.hub_http.specs.declared.route.Route.TheVariants.{StatusOf, Cancellati
 use Rattle.std.proofs.lemmas.Bool.{ltb-true, ltb-false}
 use Rattle.hub_http.proofs.Among.{Each, each_placed, found_holds}
 
--- what was read of a route takes the parts that it has
+-- a route takes these parts
 abbrev pub Takes : RouteOf Route → Type 0
 Takes r = (path : List ℕ) → parts_by r path ≡ parts r.value path
 
--- the tokens are all bytes that stand for themselves
+-- every token is a byte that matches itself
 abbrev pub are_literals : List ℕ → Bool
 are_literals [] = true
 are_literals (x ∷ w) = cond (ltb x param_token) (are_literals w) false
@@ -33,7 +33,7 @@ begin_by false k len at e = omega (arith, ltb-false at len e)
 begin_next : (k len at : ℕ) → begin k len (next_at len at) ≡ begin (suc k) len at
 begin_next k len at = begin_by (ltb at len) k len at refl
 
--- a walk over them
+-- matching such tokens
 literals : (w rest : List ℕ) (len token at : ℕ) → are_literals w ≡ true
     → wild_from (w ++ rest) len token at ≡ wild_from rest len (token + length w) (begin (length w) len at)
 literals [] rest len token at all =
@@ -52,7 +52,7 @@ literals (x ∷ w) rest len token at all =
       | false ↦ λ all. absurd (cc)
     ] all
 
--- one part, and two
+-- routes with one part, and with two
 one : (pattern text path : List ℕ) (name : ℕ × ℕ) (token at : ℕ) → wild_from pattern (length path) 0 0 ≡ (token, at)
     → map (λ pair. pair.1) (walk pattern text path (name ∷ []) 0 0) ≡ part_of path at (wild_stop pattern token path at) ∷ []
 one pattern text path name token at e = ap (λ w. part_of path w.1 (wild_stop pattern w.0 path w.1) ∷ []) e
@@ -136,7 +136,7 @@ each_seven =
     (each_added _ MailAfter _ mail_after_takes
     (each_added _ Interchanges _ interchanges_takes tt))))))
 
--- the parts of a path, where a route is found
+-- the parts of a path whose route is found
 pub found_parts : (path : List ℕ) (r : RouteOf Route) → first seven path ≡ Some r → route_at path ≡ Some (r.value, parts r.value path)
 found_parts path r e =
     ap (with_parts path) e ∙ ap (λ l. Some (r.value, l)) (found_holds Takes seven path r each_seven e path)

@@ -1,4 +1,4 @@
--- An upload that was opened as it was read is what its body is opened as.
+-- Proves that an upload opened while it is read is the upload that its body opens as.
 use Rattle.std.proofs.Common.{◌≡◌, ◌≢◌, ◌⊎◌, ℕ, ◌+◌, ◌-◌, ◌<◌, ◌≤◌, Bool, true, List, [], ◌++◌, length, take, Option, Some, None}
 use Rattle.std.proofs.Common.{Result, Ok, Err, inl, inr, refl, sym, ap, subst, ◌∙◌, arith}
 use Rattle.std.specs.Prelude.{IfSome}
@@ -28,7 +28,7 @@ use Rattle.hub_http.specs.declared.refusal.Refusal.TheVariants.{BadRequest}
 use Rattle.hub_http.specs.declared.route.Route.{Route}
 use Rattle.hub_http.specs.declared.route.Route.TheVariants.{Interchanges}
 
--- where no read failed, the reader's flag stays
+-- if no read failed, the reader's flag stays
 cause_kept : (fault : TokenFault) (old new : Bool) → fault ≢ token.Read → HasCause fault old new → new ≡ old
 cause_kept token.TooLong old new read cause = cause
 cause_kept token.ServiceString old new read cause = cause
@@ -45,13 +45,13 @@ flag_kept (Ok interchange) old new read flag = flag
 flag_kept (Err (Token fault)) old new read flag = cause_kept fault old new (λ is. read (ap (λ f. Err (Token f)) is)) flag
 flag_kept (Err (Envelope fault)) old new read flag = flag
 
--- bytes that were taken, and no more than there is room for
+-- bytes were taken, and not more than there is room for
 pub taken_of : (a b : Option (List ℕ)) (room left limit : ℕ) → room ≡ limit → TakesOf a b room left → TakesAtMost a b limit
 taken_of a b room left limit is takes =
     let counted = takes.counted in
     record { front = takes.front; taken = takes.consumed; within = omega (arith, counted, is) }
 
--- all that was announced came, or it is cut
+-- all announced bytes arrived, or the body breaks off
 module _ (size room missing : ℕ) (front : List ℕ) (is : room ≡ size - length front) where
   pub whole_body : (known after : Option (List ℕ)) (upload : Result Interchange OpenFault)
       → TakesOf known after room missing
@@ -79,7 +79,7 @@ module _ (size room missing : ℕ) (front : List ℕ) (is : room ≡ size - leng
       omega (arith, length-append front left, long, ap length end, counted, some, is) in
       rw (lt-ltb (length (front ++ left)) size short) refl
 
--- what the lender has read, and what was then read away
+-- the bytes that the lender has read, and those that were then read and dropped
 away_takes : {E : Type 0} (before after : Option (List ℕ)) (l : Lender) (result : Result ℕ E) → ReadsAway before after l result
     → (left : ℕ) × TakesOf before after (room_of l) left
 away_takes before after l (Ok missing) away = (missing, away.0)
@@ -133,7 +133,7 @@ module _ (Replies : Question → Reply → Type 0) (Same : Type 0) (asked : Aske
   asks_upload : (bytes : List ℕ) → asked.route ≡ Interchanges → with_body asked (Some bytes) ≡ Ok (uploading asked bytes)
   asks_upload bytes route = ap (λ (r : Route). of_asker asked (request_for r asked.part asked.number bytes)) route
 
-  -- what is answered to an upload is answered to what its body asks
+  -- the answer to an upload is the answer to what its body asks
   pub answers_upload : (body : List ℕ → Option (List ℕ)) (known : Option (List ℕ)) (upload : Result Interchange OpenFault)
       (answer : Answer) → asked.route ≡ Interchanges
       → IfSome known (λ left. IsUpload (Some upload) (body left))

@@ -1,4 +1,4 @@
--- What is answered, and what became of the hub.
+-- Defines the answer to a connection, and how it leaves the hub.
 use Rattle.std.specs.Prelude.{◌≡◌, ◌⊎◌, ◌+◌, ℕ, Bool, true, false, List, Option, Some, None, Result, Ok, Err}
 use Rattle.edi_base.specs.Source.{TakesAtMost}
 use Rattle.hub_core.specs.HubLaw.Replies.{stopped_line}
@@ -19,7 +19,7 @@ use Rattle.hub_http.specs.declared.answer.Text.TheVariants.{Fixed, Made}
 use Rattle.hub_http.specs.declared.refusal.Refusal.{Refusal}
 use Rattle.hub_store.specs.declared.store.Store.{Ghosts}
 
--- the status for what became of a request
+-- the status for the outcome of a request
 abbrev pub outcome_status : Outcome → ℕ
 outcome_status Done = 200
 outcome_status Bad = 400
@@ -31,17 +31,17 @@ abbrev pub bytes_of : Text → List ℕ
 bytes_of (Fixed bytes) = bytes.now
 bytes_of (Made bytes) = bytes
 
--- this status, and this body
+-- the answer has this status and this body
 pub record Says (status : ℕ) (text : List ℕ) (answer : Answer) : Type 0 where
   pub status_is : answer.status ≡ status
   pub text_is : bytes_of answer.text ≡ text
 
--- a question was asked of the hub at a moment, and this was the reply
+-- the hub was asked a question at a moment, and gave this reply
 abbrev pub Steps : {S : Type 0} → Ghosts S → ℕ → RegisterRows × S → RegisterRows × S → Question → Reply → Type 0
 Steps g moment old new question reply =
     StepsFrom g old new (input_of moment question.gln question.key question.request) reply
 
--- what holds of a hub that was not asked for a join, whatever else it was asked
+-- what holds of a hub that was asked anything but a join
 pub record Stays {S : Type 0} (g : Ghosts S) (old new : RegisterRows × S) : Type 0 where
   pub held : StaysSound g old new
   pub register : new.0 ≡ old.0
@@ -62,25 +62,25 @@ module _ (Replies : Question → Reply → Type 0) (Same : Type 0) where
   abbrev pub Stops : Answer → Type 0
   Stops answer = Same × Says 503 stopped_line answer
 
-  -- memory is asked for only behind the first check
+  -- memory is only needed after the first check
   abbrev pub Answers : Bool → Result Question Refusal → Answer → Type 0
   Answers passed question answer = Ends question answer ⊎ ((passed ≡ true) × Stops answer)
 
-  -- the answer to whatever was asked, or to what is refused, or to want of memory
+  -- the answer to some question, or to some refusal, or to memory that was refused
   abbrev pub AnswersWhatever : Answer → Type 0
   AnswersWhatever answer = (question : Result Question Refusal) × Answers true question answer
 
-  -- that, and the reader's flag stays; or a read failed, and the hub is as before
+  -- such an answer, and the reader's flag stays; or a read failed, and the hub is as before
   abbrev pub AnswersOrFails : {E : Type 0} → Bool → Bool → Result Answered E → Type 0
   AnswersOrFails failed_before failed (Ok answered) = AnswersWhatever answered.answer × (failed ≡ failed_before)
   AnswersOrFails failed_before failed (Err fault) = Same × (failed ≡ true)
 
--- the first check: a head stands there, and its key and its length at most once
+-- the first check: there is a head, with its key and its length at most once
 abbrev pub passes : Option Heading → Bool
 passes None = false
 passes (Some head) = is_single head
 
--- how many bytes a body was announced to have, where it was looked at
+-- the announced size of a body, if it is read
 abbrev pub size_asked : Result Asked Refusal → ℕ
 size_asked (Ok asked) = asked.size
 size_asked (Err refusal) = 0
@@ -89,8 +89,7 @@ abbrev pub announced_by : RegisterRows → Option Heading → ℕ
 announced_by register None = 0
 announced_by register (Some head) = size_asked (asked_by register head)
 
--- What the bytes of a connection ask was answered. No more was taken of them than a head has and the body was announced
--- to have.
+-- The answer to what the bytes of a connection ask. At most a head and the announced body were taken of them.
 pub record Serves (Replies : Question → Reply → Type 0) (Same : Type 0) (register : RegisterRows) (bytes : List ℕ)
     (after : Option (List ℕ)) (answer : Answer) : Type 0 where
   pub question : Result Question Refusal
@@ -98,8 +97,8 @@ pub record Serves (Replies : Question → Reply → Type 0) (Same : Type 0) (reg
   pub answers : Answers Replies Same (passes asks.head) question answer
   pub taken : TakesAtMost (Some bytes) after (longest_head + announced_by register asks.head)
 
--- How much was taken where a read failed: no more than a head has, or than the head that stands there and the body that
--- it announced.
+-- How much was taken if a read failed: at most the longest head, or at most the head that is there and the body that it
+-- announced.
 abbrev pub ReadsWithin : RegisterRows → List ℕ → Option (List ℕ) → Type 0
 ReadsWithin register bytes after = TakesAtMost (Some bytes) after longest_head
     ⊎ ((head : Heading) × HeadIs bytes (Some head)

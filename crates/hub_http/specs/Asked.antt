@@ -1,5 +1,5 @@
--- What the head of a request asks for, and who asks; or why it is refused. The checks come in this order: a key or a
--- length that stands twice, the path, the method, who asks, the length of the body.
+-- Defines what the head of a request asks for, and who calls; or why it is refused. The checks come in this order: a
+-- key or a length that occurs twice, the path, the method, the caller, the length of the body.
 use Rattle.std.specs.Prelude.{ℕ, Bool, ◌&&◌, ◌==◌, not, nat_lt, if◌then◌else◌, List, [], ◌∷◌, length}
 use Rattle.std.specs.Prelude.{codes, Option, Some, None, Result, Ok, Err}
 use Rattle.std.specs.List.{list_any}
@@ -17,7 +17,7 @@ use Rattle.hub_http.specs.declared.refusal.Refusal.{Refusal}
 use Rattle.hub_http.specs.declared.refusal.Refusal.TheVariants.{BadRequest, Unknown, Method, Denied, Length, TooLarge}
 use Rattle.hub_http.specs.declared.route.Route.{Route}
 
--- the names of the fields that are looked at
+-- the names of the fields that are used
 abbrev pub key_field : List ℕ
 key_field = codes "X-Hub-Key"
 
@@ -30,7 +30,7 @@ encoding_field = codes "Transfer-Encoding"
 abbrev pub at_most_once : List (List ℕ) → Bool
 at_most_once values = nat_lt (length values) 2
 
--- the key and the length each stand at most once
+-- the key and the length each occur at most once
 abbrev pub is_single : Heading → Bool
 is_single head =
     at_most_once (values_of key_field head.fields) && at_most_once (values_of length_field head.fields)
@@ -43,34 +43,34 @@ has_query target = list_any (λ byte. byte == 0x3F) target
 abbrev pub route_in : List ℕ → Option (Route × List (List ℕ))
 route_in target = if has_query target then None else route_at target
 
--- how many bytes a body has at most: as many as the longest upload
+-- the greatest number of bytes of a body: as many as the longest upload
 abbrev pub longest_body : ℕ
 longest_body = text_limit
 
--- how long a body is, by the value of its length (RFC 9110, section 8.6), which has no more digits than a head has room
--- for
+-- the length of a body, from the value of its field (RFC 9110, section 8.6); there are at most as many digits as fit
+-- into a head
 abbrev pub size_in : List ℕ → Result ℕ Refusal
 size_in value =
     if not (are_digits 1 longest_head value) then Err BadRequest
     else if nat_lt longest_body (number_of value) then Err TooLarge
     else Ok (number_of value)
 
--- by the values of all lengths that stand in the head
+-- the length of a body, from the values of all length fields
 abbrev pub announced : List (List ℕ) → Result ℕ Refusal
 announced [] = Err Length
 announced (value ∷ []) = size_in value
 announced (value ∷ other ∷ values) = Err BadRequest
 
--- the body of a POST does not come in pieces
+-- the length of a POST's body, which does not come in pieces
 abbrev pub posted : List (List ℕ × List ℕ) → Result ℕ Refusal
 posted fields =
     if length (values_of encoding_field fields) == 0 then announced (values_of length_field fields) else Err Length
 
--- no other body is looked at
+-- no other body is read
 abbrev pub size_of : Route → List (List ℕ × List ℕ) → Result ℕ Refusal
 size_of route fields = if is_post route then posted fields else Ok 0
 
--- what is asked for, who asks with which key, and how long the body is
+-- what is asked for, by which caller with which key, and how long the body is
 pub record Asked : Type 0 where
   pub route : Route
   pub part : List ℕ
@@ -84,24 +84,24 @@ with_size route gln part number key (Ok size) =
     Ok (record { route = route; part = part; number = number; gln = gln; key = key; size = size })
 with_size route gln part number key (Err refusal) = Err refusal
 
--- by the side of who asks
+-- for a caller with this role
 abbrev pub by_role : Heading → Route → List ℕ → List ℕ → ℕ → List ℕ → Option Role → Result Asked Refusal
 by_role head route gln part number key None = Err Denied
 by_role head route gln part number key (Some role) =
     if may_ask role route then with_size route gln part number key (size_of route head.fields) else Err Denied
 
--- by the party that the path names first
+-- for the party that comes first in the path
 abbrev pub by_party : RegisterRows → Heading → Route → List ℕ → List ℕ → ℕ → List ℕ → Result Asked Refusal
 by_party register head route party part number key =
     by_role head route party part number key (role_of register party key)
 
--- with the one key of the head
+-- with the only key of the head
 abbrev pub by_keys : RegisterRows → Heading → Route → List ℕ → List ℕ → ℕ → List (List ℕ) → Result Asked Refusal
 by_keys register head route party part number [] = Err Denied
 by_keys register head route party part number (key ∷ []) = by_party register head route party part number key
 by_keys register head route party part number (key ∷ other ∷ keys) = Err Denied
 
--- by the number in the path, where it is one
+-- by the number in the path, if it is one
 abbrev pub by_number : RegisterRows → Heading → Route → List ℕ → List ℕ → Option ℕ → Result Asked Refusal
 by_number register head route party part None = Err Unknown
 by_number register head route party part (Some number) =

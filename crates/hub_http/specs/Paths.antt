@@ -1,6 +1,6 @@
--- The route of a path, by what a router of seven routes finds. A path is the target of a request in origin form without
--- its query (RFC 9112, section 3.2.1). How a route is written, which one a path has, and what of the path stands in the
--- route's braces are the definitions of the kit's `matchit`: in braces stands a segment, or what is left of one.
+-- Defines the route of a path as what a router of seven routes finds. A path is the target of a request in origin form
+-- without its query (RFC 9112, section 3.2.1). How a route is written, which one a path has, and which part of the path
+-- the route's braces take is as the router `matchit` defines it: braces take a segment, or the rest of one.
 use Rattle.std.specs.Prelude.{◌≡◌, ℕ, List, [], map, Option, Some, None, Result, Ok, Err, codes}
 use Rattle.matchit.specs.Rows.{RowsOf}
 use Rattle.matchit.specs.Order.{placed}
@@ -14,11 +14,11 @@ use Rattle.hub_http.specs.declared.route.Route.{Route}
 use Rattle.hub_http.specs.declared.route.Route.TheVariants.{Interchanges, MailAfter, MailItem, MailTaken}
 use Rattle.hub_http.specs.declared.route.Route.TheVariants.{Status, StatusOf, Cancellations}
 
--- the texts of a router's routes, each with the route that it stands for
+-- the texts of a router's routes, each with its route
 abbrev pub Routes : Type 0
 Routes = RowsOf (RouteOf Route)
 
--- the routes with what was read of one more
+-- the routes with one more, as its text was read
 abbrev pub added_scan : Result Scan InsertError → Route → Routes → Routes
 added_scan (Ok scan) route routes = placed (scan.pattern, route_from scan route) routes
 added_scan (Err wrong) route routes = routes
@@ -44,7 +44,7 @@ routes_in p = p.router
 abbrev pub IsSeven : Inside → Type 0
 IsSeven p = p.router ≡ seven
 
--- the parts in braces that a route took from a path
+-- the parts that a route's braces take from a path
 abbrev pub parts_by : RouteOf Route → List ℕ → List (List ℕ)
 parts_by found path = map (λ named. named.1) (walk found.pattern found.text path found.names 0 0)
 
@@ -53,6 +53,6 @@ abbrev pub with_parts : List ℕ → Option (RouteOf Route) → Option (Route ×
 with_parts path None = None
 with_parts path (Some found) = Some (found.value, parts_by found path)
 
--- the route of a path, and its parts in braces
+-- the route of a path, and the parts that its braces take
 abbrev pub route_at : List ℕ → Option (Route × List (List ℕ))
 route_at path = with_parts path (first seven path)

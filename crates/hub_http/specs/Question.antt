@@ -1,4 +1,4 @@
--- What the bytes of a connection ask of the hub, and by whom; or why they are refused.
+-- Defines what the bytes of a connection ask of the hub, and by which caller; or why they are refused.
 use Rattle.std.specs.Prelude.{◌≡◌, ℕ, List, Option, Some, None, Result, Ok, Err}
 use Rattle.gs1_ids.specs.Gln.{gln_of}
 use Rattle.hub_parties.specs.Rows.{RegisterRows}
@@ -20,12 +20,12 @@ abbrev pub cancelled : Option Cancellation → Result Request Refusal
 cancelled (Some cancel) = Ok (asks.Cancel cancel)
 cancelled None = Err BadRequest
 
--- the status of a supplier; what is no GLN is no supplier
+-- the status of a supplier; a text that is not a GLN names none
 abbrev pub supplied : Option (List ℕ) → Result Request Refusal
 supplied (Some supplier) = Ok (asks.StatusOf supplier)
 supplied None = Err Unknown
 
--- what is asked, with the part of the path, its number and the body
+-- the request on a route, with the part of the path, its number and the body
 abbrev pub request_for : Route → List ℕ → ℕ → List ℕ → Result Request Refusal
 request_for Interchanges part number body = Ok (asks.Upload body)
 request_for MailAfter part number body = Ok (asks.MailAfter number)
@@ -35,7 +35,7 @@ request_for Status part number body = Ok asks.Status
 request_for StatusOf part number body = supplied (gln_of part)
 request_for Cancellations part number body = cancelled (cancel_of body)
 
--- who asks, with which key, and what
+-- who calls with which key, and what is asked
 pub record Question : Type 0 where
   pub gln : List ℕ
   pub key : List ℕ
@@ -52,7 +52,7 @@ of_asker asked (Err refusal) = Err refusal
 abbrev pub uploading : Asked → List ℕ → Question
 uploading asked bytes = question_as asked (asks.Upload bytes)
 
--- with the body, none where it is cut
+-- the request with the body; a body that breaks off is refused
 abbrev pub request_with : Asked → Option (List ℕ) → Result Request Refusal
 request_with asked (Some body) = request_for asked.route asked.part asked.number body
 request_with asked None = Err BadRequest
@@ -64,13 +64,13 @@ abbrev pub and_body : List ℕ → Result Asked Refusal → Result Question Refu
 and_body rest (Ok asked) = with_body asked (body_in asked.size rest)
 and_body rest (Err refusal) = Err refusal
 
--- what a connection asks, by the head at the front of its bytes
+-- what a connection asks, by the head at the start of its bytes
 abbrev pub question_of : RegisterRows → Option Heading → Result Question Refusal
 question_of register None = Err BadRequest
 question_of register (Some head) = and_body head.rest (asked_by register head)
 
--- What the bytes of a connection ask of the hub, or why they are refused. There is one such answer, since there is one
--- head at most.
+-- What the bytes of a connection ask of the hub, or why they are refused. There is exactly one such answer, because
+-- there is at most one head.
 pub record Asks (register : RegisterRows) (bytes : List ℕ) (question : Result Question Refusal) : Type 0 where
   pub head : Option Heading
   pub head_is : HeadIs bytes head

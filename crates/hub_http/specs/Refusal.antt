@@ -1,4 +1,4 @@
--- What is answered where nothing is asked of the hub (status codes of RFC 9110, section 15).
+-- Defines the answer if nothing is asked of the hub (status codes of RFC 9110, section 15).
 use Rattle.std.specs.Prelude.{ℕ, List, codes}
 use Rattle.hub_http.specs.declared.refusal.Refusal.{Refusal}
 use Rattle.hub_http.specs.declared.refusal.Refusal.TheVariants.{BadRequest, Unknown, Method, Denied, Length, TooLarge}

@@ -1,4 +1,4 @@
--- By which method and side a route is asked for, and the number that stands in it.
+-- Defines the method and the role for a route, and the number in its path.
 use Rattle.std.specs.Prelude.{ℕ, Bool, true, false, if◌then◌else◌, List, codes, Option, Some}
 use Rattle.hub_parties.specs.declared.role.Role.{Role}
 use Rattle.hub_parties.specs.declared.role.Role.TheVariants.{Retailer, Supplier}
@@ -19,7 +19,7 @@ is_post Cancellations = true
 abbrev pub method_of : Route → List ℕ
 method_of route = if is_post route then codes "POST" else codes "GET"
 
--- mail and the own status are for suppliers, the status of a supplier and cancellations for the retailer
+-- mail and one's own status are for suppliers; the status of a supplier and cancellations are for the retailer
 abbrev pub may_ask : Role → Route → Bool
 may_ask Retailer Interchanges = true
 may_ask Retailer MailAfter = false
@@ -36,7 +36,7 @@ may_ask Supplier Status = true
 may_ask Supplier StatusOf = false
 may_ask Supplier Cancellations = false
 
--- the number of an entry, 1 to 14 digits; 0 where the route has none
+-- the number of an entry, of 1 to 14 digits; 0 on a route without one
 abbrev pub number_at : Route → List ℕ → Option ℕ
 number_at Interchanges part = Some 0
 number_at MailAfter part = number_in part

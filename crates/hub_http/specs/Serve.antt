@@ -1,4 +1,4 @@
--- One connection: what was written, and what became of the hub.
+-- Defines what serving one connection writes, and how it leaves the hub.
 use Rattle.std.specs.Prelude.{◌≡◌, ℕ, List, codes, Option, Result, Ok, Err, IfSome}
 use Rattle.std.specs.Io.KnownBytes.{Appends}
 use Rattle.edi_base.specs.Buffer.{AppendsFront}
@@ -16,16 +16,16 @@ use Rattle.hub_http.specs.declared.serve.Served.{Served}
 abbrev pub response : Answer → List ℕ
 response answer = http_text answer.status (bytes_of answer.text)
 
--- The whole response of an answer that is so was written, and its status told; where a write failed, a front of it; and
--- where a read failed, nothing.
+-- The whole response of such an answer was written, and its status is returned; if a write failed, a prefix of it was
+-- written; and if a read failed, nothing.
 abbrev pub Written : (Answer → Type 0) → Option (List ℕ) → Option (List ℕ) → Result Served IoFault → Type 0
 Written IsSo was is (Ok served) =
     (answer : Answer) × IsSo answer × Appends was is (response answer) × (served.status ≡ answer.status)
 Written IsSo was is (Err Read) = is ≡ was
 Written IsSo was is (Err Write) = (answer : Answer) × IsSo answer × AppendsFront was is (response answer)
 
--- The response to what the bytes ask was written so. Where a read failed, the hub is as before; where a write failed,
--- it is as after the question.
+-- The response to what the bytes ask was written in this way. If a read failed, the hub is as before; if a write
+-- failed, it is as after the question.
 abbrev pub Ended : (Question → Reply → Type 0) → Type 0 → RegisterRows → Option (List ℕ) → Option (List ℕ)
     → Option (List ℕ) → Option (List ℕ) → Result Served IoFault → Type 0
 Ended Replies Same register known after was is (Ok served) =

@@ -1,4 +1,4 @@
--- What calls answer, in the words of the definitions.
+-- Translates what calls return into the words of the definitions.
 use Rattle.std.specs.Prelude.{Result, Ok, Err}
 use Rattle.hub_http.specs.Asked.{Asked}
 use Rattle.hub_http.specs.declared.asked.Asked.{Asked as AskedHere}

@@ -1,4 +1,4 @@
-//! The one answer to a connection.
+//! Makes the one answer to a connection.
 ghost use Rattle.std.specs.Prelude.{◌≡◌, ◌≢◌, ◌+◌, ◌-◌, ◌++◌, ◌≤◌, ℕ, List, length, true, Ok, Err, Some, IfOk, IfSome};
 ghost use Rattle.std.specs.Prelude.{OnErr, IfErr};
 ghost use Rattle.edi_base.specs.Source.{TakesAtMost};
@@ -37,21 +37,21 @@ pub(crate) enum Text {
     Made(Items<u8>),
 }
 
-/// A response, but for its head.
+/// A response without its head.
 #[derive(Drop)]
 pub(crate) struct Answer {
     pub status: StatusCode,
     pub text: Text,
 }
 
-/// What a request is answered, and whether it was read to its end, and no further.
+/// The answer to a request, and whether exactly the request was read.
 #[derive(Drop)]
 pub(crate) struct Answered {
     pub answer: Answer,
     pub read_to_end: bool,
 }
 
-// The answer where nothing is asked of the hub.
+// Returns the answer if nothing is asked of the hub.
 fn refused(refusal: Refusal) -> Answer
     ensures { spec.Says (refusal_status refusal) (text_of refusal) result }
 {
@@ -61,7 +61,7 @@ fn refused(refusal: Refusal) -> Answer
     }
 }
 
-// The answer where memory was refused before anything was asked.
+// Returns the answer if memory was refused before anything was asked.
 fn stopped() -> Answer
     ensures { spec.Says 503 stopped_line result }
 {
@@ -71,7 +71,7 @@ fn stopped() -> Answer
     }
 }
 
-// The status for what became of a request.
+// Returns the status for the outcome of a request.
 fn status_of(outcome: Outcome) -> StatusCode
     ensures { result ≡ spec.outcome_status outcome }
 {
@@ -84,7 +84,7 @@ fn status_of(outcome: Outcome) -> StatusCode
     }
 }
 
-// The answer with a reply.
+// Returns the answer with a reply.
 fn replied(reply: Reply) -> Answer
     ensures { spec.Says (spec.outcome_status reply.outcome) reply.body result }
 {
@@ -94,7 +94,7 @@ fn replied(reply: Reply) -> Answer
     }
 }
 
-// Asks the hub.
+// Asks the hub, and returns its answer.
 fn ask<S: Store>(hub: &mut Hub<S>, moment: Moment, asked: &Asked<'_>, request: Request) -> Answer
     requires { IsNoJoin request }
     ensures asked { spec.Ends (spec.Steps S.Store moment hub.old hub.new)
@@ -105,7 +105,7 @@ fn ask<S: Store>(hub: &mut Hub<S>, moment: Moment, asked: &Asked<'_>, request: R
     replied(reply)
 }
 
-// The answer to what is asked for, with the body, or `None` where it is cut.
+// Answers what is asked for, with the body, or `None` if it breaks off.
 fn answer_body<S: Store>(
     alloc: Global,
     hub: &mut Hub<S>,
@@ -145,8 +145,8 @@ fn ask_opened<S: Store>(
     replied(reply)
 }
 
-// The answer to an upload whose body begins with these bytes. It is not kept. `sent` is the number of bytes of the body,
-// where that is known.
+// Answers an upload whose body begins with these bytes, without keeping the body. `sent` is the size of the body, if it
+// is known.
 fn answer_upload<R: Source, S: Store>(
     alloc: Global,
     hub: &mut Hub<S>,
@@ -187,7 +187,7 @@ fn answer_upload<R: Source, S: Store>(
     }
 }
 
-// The answer to what is asked for, whose body begins with these bytes. A body is read whole, but for an upload's.
+// Answers what is asked for, with a body that begins with these bytes. Any body but an upload's is read as a whole.
 fn answer_asked<R: Source, S: Store>(
     alloc: Global,
     hub: &mut Hub<S>,
@@ -226,7 +226,7 @@ fn answer_asked<R: Source, S: Store>(
     }
 }
 
-// The answer to a head and what follows it.
+// Answers a head and what follows it.
 fn answer_head<R: Source, S: Store>(
     alloc: Global,
     paths: &Paths,
@@ -256,7 +256,7 @@ fn answer_head<R: Source, S: Store>(
     }
 }
 
-/// The answer to a connection.
+/// Answers a connection.
 pub(crate) fn answer_one<R: Source, S: Store>(
     alloc: Global,
     paths: &Paths,

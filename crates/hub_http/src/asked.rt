@@ -1,4 +1,4 @@
-//! What the head of a request asks for, and who asks.
+//! Finds out what the head of a request asks for, and who calls.
 ghost use Rattle.std.specs.Prelude.{◌≡◌, Some, option_map};
 ghost use Rattle.http_messages.specs.Fields.{values_of};
 ghost use Rattle.hub_http.specs.Asked as spec;
@@ -16,27 +16,27 @@ use http_messages::{Head, LONGEST_HEAD, Values};
 use hub_core::{Hub, Role};
 use hub_store::Store;
 
-/// How many bytes a body has at most: as many as the longest upload.
+/// The greatest number of bytes of a body: as many as the longest upload.
 const LONGEST_BODY: u32 = TEXT_LIMIT as u32;
 
-/// How many digits a length has at most: as many as there is room for in a head.
+/// The greatest number of digits of a length: as many as fit into a head.
 const LONGEST_LENGTH: usize = LONGEST_HEAD;
 
-/// What is asked for, and by whom, known by its own key.
+/// What is asked for, and by which caller, identified by its own key.
 #[derive(Clone, Copy)]
 pub(crate) struct Asked<'h> {
     pub route: Route,
-    /// What stands in the path for `{n}` or `{supplier}`, where the route has it.
+    /// The part of the path for `{n}` or `{supplier}`, if the route has one.
     pub part: &'h [u8],
-    /// The number that stands for `{n}`; 0 where the route has none.
+    /// The number for `{n}`; 0 on a route without one.
     pub number: u64,
     pub gln: Gln,
     pub key: &'h [u8],
-    /// How many bytes the body has.
+    /// The number of bytes of the body.
     pub size: usize,
 }
 
-// Whether the values of a field are fewer than two.
+// Whether a field occurs fewer than two times.
 fn is_once(head: &Head, name: &[u8]) -> bool
     ensures { result ≡ spec.at_most_once (values_of name.now head.now.fields) }
 {
@@ -46,7 +46,7 @@ fn is_once(head: &Head, name: &[u8]) -> bool
     }
 }
 
-// Whether the key and the length stand at most once. Takes no memory.
+// Whether the key and the length occur at most once. Takes no memory.
 fn is_single(head: &Head) -> bool
     ensures { result ≡ spec.is_single head.now }
 {
@@ -59,7 +59,7 @@ fn has_query(target: &str) -> bool
     target.as_bytes().iter().any(|byte| *byte == b'?')
 }
 
-// The route of a target.
+// Returns the route of a target, if it has one.
 fn route_in(paths: &Paths, target: &str) -> Option<Route>
     ensures { option_map (λ route. (route, parts route target.now)) result ≡ spec.route_in target.now }
 {
@@ -69,7 +69,7 @@ fn route_in(paths: &Paths, target: &str) -> Option<Route>
     paths.route_of(target)
 }
 
-/// How many bytes a body has, by the value of its length.
+/// Returns how many bytes a body has, from the value of its length.
 pub(crate) fn size_in(value: &[u8]) -> Result<usize, Refusal>
     ensures { result ≡ spec.size_in value.now }
 {
@@ -82,7 +82,7 @@ pub(crate) fn size_in(value: &[u8]) -> Result<usize, Refusal>
     }
 }
 
-// How many bytes a body has, by the one length that stands in the head.
+// Returns how many bytes a body has, from the only length in the head.
 fn announced(head: &Head) -> Result<usize, Refusal>
     ensures { result ≡ spec.announced (values_of spec.length_field head.now.fields) }
 {
@@ -93,7 +93,7 @@ fn announced(head: &Head) -> Result<usize, Refusal>
     }
 }
 
-/// How many bytes the body of a POST has. It may not come in pieces.
+/// Returns how many bytes the body of a POST has. It may not come in pieces.
 pub(crate) fn posted(head: &Head) -> Result<usize, Refusal>
     ensures { result ≡ spec.posted head.now.fields }
 {
@@ -103,14 +103,14 @@ pub(crate) fn posted(head: &Head) -> Result<usize, Refusal>
     }
 }
 
-// How many bytes of a body are looked at: of a GET none.
+// Returns how many bytes of a body are read: none for a GET.
 fn size_of(route: Route, head: &Head) -> Result<usize, Refusal>
     ensures { result ≡ spec.size_of route head.now.fields }
 {
     if route.is_post() { posted(head) } else { Ok(0) }
 }
 
-// What is asked for, where who asks is known: its side may ask for it, and the length of the body is right.
+// Returns what is asked for by a known caller, if its role may ask for it and the length of the body is right.
 fn by_role<'h>(
     head: &'h Head,
     route: Route,
@@ -137,7 +137,7 @@ fn by_role<'h>(
     })
 }
 
-// What is asked for with this key by the party that the path names.
+// Returns what the party in the path asks for with this key.
 fn by_party<'h, S: Store>(
     hub: &Hub<S>,
     head: &'h Head,
@@ -159,7 +159,7 @@ fn by_party<'h, S: Store>(
     }
 }
 
-// What is asked for with the one key of the head.
+// Returns what is asked for with the only key of the head.
 fn by_key<'h, S: Store>(
     hub: &Hub<S>,
     head: &'h Head,
@@ -176,7 +176,7 @@ fn by_key<'h, S: Store>(
     }
 }
 
-// What is asked for, where the path is that of a route.
+// Returns what is asked for on this route.
 fn by_route<'h, S: Store>(hub: &Hub<S>, head: &'h Head, route: Route) -> Result<Asked<'h>, Refusal>
     ensures { asked_or_refused result
         ≡ spec.by_route hub.now.0 head.now route (party head.now.target) (part_in route head.now.target) }
@@ -190,7 +190,7 @@ fn by_route<'h, S: Store>(hub: &Hub<S>, head: &'h Head, route: Route) -> Result<
     by_key(hub, head, route, number)
 }
 
-/// What a head asks for, and who asks; or why it is refused. Takes no memory.
+/// Returns what a head asks for, and who calls; or why it is refused. Takes no memory.
 pub(crate) fn asked_of<'h, S: Store>(
     paths: &Paths,
     hub: &Hub<S>,

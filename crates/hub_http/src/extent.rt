@@ -1,4 +1,4 @@
-//! How many bytes the body of a request has, and whether a request was read to its end.
+//! Finds out how many bytes the body of a request has, and whether a request was read to its end.
 ghost use Rattle.std.specs.Prelude.{◌≡◌, ◌↔◌, true, false, Some, None, IfSome};
 ghost use Rattle.hub_http.specs.Extent as spec;
 ghost use Rattle.http_messages.specs.Fields.{values_of};
@@ -7,7 +7,7 @@ ghost use Rattle.hub_http.specs.Asked.{length_field};
 use crate::asked::{posted, size_in};
 use http_messages::{Head, Values};
 
-// Whether the lengths that stand in the head announce no body.
+// Whether the lengths in the head announce no body.
 fn is_none_announced(head: &Head) -> bool
     ensures { result ≡ spec.none_announced (values_of length_field head.now.fields) }
 {
@@ -18,7 +18,7 @@ fn is_none_announced(head: &Head) -> bool
     }
 }
 
-// Whether a head announces no body: by no length above 0, and not by pieces.
+// Whether a head announces no body: it has no length above 0, and no pieces.
 fn has_no_body(head: &Head) -> bool
     ensures { result ≡ spec.has_no_body head.now.fields }
 {
@@ -28,8 +28,8 @@ fn has_no_body(head: &Head) -> bool
     }
 }
 
-/// How many bytes the body of a request has. `None` where that is not known: for a POST without a right length, and for
-/// any other request whose head announces a body, which is not looked at.
+/// Returns how many bytes the body of a request has, or `None` if that is not known: for a POST without a right length,
+/// and for any other request whose head announces a body, because such a body is not read.
 pub(crate) fn body_size(head: &Head) -> Option<usize>
     ensures { result ≡ spec.body_size head.now }
 {
@@ -39,14 +39,14 @@ pub(crate) fn body_size(head: &Head) -> Option<usize>
     if has_no_body(head) { Some(0) } else { None }
 }
 
-/// Whether so many bytes that were read behind a head are its whole body, and no more.
+/// Whether this many bytes, read after a head, are its whole body, and no more.
 pub(crate) fn is_whole(size: Option<usize>, read: usize) -> bool
     ensures { (result ≡ true) ↔ (size ≡ Some read) }
 {
     size == Some(read)
 }
 
-/// The same of a body that was asked for, or of `None` where it is cut.
+/// Like `is_whole`, for a body that was asked for, or `None` if it breaks off.
 pub(crate) fn is_read<T>(body: &Option<T>, size: Option<usize>, read: usize) -> bool
     ensures whole { IfSome body.now (λ _. (result ≡ true) ↔ (size ≡ Some read)) }
     ensures cut { body.now ≡ None → result ≡ false }

@@ -1,4 +1,4 @@
-//! One connection of HTTP/1.1: what its bytes ask of the hub, by whom, and the one exact answer.
+//! Serves one connection of HTTP/1.1: finds out what its bytes ask of the hub and by which caller, and answers it.
 #![tactic(auto)]
 
 mod answer;

@@ -1,4 +1,4 @@
-//! The parts of a path that stand in braces in its route, found from the path alone.
+//! Finds the parts of a path that are in braces in its route, from the path alone.
 
 ghost use Rattle.std.specs.Prelude.{◌≡◌, ◌≤◌, length};
 ghost use Rattle.matchit.specs.Params.{part_of};
@@ -6,7 +6,7 @@ ghost use Rattle.hub_http.specs.Parts as spec;
 
 use crate::route::Route;
 
-// Where the part ends that begins here and stops before the next slash.
+// Returns the end of the part that begins here and stops before the next slash.
 fn to_slash(path: &[u8], at: usize) -> usize
     ensures { result ≡ spec.to_slash path.now at }
 {
@@ -20,14 +20,14 @@ fn to_slash(path: &[u8], at: usize) -> usize
     end.saturating_sub(1)
 }
 
-// The bytes between two places, or none where these do not fit.
+// Returns the bytes between two positions, or none if the positions are not in order.
 fn part(path: &[u8], start: usize, end: usize) -> &[u8]
     ensures { result.now ≡ part_of path.now start end }
 {
     path.get(start..end).unwrap_or(b"")
 }
 
-// So many bytes on, where the path does not end before.
+// Returns the position this many bytes further on, or the end of the path.
 fn begin(skip: usize, path: &[u8], at: usize) -> usize
     requires { skip ≤ 100 }
     ensures { result ≡ spec.begin skip (length path.now) at }
@@ -35,7 +35,7 @@ fn begin(skip: usize, path: &[u8], at: usize) -> usize
     at.max(at.saturating_add(skip).min(path.len()))
 }
 
-/// Who asks: what stands for `{gln}` in the path of a route.
+/// Returns the part for `{gln}` in the path of a route: the party that calls.
 pub fn party_in(path: &str) -> &[u8]
     ensures { result.now ≡ spec.party path.now }
 {
@@ -44,7 +44,7 @@ pub fn party_in(path: &str) -> &[u8]
     part(bytes, start, to_slash(bytes, start))
 }
 
-/// What stands for `{n}` or `{supplier}` in a path of this route, empty where the route has neither.
+/// Returns the part for `{n}` or `{supplier}` in a path of this route; empty if the route has neither.
 pub fn part_in(route: Route, path: &str) -> &[u8]
     ensures { result.now ≡ spec.part_in route path.now }
 {

@@ -1,4 +1,4 @@
-//! The router of the seven routes.
+//! Finds the route of a path with a router of seven routes.
 
 ghost use Rattle.std.specs.Prelude.{◌≡◌, IfOk, option_map};
 ghost use Rattle.hub_http.specs.Parts.{parts};
@@ -9,7 +9,7 @@ use matchit::{InsertError, Router};
 use std::alloc::{AllocError, Global};
 use std::marker::Model;
 
-// The router with one more route. It is handed over and back, so that nothing is left to let go where memory gives out.
+// Adds one route to a router. The router is passed in and returned, so that nothing is left to drop if memory runs out.
 fn with_route(
     mut router: Router<Route>,
     text: &str,
@@ -21,7 +21,7 @@ fn with_route(
     Ok(router)
 }
 
-// The router of the seven routes.
+// Makes the router of the seven routes.
 fn seven_routes(alloc: Global) -> Result<Router<Route>, InsertError>
     ensures { IfOk result (λ router. router ≡ spec.seven) }
 {
@@ -35,7 +35,7 @@ fn seven_routes(alloc: Global) -> Result<Router<Route>, InsertError>
     with_route(router, "/p/{gln}/cancellations", Route::Cancellations)
 }
 
-/// The router of the seven routes, made once for many paths.
+/// The router of the seven routes. Make it once, and use it for every path.
 #[derive(Drop)]
 pub struct Paths {
     router: Router<Route>,
@@ -54,7 +54,7 @@ impl Model for Paths {
 }
 
 impl Paths {
-    /// Fails only for want of memory.
+    /// Makes the router. Fails only if memory runs out.
     pub fn new(alloc: Global) -> Result<Self, AllocError> {
         match seven_routes(alloc) {
             Ok(router) => Ok(Paths { router }),
@@ -62,9 +62,9 @@ impl Paths {
         }
     }
 
-    /// The route of a path, by which `party_in` and `part_in` find its parts; `None` where it is a path of none of the
-    /// seven. The path is the target of a request in origin form without its query (RFC 9112, section 3.2.1); it is
-    /// taken as it is, and nothing in it is decoded. Takes no memory.
+    /// Returns the route of a path, or `None` if it is not a path of any of the seven; `party_in` and `part_in` then
+    /// find its parts. The path is the target of a request in origin form without its query (RFC 9112, section 3.2.1),
+    /// and nothing in it is decoded. Takes no memory.
     pub fn route_of(&self, path: &str) -> Option<Route>
         ensures { option_map (λ route. (route, parts route path.now)) result ≡ spec.route_at path.now }
     {

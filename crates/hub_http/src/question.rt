@@ -1,4 +1,4 @@
-//! What is asked of the hub.
+//! Makes the question that is asked of the hub.
 ghost use Rattle.std.specs.Prelude.{◌≡◌, ◌≢◌, None, IfOk, IsOk, OnErr};
 ghost use Rattle.hub_core.specs.Steps.{IsNoJoin};
 ghost use Rattle.hub_http.specs.Question as spec;
@@ -13,7 +13,7 @@ use gs1_ids::Gln;
 use hub_core::{Cancel, Request, read_cancel};
 use std::alloc::Global;
 
-// What is asked, with the cancellation in the body, where one is asked for.
+// Returns the request, with the cancellation in the body if there has to be one.
 fn request_for(
     route: Route,
     part: &[u8],
@@ -39,7 +39,7 @@ fn request_for(
     }
 }
 
-// The cancellation in a body, where one is asked for.
+// Returns the cancellation in a body, if the route needs one.
 fn cancel_in(alloc: Global, route: Route, body: &[u8]) -> Result<Option<Cancel>, MemoryFault>
     ensures value { IfOk result (λ cancel. route ≡ Route.Cancellations → cancel ≡ cancel_of body.now) }
     ensures memory { OnErr result ((route ≡ Route.Cancellations) × (cancel_of body.now ≢ None)) }
@@ -50,8 +50,8 @@ fn cancel_in(alloc: Global, route: Route, body: &[u8]) -> Result<Option<Cancel>,
     }
 }
 
-/// What is asked of the hub, with the body of the request, or `None` where it is cut; or why nothing is, and that takes
-/// no memory.
+/// Returns what is asked of the hub, with the body of the request, or `None` if it breaks off; or why nothing is asked.
+/// A refusal takes no memory.
 pub(crate) fn request_of(
     alloc: Global,
     asked: &Asked<'_>,

@@ -1,4 +1,4 @@
-//! Why nothing is asked of the hub.
+//! Defines why nothing is asked of the hub.
 ghost use Rattle.std.specs.Prelude.{◌≡◌};
 ghost use Rattle.hub_http.specs.Refusal as spec;
 
@@ -7,14 +7,14 @@ use http::StatusCode;
 /// Why the bytes of a connection ask nothing of the hub.
 #[derive(Clone, Copy, Debug, PartialEq, Eq)]
 pub(crate) enum Refusal {
-    /// The head is wrong, too long, cut, or has too many fields, a key or a length stands in it twice, the length is no
-    /// number, the body is cut, or it is no cancellation.
+    /// The head is wrong, too long, incomplete, or has too many fields; a key or a length occurs in it twice; the
+    /// length is not a number; the body breaks off, or is not a cancellation.
     BadRequest,
     /// There is no such path, or no such supplier.
     Unknown,
-    /// The path is asked by another method.
+    /// The path needs another method.
     Method,
-    /// The caller is not known by the key, or may not ask this.
+    /// The caller is not identified by the key, or may not ask this.
     Denied,
     /// No length is announced, or the body comes in pieces.
     Length,
@@ -23,7 +23,7 @@ pub(crate) enum Refusal {
 }
 
 impl Refusal {
-    /// The status of the response.
+    /// Returns the status of the response.
     pub(crate) fn status(self) -> StatusCode
         ensures { result ≡ spec.status_of self }
     {
@@ -37,7 +37,7 @@ impl Refusal {
         }
     }
 
-    /// The body of the response.
+    /// Returns the body of the response.
     pub(crate) fn text(self) -> &'static [u8]
         ensures { result.now ≡ spec.text_of self }
     {

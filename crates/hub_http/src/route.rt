@@ -1,21 +1,21 @@
-//! The seven routes.
+//! Defines the seven routes.
 ghost use Rattle.std.specs.Prelude.{◌≡◌};
 ghost use Rattle.hub_http.specs.Route as spec;
 
 use hub_core::{Role, number_of};
 
-/// The route of a path: what is asked for, but for the parts in braces and the body.
+/// The route of a path: what is asked for, except for the parts in braces and the body.
 #[derive(Clone, Copy, Debug, PartialEq, Eq)]
 pub enum Route {
     /// `/p/{gln}/interchanges`: an upload.
     Interchanges,
-    /// `/p/{gln}/mail/after/{n}`: the mailbox above a number.
+    /// `/p/{gln}/mail/after/{n}`: the list of mailbox entries above a number.
     MailAfter,
-    /// `/p/{gln}/mail/item/{n}`: the entry of a number.
+    /// `/p/{gln}/mail/item/{n}`: the mailbox entry with a number.
     MailItem,
-    /// `/p/{gln}/mail/item/{n}/taken`: to mark the entry of a number.
+    /// `/p/{gln}/mail/item/{n}/taken`: to mark the entry with a number as taken.
     MailTaken,
-    /// `/p/{gln}/status`: the own status.
+    /// `/p/{gln}/status`: one's own status.
     Status,
     /// `/p/{gln}/status/{supplier}`: the status of a supplier.
     StatusOf,
@@ -24,7 +24,7 @@ pub enum Route {
 }
 
 impl Route {
-    /// Whether it is asked for with POST, and not with GET.
+    /// Whether the method is POST, and not GET.
     pub(crate) fn is_post(self) -> bool
         ensures { result ≡ spec.is_post self }
     {
@@ -34,14 +34,14 @@ impl Route {
         )
     }
 
-    /// The method that it is asked for with.
+    /// Returns the method.
     pub(crate) fn method(self) -> &'static [u8]
         ensures { result.now ≡ spec.method_of self }
     {
         if self.is_post() { b"POST" } else { b"GET" }
     }
 
-    /// Whether one of this role may ask for it.
+    /// Whether a party with this role may ask for it.
     pub(crate) fn is_for(self, role: Role) -> bool
         ensures { result ≡ spec.may_ask role self }
     {
@@ -54,7 +54,7 @@ impl Route {
         }
     }
 
-    /// The number that stands for `{n}`, 1 to 14 digits; 0 where the route has none.
+    /// Returns the number for `{n}`, of 1 to 14 digits; 0 on a route without one.
     pub(crate) fn number(self, part: &[u8]) -> Option<u64>
         ensures { result ≡ spec.number_at self part.now }
     {

@@ -1,4 +1,4 @@
-//! One connection.
+//! Serves one connection.
 ghost use Rattle.std.specs.Prelude.{◌≡◌, ◌≢◌, ◌+◌, true, Err, IfOk, IfSome};
 ghost use Rattle.edi_base.specs.Buffer.{Flags};
 ghost use Rattle.edi_base.specs.Source.{TakesAtMost};
@@ -21,13 +21,13 @@ use std::alloc::Global;
 use std::error::Error;
 use std::fmt;
 
-/// A connection was served.
+/// What serving a connection returns.
 #[derive(Clone, Copy, Debug, PartialEq, Eq)]
 pub struct Served {
     /// The status that was written.
     pub status: u16,
-    /// Whether the request was read to its end: its head and its whole body, and nothing behind it. If not, its client may
-    /// still be sending. It was not if its body is not looked at or has no known length.
+    /// Whether the request was read to its end: its head and its whole body, and nothing after it. If not, its client
+    /// may still be sending. A body that is not read, or whose length is not known, was not read to its end.
     pub read_to_end: bool,
 }
 
@@ -67,15 +67,15 @@ fn write_answer<W: Sink>(writer: &mut W, answer: &Answer) -> Result<(), WriteFau
     }
 }
 
-/// Serves one connection of HTTP/1.1 that comes at a moment: reads one request, asks it of the hub in the name of the
-/// party that its path names and whose key it bears, and writes the response, after which the connection is to be
-/// closed.
+/// Serves one connection of HTTP/1.1 that arrives at a moment: reads one request, asks the hub on behalf of the party
+/// in its path, if the request has that party's key, and writes the response. The connection has to be closed after
+/// that.
 ///
-/// What is no request, or is refused before anything is asked of the hub, is answered 400, 403, 404, 405, 411 or 413;
-/// a reply that is done 200, one that is bad 400, denied 403, unknown 404, and stopped 503. Where memory is refused
-/// before anything is asked, the response is 503 with `stopped`; that can not be before the head is read. A head has at
-/// most 8,192 bytes and 32 fields, a body at most 1,048,576 bytes, and no more is read than a head and the announced
-/// body, also where a read fails.
+/// A connection without a request, or one refused before anything is asked of the hub, gets 400, 403, 404, 405, 411 or
+/// 413. A reply gets 200 if it is done, 400 if bad, 403 if denied, 404 if unknown, and 503 if stopped. If memory is
+/// refused before anything is asked, the response is 503 with `stopped`; this cannot happen before the head is read. A
+/// head has at most 8,192 bytes and 32 fields, a body at most 1,048,576 bytes, and no more is read than a head and the
+/// announced body, even if a read fails.
 pub fn serve_one<S: Store, R: Source, W: Sink>(
     alloc: Global,
     paths: &Paths,
@@ -88,7 +88,7 @@ pub fn serve_one<S: Store, R: Source, W: Sink>(
         (hub.new ≡ hub.old) hub.old.0
         (R.remaining reader.old) (R.remaining reader.new) (W.contents writer.old) (W.contents writer.new) result }
 
-    // Also where nothing is known of the bytes, one question was answered, and the hub is as before, or was asked once.
+    // Even if nothing is known of the bytes, some question was answered, and the hub is as before or was asked once.
     ensures written { spec.Written
         (AnswersWhatever (Steps S.Store moment hub.old hub.new)
         (hub.new ≡ hub.old)) (W.contents writer.old) (W.contents writer.new) result }
@@ -104,7 +104,7 @@ pub fn serve_one<S: Store, R: Source, W: Sink>(
     ensures to_end { IfOk result (λ served.
         TellsEnd (R.remaining reader.old) (R.remaining reader.new) served.read_to_end) }
 
-    // A fault comes only of the reader or of the writer, and else their flags stay.
+    // Only the reader or the writer causes a fault; otherwise their flags stay.
     ensures read { result ≡ Err IoFault.Read → R.failed reader.new ≡ true }
     ensures read_kept { result ≢ Err IoFault.Read → R.failed reader.new ≡ R.failed reader.old }
     ensures write { result ≡ Err IoFault.Write → W.failed writer.new ≡ true }

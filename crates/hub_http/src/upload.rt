@@ -1,4 +1,4 @@
-//! The body of an upload, which is opened as it is read.
+//! Opens the body of an upload as it is read.
 ghost use Rattle.std.specs.Prelude.{◌≡◌, ◌≢◌, ◌≤◌, ◌-◌, ◌++◌, ◌↔◌, ℕ, List, length, true, Err, IfOk, IfSome};
 ghost use Rattle.edi_base.specs.Source.{TakesAtMost};
 ghost use Rattle.edi_envelope.specs.Opened.{opened, Opens};
@@ -11,7 +11,7 @@ use edi_envelope::{Interchange, OpenFault, open_lent};
 use edi_tokens::{Lender, TokenFault};
 use std::alloc::Global;
 
-/// What a text was opened as, or why there is no interchange.
+/// What a text was opened as, or why it has no interchange.
 pub(crate) type Opened = Result<Interchange, OpenFault>;
 
 // Whether a read failed.
@@ -24,8 +24,8 @@ fn is_unread(upload: &Opened) -> bool
     }
 }
 
-/// Opens the body of `size` bytes whose front was read with the head, one segment after another as it is read: the body
-/// is not kept. Behind a fault it is read away. `None` where the source ended before it.
+/// Opens a body of `size` bytes, whose first bytes were read with the head, one segment after another as it is read:
+/// the body is not kept. After a fault the rest is read and dropped. `None` if the source ends before the body does.
 pub(crate) fn open_body<R: Source>(
     alloc: Global,
     reader: &mut R,
@@ -36,16 +36,16 @@ pub(crate) fn open_body<R: Source>(
     ensures body { IfOk result (λ upload. IfSome (R.remaining reader.old) (λ left.
         IsUpload upload (body_in size (front.now ++ left)))) }
 
-    // Also where nothing is known of the bytes, it is what some are opened as, and no failed read.
+    // Even if nothing is known of the bytes, the result is what some bytes open as, and not a failed read.
     ensures some { IfOk result (λ upload.
         IfSome upload (λ upload. (bytes : List ℕ) × Opens upload (opened bytes))) }
     ensures unread { IfOk result (λ upload.
         IfSome upload (λ upload. upload ≢ Err (OpenFault.Token TokenFault.Read))) }
 
-    // Whatever is answered, no more than the front lacks was taken from the reader.
+    // Whatever the result, no more was taken from the reader than the body still needed.
     ensures front { TakesAtMost (R.remaining reader.old) (R.remaining reader.new) (size - length front.now) }
 
-    // Of a whole body exactly that was, and without memory nothing.
+    // After a whole body exactly that was taken, and if memory is refused, nothing.
     ensures whole { IfOk result (λ upload. IfSome upload (λ _. TakesExactly (R.remaining reader.old)
         (R.remaining reader.new) (size - length front.now))) }
     ensures memory { result ≡ Err ReadFault.Memory → R.remaining reader.new ≡ R.remaining reader.old }

@@ -1,4 +1,4 @@
--- What a query does, from its clauses.
+-- Proves what a query does, from the contracts of its calls.
 use Rattle.std.proofs.Common.{Vec, Result, Ok, Err, IfOk, IfErr, ◌≡◌, ◌⊎◌, inl, inr, ℕ, false, List, IsTrue, IsSome}
 use Rattle.std.proofs.Common.{refl, sym, ◌∙◌, subst, true≢false}
 use Rattle.std.specs.declared.alloc.Global.{Global}
@@ -32,7 +32,7 @@ failed_same sql params old new e plain (inr h) =
     let none = plain old.now.schema h.0 h.1.is in
     inl (subst (FailsToShow old new sql h.0 (timed params h.0.formats h.1.now) e) none h.2).3
 
--- so nothing is committed
+-- so it commits nothing
 pub reads_no_commit : (sql : List ℕ) (params : Row) (old new : State) → OnlyReads sql → Survives old new (CommitsShowing sql params old)
     → Survives old new (λ _. ⊥)
 unfolding CommitsShowing
@@ -94,7 +94,7 @@ module _ (text : List ℕ) (params : Row) (old new : State) (mode : old.in_trans
       told_is : (a b : StoreFault) → ◌≡◌ {A = Result (Vec Row Global) StoreFault} (Err a) (Err b) → a ≡ b
       told_is a b h = cc
 
--- an answer of which more is true
+-- an answer of which more is known
 pub reads_more : {X : Type 0} {Reads : List Row → X → Type 0} {Spoil : List Row → Type 0} {text : List ℕ} {params : Row} {old new : State}
     (More : X → Type 0) (result : Result X StoreFault) → IfOk result More → Asks Reads Spoil text params old new result
     → Asks (λ rows x. Reads rows x × More x) Spoil text params old new result
@@ -116,7 +116,7 @@ reads_more {X = X} {Reads = Reads} {text = text} {params = params} {old = old} {
     both (Ok x) more h = (h.0, h.1, (h.2, more))
     both (Err fault) more h = tt
 
--- what is made of the rows of an answer
+-- what a look-up makes of the rows of an answer
 pub asked_more : {X : Type 0} (Reads : List Row → X → Type 0) (Spoil : List Row → Type 0) (text : List ℕ) (params : Row) (old new : State)
     (rows : Vec Row Global) (result : Result X StoreFault) → Asks {X = Vec Row Global} Rows (λ _. ⊥) text params old new (Ok rows)
     → IfOk result (λ x. Reads rows.items x) → (result ≡ Err Unclean → Spoil rows.items) →

@@ -1,4 +1,4 @@
--- Why a query without values fails, where its text selects from the tables of a schema.
+-- Proves why a query without values can fail, if its text selects from the tables of a schema.
 use Rattle.std.proofs.Common.{◌≡◌, ◌≤◌, nat_le, inl, inr, ℕ, true, List, [], length, IsSome, Result, Ok, Err}
 use Rattle.std.proofs.Common.{None, sym, ◌∙◌, ap, subst, arith, true≢false}
 use Rattle.std.proofs.lemmas.Bool.{cases_Bool}
@@ -42,14 +42,14 @@ abbrev pub tail_of : Result Compiled CompileError → ℕ
 tail_of (Ok c) = c.tail
 tail_of (Err e) = 0
 
--- the text is one statement without parameters, whose types fit, and no sum in it can overflow
+-- the text is one statement without parameters, whose types fit and in which no sum can overflow
 pub record IsBare (schema : Schema) (text : List ℕ) (query : Query) : Type 0 where
   pub unnamed : names_of (understood schema text) ≡ []
   pub whole : nat_le (length text) (tail_of (understood schema text)) ≡ true
   pub typed : accepts_program schema [] query [] ≡ true
   pub steady : (db : Trees) (params : Row) → QueryOverflows query db params → ⊥
 
--- a fault of the store, but for want of memory, is one that was counted, or the connection was shut
+-- a fault of the storage other than `Memory` is one that was counted, or the connection was shut
 by_store : (old new : State) (cause : StoreError) → fault_of (store_error cause) ≡ Disk → HasCause old new ⊥ cause → HasDiskCause old new
 by_store old new store.OutOfMemory disk has = absurd (let bad = disk in cc)
 by_store old new store.Io disk has = inl has
@@ -63,7 +63,7 @@ failed_below old new e disk failed = by_store old new failed.0 (ap fault_of (sym
 
 module _ {schema : Schema} {text : List ℕ} {query : Query} {names : List (List ℕ)} (it : SelectsFrom schema text query names)
     (bare : IsBare schema text query) where
-  -- what is understood is this statement
+  -- the text is compiled to this statement
   record IsIt (c : Compiled) : Type 0 where
     shows : c.returning ≡ None
     formats : c.formats ≡ []
@@ -124,11 +124,11 @@ module _ {schema : Schema} {text : List ℕ} {query : Query} {names : List (List
     | inr shut ↦ inr (inl shut)
   ]
 
--- faults that were counted later are more than before
+-- faults counted later are more than before
 pub more_faults : {a b c : ℕ} → a ≤ b → MoreFaults b c → MoreFaults a c
 more_faults less more = omega (arith, less, more)
 
--- a cause that came after a look-up which answered is one from before it
+-- a cause that arose after a successful look-up is also one from before it
 module _ {schema : Schema} {Are : State → Type 0} {X : Type 0} (says : Tables → X → Type 0) (spoilt : Tables → Type 0) (old mid new : State)
     (x : X) (first : LooksAmong schema Are says spoilt old mid (Ok x)) where
   came_before : HasCleanDisk mid → HasDiskCause mid new → HasDiskCause old new

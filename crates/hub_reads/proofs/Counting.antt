@@ -1,4 +1,4 @@
--- Whether rows pass, and whether a query finds some.
+-- Proves whether rows pass a test, and whether a query finds any.
 use Rattle.std.proofs.Common.{◌≡◌, ◌++◌, ℕ, zero, suc, take, ◌==◌, ◌<◌, ◌^◌, ◌*◌, ℤ, negsuc, nat_lt, inl, inr, Bool}
 use Rattle.std.proofs.Common.{true, false, cond, not, ◌&&◌, ◌||◌, List, [], ◌∷◌, map, filter, length, pos, refl, sym}
 use Rattle.std.proofs.Common.{ap, ap₂, ◌∙◌, arith}
@@ -84,7 +84,7 @@ all_take p (suc n) [] all = refl
 all_take p (suc n) (x ∷ xs) all =
     let parts = and_parts (p x) (list_all p xs) all in and_from (p x) (list_all p (take n xs)) parts.0 (all_take p n xs parts.1)
 
--- the query has rows where some stored row passes
+-- the query has rows exactly if some stored row passes
 pub some_found : (stored : List Row) (tests shown : List Term) (order : List (Term × Key)) (params : Row) (rows : List Row)
     → Finds stored tests shown order no_limit params rows
     → not (length rows == 0) ≡ list_any (passes tests params) stored

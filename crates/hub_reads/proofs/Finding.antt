@@ -1,4 +1,4 @@
--- What a query of one table finds there.
+-- Proves what a query of one table finds there.
 use Rattle.std.proofs.Common.{◌≡◌, ℕ, zero, suc, ◌+◌, ◌<◌, Bool, false, List, [], ◌∷◌, map, filter, get_or, slice_set}
 use Rattle.std.proofs.Common.{Ordering, None, refl, sym, ap, ap₂, subst, ◌∙◌, pos, negsuc, if◌then◌else◌}
 use Rattle.std.specs.List.{list_all, swap, flat_map}
@@ -29,7 +29,7 @@ swaps_map : {X Y : Type 0} (f : X → Y) (xs : List X) (moves : List (ℕ × ℕ
 swaps_map f xs [] = refl
 swaps_map f xs (m ∷ moves) = ap (λ zs. swap zs m.0 m.1) (swaps_map f xs moves) ∙ swap_map f (apply_swaps xs moves) m.0 m.1
 
--- what is shown in another order is shown of the rows in that order
+-- if rows are put in another order, what is shown of them is in that order too
 pub shuffled_sources : {X Y : Type 0} (f : X → Y) (xs : List X) (ys : List Y) → IsPermutation (map f xs) ys → (zs : List X)
     × IsPermutation xs zs × (ys ≡ map f zs)
 shuffled_sources f xs ys p = (
@@ -38,12 +38,12 @@ shuffled_sources f xs ys p = (
   p.is ∙ swaps_map f xs p.moves,
 )
 
--- sorted by what is shown
+-- rows are sorted by what they show
 sorted_back : {X Y : Type 0} (f : X → Y) (cmp : Y → Y → Ordering) (xs : List X) → IsSorted cmp (map f xs) → IsSorted (on f cmp) xs
 sorted_back f cmp xs sorted k d low high =
     rw (sym (at_map f xs k d), sym (at_map f xs (k + 1) d), sorted k (f d) low (subst (λ n. k + 1 < n) (sym (length_map f xs)) high))
 
--- a query of one table, of so many rows
+-- a query of one table that stops after a number of rows
 abbrev pub some_of : ℕ → List Term → List Term → List (Term × Key) → Term → Query
 some_of tree tests shown order limit = record {
   from = inner tree end;
@@ -60,7 +60,7 @@ some_of tree tests shown order limit = record {
 abbrev pub no_limit : Term
 no_limit = lit (Int (negsuc 0))
 
--- of all of them
+-- a query of one table that returns all rows that pass
 abbrev pub all_of : ℕ → List Term → List Term → List (Term × Key) → Query
 all_of tree tests shown order = some_of tree tests shown order no_limit
 
@@ -68,7 +68,7 @@ all_of tree tests shown order = some_of tree tests shown order no_limit
 abbrev pub passes : List Term → Row → Row → Bool
 passes tests params row = list_all (holds (params ∷ row ∷ [])) tests
 
--- the stored rows that pass, in an order that the query allows, and what is shown of them
+-- the stored rows that pass, in an order that the query allows, and the columns that it shows
 pub record Finds (stored : List Row) (tests shown : List Term) (order : List (Term × Key)) (limit : Term) (params : Row)
     (rows : List Row) : Type 0 where
   pub sources : List Row

@@ -1,4 +1,4 @@
--- Rows that hold a register are of their kinds.
+-- Shows that rows that hold a register have the form of their kinds.
 use Rattle.std.proofs.Common.{◌≡◌, inl, inr, ℕ, Bool, true, false, ◌&&◌, List, [], ◌∷◌, map}
 use Rattle.std.proofs.Common.{filter, refl, sym, ap, ap₂, subst, ◌∙◌, nat_le, length}
 use Rattle.std.proofs.Common.{true≢false}
@@ -22,7 +22,7 @@ use Rattle.hub_tables.proofs.Members.{all_of, one_of, has_map, has_filter}
 use Rattle.hub_store.specs.Clean.{clean_hub, clean_key, clean_prefix}
 use Rattle.hub_founding.specs.Founding.{HoldsNone}
 
--- members of lists that pass a test
+-- members of a list whose elements all pass a test pass it too
 passes_of : {X : Type 0} (p : X → Bool) (xs : List X) → list_all p xs ≡ true → (x : X) → Has xs x → p x ≡ true
 passes_of p [] all x there = absurd there
 passes_of p (y ∷ ys) all x there =
@@ -86,7 +86,7 @@ module _ (t : Tables) (held : HoldsRegister t) where
       (has_filter (λ (found : PrefixRow). same found.supplier k.supplier) t.prefixes row there mine)))
       (ap is_gln (sym is) ∙ gln_right k had.1))
 
--- where one of them lacks the form of its kind, no register is held
+-- if one of them does not have the form of its kind, no register is held
 pub no_hubs : (t : Tables) → list_all clean_hub t.hubs ≡ false → HoldsNone t
 no_hubs t bad held = true≢false (sym (clean_hubs t held) ∙ bad)
 

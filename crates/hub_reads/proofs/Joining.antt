@@ -1,4 +1,4 @@
--- Look-ups one after another.
+-- Proves what look-ups do, one after another.
 use Rattle.std.proofs.Common.{◌≡◌, false, Result, Ok, Err, IfOk, OnOk, IsTrue, ap, subst, ◌∙◌, arith}
 use Rattle.sqlite.specs.State.{State, HasCleanDisk}
 use Rattle.sqlite.proofs.StateLemmas.{survives_then}
@@ -15,11 +15,11 @@ use Rattle.hub_schema.proofs.Single.{held_rise, hub_has_tables}
 use Rattle.sqlite.specs.Effect.{Database}
 use Rattle.sqlite_schema.specs.declared.schema.Schema.{Schema}
 
--- errors that are one are of one fault
+-- equal errors have equal faults
 same_fault : {Y : Type 0} (a b : StoreFault) → ◌≡◌ {A = Result Y StoreFault} (Err a) (Err b) → a ≡ b
 same_fault a b e = cc
 
--- a look-up that failed answers nothing
+-- a look-up that failed returns nothing
 module _ {schema : Schema} {Are : State → Type 0} {X Y : Type 0} (one : Tables → X → Type 0) (other : Tables → Y → Type 0)
     (spoilt worse : Tables → Type 0) (old new : State) where
   pub failed_for : ((t : Tables) → spoilt t → worse t) → (fault : StoreFault) → LooksAmong schema Are one spoilt old new (Err fault)
@@ -49,7 +49,7 @@ module _ {schema : Schema} {Are : State → Type 0} {X Y : Type 0} (one : Tables
     unclean = λ clean holds e. absurd cc;
   }
 
-  -- a fault behind an answer, by which the tables are so where it says that
+  -- a fault found in an answer: `Unclean` follows from what the answer says of the tables
   pub fault_on : (x : X) (fault : StoreFault) → (fault ≡ Unclean → (t : Tables) → one t x → worse t)
       → LooksAmong schema Are one spoilt old new (Ok x) → LooksAmong schema Are other worse old new (Err fault)
   fault_on x fault follows it = record {
@@ -75,14 +75,14 @@ pub looks_on : {X Y : Type 0} (one : Tables → X) (other : Tables → Y) (old n
 looks_on one other old new x y follows it =
     found_on (λ t x. x ≡ one t) (λ t y. y ≡ other t) (λ t. are_clean t ≡ false) (λ t. are_clean t ≡ false) old new x y follows it
 
--- an answer by which some row lacks the form of its kind
+-- an answer that shows that some row does not have the form of its kind
 pub looks_spoilt : {X Y : Type 0} (one : Tables → X) (other : Tables → Y) (old new : State) (x : X)
     → ((t : Tables) → x ≡ one t → are_clean t ≡ false) → LooksUp one old new (Ok x) → LooksUp other old new (Err Unclean)
 looks_spoilt one other old new x follows it =
     fault_on (λ t x. x ≡ one t) (λ t y. y ≡ other t) (λ t. are_clean t ≡ false) (λ t. are_clean t ≡ false) old new x Unclean
     (λ _ t. follows t) it
 
--- a second look-up, which the first answer leads to
+-- a second look-up, which depends on what the first returned
 module _ {schema : Schema} {Are : State → Type 0} (still : (old new : State) → new.now ≡ old.now → Are old → Are new) {X Y : Type 0}
     (one : Tables → X → Type 0) (two all : Tables → Y → Type 0) (spoilt worse worst : Tables → Type 0) (old mid new : State) (x : X) where
   pub then_among : ((t : Tables) → one t x → (y : Y) → two t y → all t y)

@@ -1,4 +1,4 @@
--- Whether a document is known.
+-- Proves whether a document is known.
 use Rattle.std.proofs.Common.{◌≡◌, ℕ, ◌==◌, Bool, not, ◌&&◌, Result, List, [], ◌∷◌, map, length, refl, sym, ap₂, ◌∙◌}
 use Rattle.sqlite_value.specs.declared.value.Value.TheVariants.{Blob}
 use Rattle.sqlite_value.specs.Order.{Row, column}
@@ -25,7 +25,7 @@ use Rattle.hub_reads.proofs.Looking.{looks}
 use Rattle.hub_schema.proofs.Single.{order_cells, advice_cells}
 use Rattle.hub_reads.proofs.Texts.{given_at, document, order_text, order_selects, advice_text, advice_selects}
 
--- the row is of the supplier, and has the number
+-- the row is the supplier's and has the number
 passed : (supplier number : List ℕ) (row : Row) → AreOf (kind.Blob ∷ kind.Blob ∷ []) 0 row
     → passes (given_at 1 0 ∷ given_at 2 1 ∷ []) (Blob supplier ∷ Blob number ∷ []) row
     ≡ (same (bytes_in (column row 1)) supplier && same (bytes_in (column row 2)) number)

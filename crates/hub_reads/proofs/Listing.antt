@@ -1,4 +1,4 @@
--- What a query finds of one kind is the rows of that kind that pass.
+-- Shows that the rows of one kind that a query finds are those that pass.
 use Rattle.std.proofs.Common.{◌≡◌, Bool, true, false, cond, ◌&&◌, inl, inr, List, [], ◌∷◌, map, filter, refl, sym, ap}
 use Rattle.std.proofs.Common.{ap₂, subst, ◌∙◌, true≢false}
 use Rattle.std.specs.Bool.{⊤}
@@ -43,7 +43,7 @@ pub clean_all : {X : Type 0} (p : X → Bool) (xs : List X) → AllByRecursion (
 clean_all p [] h = refl
 clean_all p (x ∷ xs) h = and_from (p x) (list_all p xs) h.0 (clean_all p xs h.1)
 
--- what follows of each that passes
+-- a property of each element that passes
 pub all_then : {X : Type 0} (p : X → Bool) (P : X → Type 0) → ((x : X) → p x ≡ true → P x) → (xs : List X) → list_all p xs ≡ true
     → AllByRecursion P xs
 all_then p P each xs h = all_such (λ x. p x ≡ true) P each xs (all_clean p xs h)
@@ -65,7 +65,7 @@ pub all_both : {X : Type 0} (P Q : X → Type 0) (xs : List X) → AllByRecursio
 all_both P Q [] a b = tt
 all_both P Q (x ∷ xs) a b = ((a.0, b.0), all_both P Q xs a.1 b.1)
 
--- A kind of row: its order, and what a stored row says of it.
+-- A kind of rows: its order, and how a stored row is read.
 module _ {X : Type 0} {cmp : X → X → Ordering} (total : IsTotalOrder cmp) (f : Row → X) (stored : List Row) (tests : List Term)
     (params : Row) (sources : List Row)
     (same : IsPermutation (filter (passes tests params) stored) sources) where
@@ -110,7 +110,7 @@ module _ {X : Type 0} {cmp : X → X → Ordering} (total : IsTotalOrder cmp) (f
     | inr e ↦ e
   ]
 
--- The same of what is shown.
+-- The same for the columns that a query shows.
 pub shown_say : {X : Type 0} (f shown : Row → X) (columns : List Term) (params : Row) (sources : List Row)
     → ((row : Row) → shown (eval_all columns (params ∷ row ∷ [])) ≡ f row)
     → map shown (map (λ row. eval_all columns (params ∷ row ∷ [])) sources) ≡ map f sources
@@ -123,7 +123,7 @@ filter_both p q (x ∷ xs) = elim (p x) as (λ v. filter q (cond v (x ∷ filter
     (x ∷ filter (λ x. p x && q x) xs) (filter (λ x. p x && q x) xs))
     [ true ↦ ap (λ ys. cond (q x) (x ∷ ys) ys) (filter_both p q xs) | false ↦ filter_both p q xs ]
 
--- All that a query of one kind tells, where it has no limit.
+-- What a query of one kind without a limit returns.
 module _ {X : Type 0} {cmp : X → X → Ordering} (total : IsTotalOrder cmp) (f shown : Row → X) (columns : List Term)
     (order : List (Term × Key)) (stored : List Row) (tests : List Term) (params : Row) (rows : List Row)
     (says : (row : Row) → shown (eval_all columns (params ∷ row ∷ [])) ≡ f row)

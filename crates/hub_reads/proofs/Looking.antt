@@ -1,4 +1,4 @@
--- A text that selects, and what a look-up by it does.
+-- Proves what a look-up by a text that selects does.
 use Rattle.std.proofs.Common.{◌≡◌, ℕ, true, false, Ok, Err, Result, List, [], IsTrue}
 use Rattle.sqlite_value.specs.declared.value.Value.TheVariants.{Null}
 use Rattle.sqlite_value.specs.Order.{Row}
@@ -27,7 +27,7 @@ pub record SelectsFrom (schema : Schema) (text : List ℕ) (query : Query) (name
   pub unlisted : reads_listing schema text ≡ false
   pub is : command_of (understood schema text) ≡ Select (record { lets = []; body = query }) names
 
--- from those of a hub
+-- the text selects from the tables of a hub
 abbrev pub Selects : List ℕ → Query → List (List ℕ) → Type 0
 Selects = SelectsFrom hub_schema
 

@@ -1,4 +1,4 @@
--- The number of the schema, from the answer.
+-- Proves what the number of the schema is, from the answer.
 use Rattle.std.proofs.Common.{Vec, ◌≡◌, ◌↔◌, ℕ, pos, Bool, IsTrue, List, [], ◌∷◌, map, filter, codes}
 use Rattle.std.proofs.Common.{◌⊎◌, inl, inr, Result, Ok, Err, refl, sym, ap, subst, ◌∙◌}
 use Rattle.std.specs.List.Sorted.{IsPermutation}
@@ -47,7 +47,7 @@ old_number_bare : IsBare old_schema number_text (all_of 0 [] (col 1 1 ∷ []) []
 unfolding understood everything
 old_number_bare = record { unnamed = refl; whole = refl; typed = refl; steady = one_table 0 [] (col 1 1 ∷ []) [] }
 
--- each row passes no test
+-- without tests, every row passes
 pub all_pass : (rows : List Row) → filter (passes [] []) rows ≡ rows
 all_pass [] = refl
 all_pass (row ∷ rows) = ap (λ more. row ∷ more) (all_pass rows)

@@ -1,4 +1,4 @@
--- What a query finds of the goods on a pallet.
+-- Proves what a query finds of the goods on a pallet.
 use Rattle.std.proofs.Common.{◌≡◌, ℕ, ◌==◌, Bool, not, length, cond, inl, inr, true, false, ◌&&◌, Result, List, [], ◌∷◌}
 use Rattle.std.proofs.Common.{map, filter, refl, sym, ap, ap₂, subst, ◌∙◌}
 use Rattle.std.specs.List.{list_all}
@@ -82,7 +82,7 @@ content_ranked params x y a b =
     ap₂ ordering_then (rank_bytes (column x 1) (column y 1) a.0.0 b.0.0)
     (then_none _ ∙ rank_numbers (column x 2) (column y 2) a.0.1.0 b.0.1.0 a.1 b.1)
 
--- the place of a content that is of its kind
+-- the place of a content that has the form of its kind fits a u64
 content_numbered : (content : ContentRow) → clean_content content ≡ true → content.place < 2 ^ 64
 content_numbered content h =
     let more = is_number content.number && (is_line content.line && is_quantity content.quantity) in
@@ -142,7 +142,7 @@ receipts_look old new sscc =
     (rows_spoil receipt_total receipt_in shown_receipt content_columns on_pallet_order (db 12) tests params rows (λ row. refl)
     (finds db 12 tests content_columns on_pallet_order no_limit params rows refl answer) clean_receipt spoilt))
 
--- Of a pallet that the supplier has, it sees all; of another, nothing.
+-- A supplier sees everything on its own pallet, and nothing on another's.
 module _ {X : Type 0} (sscc_of : X → List ℕ) (held : List ℕ → Bool) (sscc : List ℕ) where
   pub seen : (xs : List X) → true ≡ held sscc → filter (λ x. same (sscc_of x) sscc) xs ≡ filter (λ x. same (sscc_of x) sscc)
       (filter (λ x. held (sscc_of x)) xs)

@@ -1,4 +1,4 @@
--- Kinds of rows of schema 1, one after another: the first that does not fit decides.
+-- Checks the kinds of rows of schema 1 one after another: the first that does not fit decides.
 use Rattle.std.proofs.Common.{◌≡◌, Bool, true, false, ◌&&◌, Result, Ok, Err, sym, ap, ◌∙◌}
 use Rattle.sqlite.specs.State.{State}
 use Rattle.hub_store.specs.declared.fault.StoreFault.{StoreFault}

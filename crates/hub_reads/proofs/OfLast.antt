@@ -1,4 +1,4 @@
--- What a query finds of the last number of a mailbox.
+-- Proves which number a query finds last in a mailbox.
 use Rattle.std.proofs.Common.{◌≡◌, ℕ, ◌%◌, ◌==◌, ◌≤◌, ◌^◌, nat_lt, Bool, true, false, not, ◌&&◌, inl, inr, Result, Ok}
 use Rattle.std.proofs.Common.{Option, Some, None, List, [], ◌∷◌, map, filter, take, refl, sym, ap, ap₂, subst, ◌∙◌}
 use Rattle.std.proofs.Common.{arith}
@@ -235,7 +235,7 @@ highest_look old new supplier =
     (sym (filter_both (λ entry. same entry.supplier supplier) (λ entry. is_above 0 entry.number) (tables_in old.now.trees).mail)))
     (λ hub rows answer spoilt. highest_spoil old hub supplier rows answer spoilt)
 
--- where no number is zero or less, each is above zero
+-- if no number is zero or less, each is above zero
 all_above : (supplier : List ℕ) (mail : List MailRow) → list_any (low_of supplier) mail ≡ false
     → filter (λ entry. is_above 0 entry.number) (filter (λ entry. same entry.supplier supplier) mail) ≡ filter
     (λ entry. same entry.supplier supplier) mail

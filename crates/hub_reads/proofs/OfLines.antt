@@ -1,4 +1,4 @@
--- What a query finds of lines.
+-- Proves which order lines a query finds.
 use Rattle.std.proofs.Common.{◌≡◌, ℕ, ◌+◌, ◌==◌, ◌<◌, ◌^◌, nat_le, Bool, true, false, ◌&&◌, Result, IfOk, List, [], ◌∷◌, pos}
 use Rattle.std.proofs.Common.{map, filter, arith, refl, sym, ap, ap₂, subst, ◌∙◌}
 use Rattle.std.specs.List.{AllByRecursion, list_all}
@@ -38,7 +38,7 @@ use Rattle.hub_reads.proofs.Texts.{numbered_tests, numbered_text, numbered_selec
 use Rattle.hub_reads.proofs.Unclean.{lines_unclean}
 use Rattle.sql_rows.proofs.Answers.{and_true}
 
--- a row whose cells are of their kinds, with a line number
+-- a row whose cells have the types of its columns, with a line number
 abbrev Numbered : Row → Type 0
 Numbered row = AreOf line_kinds 0 row × ((line_in row).line < 2 ^ 64)
 
@@ -49,7 +49,7 @@ ranked params x y a b =
     (ap₂ ordering_then (rank_bytes (column x 2) (column y 2) a.0.1.0 b.0.1.0)
     (then_none _ ∙ rank_numbers (column x 3) (column y 3) a.0.1.1.0 b.0.1.1.0 a.1 b.1))
 
--- the number of a line that is of its kind
+-- the number of a line that has the form of its kind fits a u64
 line_numbered : (line : LineRow) → clean_line line ≡ true → line.line < 2 ^ 64
 line_numbered line h =
     let more = is_key 14 line.gtin && (is_quantity line.ordered

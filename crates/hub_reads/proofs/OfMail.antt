@@ -1,4 +1,4 @@
--- What a query finds of mailboxes.
+-- Proves which mailbox entries a query finds.
 use Rattle.std.proofs.Common.{◌≡◌, ℕ, ◌%◌, ◌==◌, ◌<◌, ◌^◌, nat_lt, nat_le, Bool, true, false, not, cond, ◌&&◌, ◌||◌}
 use Rattle.std.proofs.Common.{inl, inr, Result, Ok, Err, Option, Some, None, List, [], ◌∷◌, pos, map, filter, find}
 use Rattle.std.proofs.Common.{length, slice_get, refl, sym, ap, ap₂, subst, ◌∙◌, arith, true≢false}
@@ -45,7 +45,7 @@ use Rattle.hub_reads.proofs.Texts.{given_at, low_tests, low_text, low_selects, a
 use Rattle.hub_reads.proofs.Texts.{mail_columns, entry_text, entry_selects}
 use Rattle.hub_reads.proofs.Unclean.{first_fails, later_fails, mail_unclean}
 
--- whether a query of numbers has rows
+-- whether a query for numbers has rows
 some_entry : (s : State) → IsHub s → (tests : List Term) (params : Row) (test : MailRow → Bool)
     → ((row : Row) → AreOf mail_kinds 0 row → passes tests params row ≡ test (mail_in row))
     → (rows : List Row) → IsAnswer (all_of 16 tests (col 1 2 ∷ []) []) (overlay s.now.trees []) params rows
@@ -110,7 +110,7 @@ entry_look old new supplier number low =
     (λ hub rows answer spoilt. mail_unclean (tables_in db) (rows_spoil mail_total mail_in shown_mail mail_columns []
     (db 16) tests params rows (λ row. refl) (found rows answer) clean_mail spoilt))
 
--- Entries with numbers that none has.
+-- Entries with numbers that no entry of the hub has.
 
 pub any_spoils : {X : Type 0} (p clean : X → Bool) → ((x : X) → p x ≡ true → clean x ≡ false) → (xs : List X) → list_any p xs ≡ true
     → list_all clean xs ≡ false
@@ -124,7 +124,7 @@ pub all_not : {X : Type 0} (p : X → Bool) (xs : List X) → list_any p xs ≡ 
 all_not p [] h = tt
 all_not p (x ∷ xs) h = let parts = or_parts (p x) (list_any p xs) h in (parts.0, all_not p xs parts.1)
 
--- where no element passes that one test, none is found by one that asks more
+-- if no element passes one test, none is found by a test that asks more
 pub none_found : {X : Type 0} (whose at p : X → Bool) → ((x : X) → whose x ≡ true → at x ≡ true → p x ≡ true) → (xs : List X)
     → list_any p xs ≡ false → filter at (filter whose xs) ≡ []
 none_found whose at p more xs h = filter_both whose at xs ∙ go xs (all_not p xs h)
@@ -144,7 +144,7 @@ find_empty p [] h = refl
 find_empty p (x ∷ xs) h = elim (p x) as (λ v. cond v (x ∷ filter p xs) (filter p xs) ≡ []
     → cond v (Some x) (find p xs) ≡ None) [ true ↦ λ g. absurd cc | false ↦ λ g. find_empty p xs g ] h
 
--- the number of an entry that is of its kind
+-- an entry whose number is out of range does not have the form of its kind
 unfit : (entry : MailRow) → is_within 1 last_number entry.number ≡ false → clean_mail entry ≡ false
 unfit entry h =
     later_fails (is_gln entry.supplier) (is_within 1 last_number entry.number
@@ -166,7 +166,7 @@ above_spoils supplier t has =
     (λ entry h. unfit entry (past entry.number (and_parts (same entry.supplier supplier) (is_above last_number entry.number) h).1)) t.mail
     (sym has))
 
--- a number that is no greater than zero
+-- a number that is zero or less is out of range
 lowest : (n : ℕ) → is_low n ≡ true → is_within 1 last_number n ≡ false
 lowest n h = elim (cases_Bool (n == 0)) [
   | inl e ↦ zero_out n e
@@ -184,7 +184,7 @@ low_spoils supplier t has =
     mail_unclean t (any_spoils (low_of supplier) clean_mail
     (λ entry h. unfit entry (lowest entry.number (and_parts (same entry.supplier supplier) (is_low entry.number) h).1)) t.mail (sym has))
 
--- a number of the code is above the last one where it is greater
+-- a number of the code that is greater than the last one is above it as a query compares
 pub not_low : (n : ℕ) → last_number < n → n < 2 ^ 64 → is_above last_number n ≡ true
 not_low n more fits = and_from (nat_lt last_number n) (not (is_low n)) (grind (arith, nat_tests, more)) (ap not (small n more fits))
   where

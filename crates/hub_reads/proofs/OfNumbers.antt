@@ -1,4 +1,4 @@
--- Look-ups of lines by one number after another.
+-- Proves what look-ups of lines by one number after another find.
 use Rattle.std.proofs.Common.{◌≡◌, ℕ, List, ◌∷◌, ◌++◌, false, Bool, IsTrue, Ok, Err, sym, ap, ◌∙◌, append_assoc}
 use Rattle.std.specs.List.{list_all}
 use Rattle.std.proofs.lemmas.Bool.{and_from}
@@ -13,7 +13,7 @@ use Rattle.hub_tables.specs.declared.rows.LineRow.{LineRow}
 use Rattle.hub_schema.specs.State.{LooksFor, LooksUp}
 use Rattle.hub_reads.proofs.Joining.{found_on, found_then, failed_for, fault_on}
 
--- what was found, and the lines of the numbers that are left, are those of all numbers
+-- what was found, with the lines of the numbers that are left, are the lines of all numbers
 abbrev pub LooksSoFar : (supplier number left all : List ℕ) → State → State → List LineRow → Type 0
 LooksSoFar supplier number left all old new found =
     LooksFor (λ t rows. rows ++ lines_at (view supplier t) number left ≡ lines_at (view supplier t) number all)
@@ -44,7 +44,7 @@ failed_look supplier number left all n old mid new found fault so it =
     (failed_for (λ t x. x ≡ lines_numbered (view supplier t) number n) (λ t x. ⊥) (λ t. are_clean t ≡ false)
     (λ t. are_clean t ≡ false) mid new (λ t h. h) fault it)
 
--- no memory was left for what was found
+-- there was no memory for what was found
 pub unput_look : (supplier number left all : List ℕ) (n : ℕ) (old mid new : State) (found rows : List LineRow) (fault : StoreFault)
     → (fault ≡ Unclean → ⊥) → LooksSoFar supplier number left all old mid found
     → LooksUp (λ t. lines_numbered (view supplier t) number n) mid new (Ok rows)

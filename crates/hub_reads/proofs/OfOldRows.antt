@@ -1,4 +1,4 @@
--- What of schema 1 a query finds, and whether a register fits to it.
+-- Proves which rows of schema 1 a query finds, and whether a register fits them.
 use Rattle.std.proofs.Common.{◌≡◌, ℕ, Bool, true, false, cond, ◌&&◌, inl, inr, Option, None, Some, Result, List, [], ◌∷◌, map}
 use Rattle.std.proofs.Common.{codes, refl, sym, ap, ap₂, subst, ◌∙◌, true≢false}
 use Rattle.std.specs.List.{list_all}
@@ -44,7 +44,7 @@ use Rattle.hub_reads.proofs.Looking.{SelectsFrom, looks_among}
 use Rattle.hub_reads.proofs.Numbering.{all_pass}
 use Rattle.hub_reads.proofs.Sorting.{listed_moved}
 
--- Bytes that are no GLN are nobody's.
+-- Bytes that are not a GLN name no supplier.
 none_found : (bytes : List ℕ) → is_gln bytes ≡ false → (suppliers : List SupplierRow)
     → list_all is_gln (map (λ (row : SupplierRow). row.gln) suppliers) ≡ true → supplier_row suppliers bytes ≡ None
 none_found bytes wrong [] right = refl
@@ -60,7 +60,7 @@ nobodys register right bytes none =
     let others = and_parts (is_gln register.hub) _ right.glns_right in
     none_found bytes none register.suppliers (and_parts (is_gln register.retailer) _ others.1).1
 
--- What is no SSCC is under no prefix.
+-- Bytes that are not an SSCC are under no prefix.
 pub no_sscc : (found : Option SupplierRow) (bytes : List ℕ) → is_key 18 bytes ≡ false → is_under found bytes ≡ false
 no_sscc None bytes none = refl
 no_sscc (Some supplier) bytes none = ap (λ b. b && under_some bytes supplier.prefixes) none
@@ -71,7 +71,7 @@ an_sscc found supplier bytes sscc is right same =
     ap (λ o. is_under o bytes) is
     ∙ ap₂ (λ b (text : List ℕ). b && under_some text supplier.prefixes) (ap (is_key 18) (sym same) ∙ right) (sym same)
 
--- what is so of all rows is so of them in any order
+-- what holds of all rows holds of them in any order
 all_so : {X : Type 0} (p : X → Bool) (xs ys : List X) → IsPermutation xs ys → list_all p xs ≡ true → list_all p ys ≡ true
 all_so p xs ys moved all = clean_all p ys (every_shuffled (λ x. p x ≡ true) xs ys moved (all_clean p xs all))
 
@@ -84,7 +84,7 @@ all_moved p xs ys moved = elim (cases_Bool (list_all p xs)) [
   ]
 ]
 
--- All rows of a table, of which some columns are shown: what is so of what is shown, and of what the rows say.
+-- A query that shows some columns of all rows of a table: what holds of the columns holds of the rows, and conversely.
 module _ {X : Type 0} (cmp : X → X → Ordering) (f : Row → X) (columns : List Term) (stored rows : List Row)
     (found : Finds stored [] columns [] no_limit [] rows) (p : Row → Bool) (q : X → Bool)
     (says : (row : Row) → p (eval_all columns ([] ∷ row ∷ [])) ≡ q (f row)) where
@@ -104,7 +104,7 @@ module _ {X : Type 0} (cmp : X → X → Ordering) (f : Row → X) (columns : Li
 abbrev supplier_name : List (List ℕ)
 supplier_name = codes "supplier" ∷ []
 
--- the supplier stands in the first column, but for pallets
+-- the supplier is in the first column, except for pallets
 abbrev suppliers_in : ℕ → Query
 suppliers_in tree = all_of tree [] (col 1 1 ∷ []) []
 

@@ -1,4 +1,4 @@
--- What a query finds of pallets.
+-- Proves which pallets a query finds.
 use Rattle.std.proofs.Common.{◌≡◌, ℕ, ◌==◌, Bool, not, Option, length, slice_get, true, false, ◌&&◌, Result, List, []}
 use Rattle.std.proofs.Common.{◌∷◌, map, filter, refl, sym, ap, ap₂, subst, ◌∙◌}
 use Rattle.std.specs.List.{AllByRecursion, list_all}
@@ -45,7 +45,7 @@ ranked : (params x y : Row) → AreOf pallet_kinds 0 x → AreOf pallet_kinds 0 
     → sort_cmp (rising 1 ∷ []) (params ∷ x ∷ []) (params ∷ y ∷ []) ≡ pallet_cmp (pallet_in x) (pallet_in y)
 ranked params x y a b = then_none _ ∙ rank_bytes (column x 1) (column y 1) a.0 b.0
 
--- Of one SSCC there is one pallet, or none.
+-- There is at most one pallet with an SSCC.
 alike : (sscc : List ℕ) (x y : PalletRow) → same x.sscc sscc ≡ true → same y.sscc sscc ≡ true → is_eq (pallet_cmp x y) ≡ true
 alike sscc x y a b = is_eq-slice_cmp x.sscc y.sscc ∙ same_if x.sscc y.sscc (same_is x.sscc sscc a ∙ sym (same_is y.sscc sscc b))
 

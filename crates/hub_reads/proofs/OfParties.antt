@@ -1,4 +1,4 @@
--- What a query finds of the register: all rows of a table, by a key of bytes.
+-- Proves what a query finds of the register: all rows of a table, by a key of bytes.
 use Rattle.std.proofs.Common.{◌≡◌, Bool, true, false, Result, List, [], ◌∷◌, map, filter, refl, ap, ◌∙◌}
 use Rattle.std.specs.Bool.{⊤}
 use Rattle.std.specs.List.{AllByRecursion, list_all}

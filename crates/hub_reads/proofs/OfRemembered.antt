@@ -1,4 +1,4 @@
--- What a query finds of what is remembered.
+-- Proves what a query finds among remembered messages.
 use Rattle.std.proofs.Common.{◌≡◌, ℕ, ◌==◌, ◌<◌, ◌^◌, Bool, true, false, ◌&&◌, Result, Option, option_map, List, []}
 use Rattle.std.proofs.Common.{◌∷◌, pos, map, slice_get, refl, sym, ap, ap₂, subst, ◌∙◌, arith}
 use Rattle.std.specs.List.{list_all}

@@ -1,4 +1,4 @@
--- What a query finds of entries that are not taken, in the order of their numbers.
+-- Proves which entries a query finds that are not taken, in the order of their numbers.
 use Rattle.std.proofs.Common.{◌≡◌, ℕ, ◌<◌, ◌≤◌, ◌^◌, nat_lt, nat_le, zero, suc, Bool, true, false, not, ◌&&◌, ◌⊎◌, inl, inr, Result}
 use Rattle.std.proofs.Common.{Ok, Err, Option, Some, None, List, [], ◌∷◌, pos, negsuc, map, filter, take, refl, sym, ap}
 use Rattle.std.proofs.Common.{ap₂, ◌∙◌, arith, true≢false}
@@ -50,7 +50,7 @@ use Rattle.hub_reads.proofs.Ranking.{rank_bytes, then_none}
 use Rattle.hub_reads.proofs.Texts.{given_at, rising, above_test, untaken_test, head_columns, after_text, after_selects}
 use Rattle.hub_reads.proofs.Unclean.{mail_unclean}
 
--- Fronts of lists.
+-- Prefixes of lists.
 
 map_take : {X Y : Type 0} (f : X → Y) (n : ℕ) (xs : List X) → map f (take n xs) ≡ take n (map f xs)
 map_take f zero xs = refl
@@ -83,13 +83,13 @@ take_twice zero xs = refl
 take_twice (suc n) [] = refl
 take_twice (suc n) (x ∷ xs) = ap (λ ys. x ∷ ys) (take_twice n xs)
 
--- the limit of a query and the one of the caller
+-- the query's limit is the caller's, or there is none
 pub first_of_limited : {X : Type 0} (most : Value) (limit : ℕ) → (most ≡ Int (pos limit)) ⊎ (most ≡ Int (negsuc 0)) → (xs : List X)
     → take limit (limited (as_count most) xs) ≡ take limit xs
 first_of_limited most limit (inl e) xs = ap (λ v. take limit (limited (as_count v) xs)) e ∙ take_twice limit xs
 first_of_limited most limit (inr e) xs = ap (λ v. take limit (limited (as_count v) xs)) e
 
--- What is shown of an entry that is of its kind.
+-- What a list shows of an entry that has the form of its kind.
 
 shown_clean : (entry : MailRow) → clean_mail entry ≡ true → clean_head (head_of entry) ≡ true
 shown_clean entry h =
@@ -128,7 +128,7 @@ order = rising 1 ∷ rising 2 ∷ []
 abbrev pub wanted : ℕ → MailRow → Bool
 wanted bound entry = is_above bound entry.number && not (is_taken entry)
 
--- a row whose cells are of their kinds, with a number above a bound
+-- a row whose cells have the types of its columns, with a number above a bound
 abbrev Above : ℕ → Row → Type 0
 Above bound row = AreOf mail_kinds 0 row × (is_above bound (mail_in row).number ≡ true)
 
@@ -206,7 +206,7 @@ untaken_look old new supplier bound low most =
     (wanted bound) (tables_in old.now.trees).mail)))
     (λ hub rows answer spoilt. untaken_spoil old hub supplier bound low most rows answer spoilt)
 
--- What follows.
+-- The look-ups.
 
 pub first_look : (old new : State) (supplier : List ℕ) (bound : ℕ) (most : Value) (limit : ℕ)
     → (most ≡ Int (pos limit)) ⊎ ((2 ^ 63 ≤ limit) × (most ≡ Int (negsuc 0)))
@@ -245,7 +245,7 @@ none_above old new supplier number limit above rows none more empty =
     (more_above number entry.number more (and_parts (is_above number entry.number) (not (is_taken entry)) want).0))
     t.mail (sym is ∙ none)) ∙ take_none limit))
 
--- where no number is zero or less, those above are the greater ones
+-- if no number is zero or less, those above are the greater ones
 above_greater : (supplier : List ℕ) (number : ℕ) (mail : List MailRow) → list_any (low_of supplier) mail ≡ false
     → filter (wanted number) (filter (λ entry. same entry.supplier supplier) mail) ≡ filter
     (λ entry. nat_lt number entry.number && not (is_taken entry)) (filter (λ entry. same entry.supplier supplier) mail)

@@ -1,4 +1,4 @@
--- The order of cells is that of what they say.
+-- Shows that cells are in the same order as the values that they stand for.
 use Rattle.std.proofs.Common.{◌≡◌, ℕ, ◌<◌, ◌^◌, ◌*◌, nat_lt, ℤ, pos, negsuc, cond, inl, inr, true, false, refl, sym, ap, ap₂, ◌∙◌, arith}
 use Rattle.std.specs.declared.cmp.Ordering.{Ordering}
 use Rattle.std.specs.declared.cmp.Ordering.TheVariants.{Less, Equal, Greater}
@@ -24,7 +24,7 @@ then_none Greater = refl
 pub rank_bytes : (v w : Value) → IsOf kind.Blob v → IsOf kind.Blob w → value_cmp v w ≡ bytes_cmp (bytes_in v) (bytes_in w)
 rank_bytes v w a b = ap₂ value_cmp a.1 b.1 ∙ value_cmp-Blob a.0 b.0 ∙ sym (ap₂ bytes_cmp (ap bytes_in a.1) (ap bytes_in b.1))
 
--- a number that is no less than zero
+-- a number that is not negative
 pub is_counted : (n : ℤ) → natural n < 2 ^ 64 → n ≡ pos (natural n)
 is_counted (pos k) low = elim (cases_Bool (nat_lt k (2 ^ 64))) [
   | inl e ↦ ap pos (sym (ap (λ b. cond b k (2 * k)) e))
@@ -46,6 +46,6 @@ rank_numbers v w a b low also =
     ap₂ value_cmp (a.1 ∙ ap Int first) (b.1 ∙ ap Int second) ∙ value_cmp-Int (pos (number_in v)) (pos (number_in w))
     ∙ nat_int (number_in v) (number_in w)
 
--- the number of a line, or of a place on a pallet, that is within its limits
+-- a line number, or a place on a pallet, within its limits fits a u64
 pub low_number : (n : ℕ) → is_within 1 999_999 n ≡ true → n < 2 ^ 64
 low_number n e = grind (arith, nat_tests)

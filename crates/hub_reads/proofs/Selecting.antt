@@ -1,4 +1,4 @@
--- A statement that is a query only reads, under any schema.
+-- Shows that a statement that is a query only reads, under any schema.
 use Rattle.std.proofs.Common.{◌≡◌, ◌∙◌, inl, inr, Bool, true, false, cond, ℕ, List, Ok, Err, Option, None, refl, sym, ap}
 use Rattle.std.proofs.lemmas.Bool.{cases_Bool}
 use Rattle.sqlite_ast.specs.declared.Statement.{Statement}
@@ -22,7 +22,7 @@ abbrev pub begins_query : Checked Parsed → Bool
 begins_query (Ok p) = is_query p.statement
 begins_query (Err e) = true
 
--- what gave a value gave it through both steps
+-- if two steps give a value, the first gave one too
 given : {A B : Type 0} (one : Checked A) (next : A → Checked B) (b : B) → and_then one next ≡ Ok b → (a : A) × (one ≡ Ok a)
     × (next a ≡ Ok b)
 given (Ok a) next b h = (a, refl, h)

@@ -1,4 +1,4 @@
--- Rows of which one at most has a key.
+-- Shows that at most one row has a key.
 use Rattle.std.proofs.Common.{◌≡◌, ℕ, Bool, true, false, cond, ◌&&◌, inl, inr, ◌==◌, option_map, map, Some, List, []}
 use Rattle.std.proofs.Common.{◌∷◌, filter, find, slice_get, refl, sym, ap, ap₂, subst, ◌∙◌, arith, true≢false}
 use Rattle.std.specs.List.{AllByRecursion, list_all}
@@ -34,7 +34,7 @@ empty_moved : {X : Type 0} (ys : List X) → IsPermutation [] ys → ys ≡ []
 empty_moved [] p = refl
 empty_moved (y ∷ ys) p = absurd (let none = length_permutation [] (y ∷ ys) p in cc)
 
--- rows that rise and that all have one key, in any order
+-- rising rows that all have one key, in any order
 one_at_most : {X : Type 0} (cmp : X → X → Ordering) (xs ys : List X) → Rises cmp xs
     → ((x y : X) → is_eq (cmp x y) ≡ true → cmp x y ≡ Less → ⊥) → AllByRecursion (λ x. AllByRecursion (λ y. is_eq (cmp x y) ≡ true) xs) xs
     → IsPermutation xs ys → ys ≡ xs
@@ -54,7 +54,7 @@ all_tied P R f (x ∷ xs) ys a b = (each x ys a.0 b, all_tied P R f xs ys a.1 b)
     each x [] p b = tt
     each x (y ∷ ys) p b = (f x y p b.0, each x ys p b.1)
 
--- the first row of an answer is the one of the key
+-- the first row of an answer is the one with the key
 pub found_first : {X : Type 0} (cmp : X → X → Ordering) (whose at : X → Bool) (all rows : List X) → Rises cmp all
     → ((x y : X) → (whose x && at x) ≡ true → (whose y && at y) ≡ true → is_eq (cmp x y) ≡ true)
     → IsPermutation (filter at (filter whose all)) rows → slice_get rows 0 ≡ find at (filter whose all)
@@ -67,7 +67,7 @@ found_first cmp whose at all rows rises alike moved =
     (subst (λ ys. IsPermutation ys rows) same moved) in
     ap (λ ys. slice_get ys 0) (one ∙ sym same) ∙ first_passes at (filter whose all)
 
--- Keys that tie.
+-- Keys that compare as equal.
 
 pub both_tied : (o p : Ordering) → is_eq o ≡ true → is_eq p ≡ true → is_eq (ordering_then o p) ≡ true
 both_tied Less p h g = cc
@@ -88,7 +88,7 @@ pub all_through : {X Y : Type 0} (p : Y → Bool) (f : X → Y) (xs : List X) �
 all_through p f [] = refl
 all_through p f (x ∷ xs) = ap (λ v. p (f x) && v) (all_through p f xs)
 
--- what spoils for one test spoils for one that asks more
+-- a row that fails one test fails one that asks more
 pub spoils_more : {X : Type 0} (p q : X → Bool) → ((x : X) → q x ≡ true → p x ≡ true) → (xs : List X) → list_all p xs ≡ false
     → list_all q xs ≡ false
 spoils_more p q more xs h = elim (cases_Bool (list_all q xs)) [

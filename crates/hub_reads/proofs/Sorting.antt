@@ -1,4 +1,4 @@
--- A sorted answer is the one list of its rows.
+-- Shows that a sorted answer is the only sorted list of its rows.
 use Rattle.std.proofs.Common.{◌≡◌, ℕ, zero, suc, ◌+◌, ◌<◌, ◌≤◌, Bool, true, false, cond, inl, inr, List, [], ◌∷◌, ◌++◌}
 use Rattle.std.proofs.Common.{map, filter, length, get_or, append-nil, refl, sym, ap, subst, ◌∙◌, arith}
 use Rattle.std.specs.List.{AllByRecursion, Contains, IsDistinct}
@@ -37,7 +37,7 @@ has_contains (y ∷ ys) x h = elim h [
 permuted_has : {X : Type 0} (xs ys : List X) → IsPermutation xs ys → (x : X) → Has xs x → Has ys x
 permuted_has xs ys p x h = let c = Contains-permutation xs ys x p (has_contains xs x h) in contains_has ys x c.0 c.1 c.2
 
--- Putting moves rows.
+-- Inserting moves rows.
 module _ {X : Type 0} (cmp : X → X → Ordering) where
   put_moves : (x : X) (ys : List X) → IsPermutation (x ∷ ys) (put cmp x ys)
   put_moves x [] = IsPermutation-refl (x ∷ [])
@@ -105,14 +105,14 @@ module _ {X : Type 0} {cmp : X → X → Ordering} (total : IsTotalOrder cmp) wh
     rises_from xs (λ i j d h g. f (suc i) (suc j) d (omega (arith, h)) (omega (arith, g))) a.1,
   )
 
-  -- rows that rise, in another order that is sorted
+  -- rising rows, in another order that is sorted
   pub sorted_rising : (xs ys : List X) → IsPermutation xs ys → Rises cmp xs → IsSorted cmp ys → ys ≡ xs
   sorted_rising xs ys p rises sorted =
       let apart = IsDistinct-IsPermutation (λ x y. is_eq (cmp x y)) flips xs ys p (distinct cmp xs rises) in
       let up = rises_from ys (λ i j d h g. sorted_far (λ x y. is_lt (cmp x y)) (ranks_by total (λ x. x)) ys sorted i j d h g) apart in
       one_list total ys xs up rises (λ x h. permuted_has ys xs (IsPermutation-sym xs ys p) x h) (λ x h. permuted_has xs ys p x h)
 
--- Sorting by what a row says.
+-- Sorting by the value of a row.
 pub sorted_map : {X Y : Type 0} (f : X → Y) (cmp : Y → Y → Ordering) (xs : List X) → IsSorted (on f cmp) xs → IsSorted cmp (map f xs)
 sorted_map f cmp [] sorted k d low high = absurd (omega (arith, high))
 sorted_map f cmp (x ∷ xs) sorted k d low high =
@@ -126,7 +126,7 @@ sorted_map f cmp (x ∷ xs) sorted k d low high =
       sorted k x low long,
     )
 
--- of rows with a property, on which two orders agree
+-- two orders that agree on rows with a property sort them alike
 pub sorted_alike : {X : Type 0} (one other : X → X → Ordering) (P : X → Type 0) → ((x y : X) → P x → P y → one x y ≡ other x y)
     → (xs : List X) → AllByRecursion P xs → IsSorted one xs → IsSorted other xs
 sorted_alike one other P alike xs all sorted k d low high =

@@ -1,4 +1,4 @@
--- What the texts of the look-ups stand for.
+-- Proves how the texts of the look-ups are parsed.
 use Rattle.std.proofs.Common.{◌++◌, ℕ, pos, List, [], ◌∷◌, codes, true, false, refl}
 use Rattle.sqlite_sql.specs.Term.{Term, lit, col, op2}
 use Rattle.sqlite_sql.specs.Query.{Query}
@@ -12,7 +12,7 @@ use Rattle.sqlite.specs.Listing.{understood}
 use Rattle.hub_reads.proofs.Finding.{some_of, all_of}
 use Rattle.hub_reads.proofs.Looking.{Selects}
 
--- the column of the row is the parameter; both are counted from 1
+-- the column of the row equals the parameter; both are counted from 1
 abbrev pub given_at : ℕ → ℕ → Term
 given_at column parameter = op2 (Compare Eq Binary) (col 1 column) (col 0 parameter)
 

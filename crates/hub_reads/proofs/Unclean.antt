@@ -1,4 +1,4 @@
--- When a row lacks the form of its kind.
+-- Shows when a row does not have the form of its kind.
 use Rattle.std.proofs.Common.{◌==◌, ◌≤◌, ◌^◌, [], ◌∷◌, ◌≡◌, ℕ, ◌+◌, ◌-◌, ◌<◌, nat_lt, List, length, get_or, Bool, true, false, Option}
 use Rattle.std.proofs.Common.{Some, None, if◌then◌else◌, nat_le, refl, arith}
 use Rattle.std.proofs.Math.Bool.{and-false}
@@ -16,7 +16,7 @@ bytes_fit xs h = list_all-from_AllPass (λ byte. nat_lt byte 256) xs (λ k d wit
     less : (n : ℕ) → n < 256 → nat_lt n 256 ≡ true
     less n low = grind (arith, nat_tests)
 
--- what a test lets through, and what it does not
+-- which value passes a test, and which does not
 pub passed : {X : Type 0} (b : Bool) (x y : X) → Some x ≡ (if b then Some y else None) → b ≡ true
 passed true x y h = refl
 passed false x y h = absurd cc
@@ -25,7 +25,7 @@ pub failed : {X : Type 0} (b : Bool) (y : X) → ◌≡◌ {A = Option X} None (
 failed true y h = absurd cc
 failed false y h = refl
 
--- the pieces of a line are more than it orders
+-- too many pieces of a line are open
 pub too_open : (ordered open_qty refused cancelled : ℕ) → is_within 0 ordered open_qty ≡ false
     → nat_le (open_qty + refused + cancelled) ordered ≡ false
 too_open ordered open_qty refused cancelled h = grind (arith, nat_tests)
@@ -41,7 +41,7 @@ too_cancelled ordered open_qty refused cancelled h = grind (arith, nat_tests)
 pub too_many : (most n : ℕ) → is_within 0 most n ≡ false → nat_le n most ≡ false
 too_many most n h = grind (arith, nat_tests)
 
--- the pieces of a line are no more than it orders
+-- the open pieces of a line are no more than it orders
 pub fits : (ordered open_qty refused cancelled : ℕ) → is_within 0 ordered open_qty ≡ true → is_within 0 (ordered - open_qty) refused ≡ true
     → is_within 0 (ordered - open_qty - refused) cancelled ≡ true → nat_le (open_qty + refused + cancelled) ordered ≡ true
 fits ordered open_qty refused cancelled h g k = grind (arith, nat_tests)
@@ -49,7 +49,7 @@ fits ordered open_qty refused cancelled h g k = grind (arith, nat_tests)
 pub no_more : (most n : ℕ) → is_within 0 most n ≡ true → nat_le n most ≡ true
 no_more most n h = grind (arith, nat_tests)
 
--- where a row of one table lacks the form of its kind
+-- a row of one table does not have the form of its kind
 module _ (t : Tables) where
   pub lines_unclean : list_all clean_line t.lines ≡ false → are_clean t ≡ false
   lines_unclean h = simp (h, and-false)
@@ -69,10 +69,10 @@ module _ (t : Tables) where
   pub mail_unclean : list_all clean_mail t.mail ≡ false → are_clean t ≡ false
   mail_unclean h = simp (h, and-false)
 
--- what a line says that is not clean
+-- what is wrong with a line that does not have its form
 pub ruleset unclean_line = (first_fails, later_fails, too_open, too_refused, too_cancelled)
 
--- a number that takes more than one byte is of no case
+-- a number that takes more than one byte is not the number of a case
 pub no_case : {C : Type 0} (number : C → ℕ) (small : (case : C) → number case < 256) (n : ℕ) (cases : List C)
     → 2 ^ 64 ≤ n
     → list_any (λ case. n == number case) cases ≡ false

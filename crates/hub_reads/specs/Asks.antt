@@ -1,4 +1,4 @@
--- What asking a connection by one text does.
+-- Defines what asking a connection with one text does.
 use Rattle.std.specs.Prelude.{◌≡◌, ◌⊎◌, ℕ, false, IsTrue, IsSome, List, Result, Ok, Err, None, IfOk, OnOk}
 use Rattle.sqlite_disk.specs.Disk.{MoreFaults}
 use Rattle.sqlite_value.specs.Order.{Row}
@@ -16,8 +16,8 @@ use Rattle.hub_schema.specs.State.{Spares}
 abbrev pub OnlyReads : List ℕ → Type 0
 OnlyReads text = (schema : Schema) (c : Compiled) → understood schema text ≡ Ok c → c.returning ≡ None
 
--- the answer reads the rows that are shown, which spoil it where it is `Unclean`; a fault of the disk is told only where
--- the query failed by an error that is one, and not for want of memory
+-- The outcome of a query: at Ok the answer is read from the rows shown; `Unclean` means that these rows spoil it; and
+-- `Disk` means that the query failed with an error other than out of memory.
 pub record Asks {X : Type 0} (Reads : List Row → X → Type 0) (Spoil : List Row → Type 0) (text : List ℕ) (params : Row)
     (old new : State) (result : Result X StoreFault) : Type 0 where
   pub reads : HasCleanDisk new → IfOk result (λ x. (rows : List Row) × Shown text params old new rows × Reads rows x)
@@ -34,11 +34,11 @@ pub record Asks {X : Type 0} (Reads : List Row → X → Type 0) (Spoil : List R
   pub mode : old.in_transaction ≡ false → new.in_transaction ≡ false
   pub survives : Survives old new (CommitsShowing text params old)
 
--- the disk has failed or refused meanwhile, the connection was shut, or the steps of its queries are limited
+-- the disk has failed or refused since, the connection was shut, or the steps of its queries are limited
 abbrev pub HasDiskCause : State → State → Type 0
 HasDiskCause old new = MoreFaults old.faults new.faults ⊎ ((old.is_open ≡ false) ⊎ IsSome old.step_limit)
 
--- in tables of this schema a fault of the disk has a cause
+-- in tables of this schema, a fault of the disk has a cause
 abbrev pub DiskHasCause : {X : Type 0} → Schema → State → State → Result X StoreFault → Type 0
 DiskHasCause schema old new result =
     HasCleanDisk new → (IsTrue old.is_open → old.now.schema ≡ schema) → result ≡ Err Disk → HasDiskCause old new

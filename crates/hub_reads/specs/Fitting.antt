@@ -1,4 +1,4 @@
--- Whether a register fits to the rows of schema 1, one kind after another.
+-- Defines whether a register fits the rows of schema 1, one kind after another.
 use Rattle.std.specs.Prelude.{◌≡◌, Bool, ◌&&◌, Result}
 use Rattle.std.specs.List.{list_all}
 use Rattle.sqlite_value.specs.Order.{Row, column}
@@ -12,14 +12,14 @@ use Rattle.hub_schema.specs.Schema.{old_schema}
 use Rattle.hub_schema.specs.State.{LooksForOld, Never}
 use Rattle.hub_reads.specs.Asks.{DiskHasCause}
 
--- what a query shows: the supplier of a row, or the SSCC and the supplier of a pallet
+-- of the columns that a query shows: the supplier of a row, or the SSCC and the supplier of a pallet
 abbrev pub registered_in : RegisterRows → Row → Bool
 registered_in register row = is_registered register (bytes_in (column row 0))
 
 abbrev pub pallet_fits : RegisterRows → Row → Bool
 pallet_fits register row = is_under (row_of register (bytes_in (column row 1))) (bytes_in (column row 0))
 
--- each kind
+-- whether the register fits the rows of each kind
 abbrev pub orders_fit : RegisterRows → Tables → Bool
 orders_fit register t = list_all (λ row. is_registered register row.supplier) t.orders
 
@@ -38,7 +38,7 @@ remembered_fit register t = list_all (λ row. is_registered register row.supplie
 abbrev pub mail_fits : RegisterRows → Tables → Bool
 mail_fits register t = list_all (λ row. is_registered register row.supplier) t.mail
 
--- from a kind on
+-- whether it fits the rows of this kind and of all later ones
 abbrev pub from_remembered : RegisterRows → Tables → Bool
 from_remembered register t = remembered_fit register t && mail_fits register t
 
@@ -51,7 +51,7 @@ from_advices register t = advices_fit register t && from_pallets register t
 abbrev pub from_lines : RegisterRows → Tables → Bool
 from_lines register t = lines_fit register t && from_advices register t
 
--- a look-up in schema 1 that tells this, is never `Unclean`, and fails of the disk only with a cause
+-- A look-up in schema 1 with this answer, which never fails with `Unclean`, and with `Disk` only for a cause.
 pub record TellsOld (fit : Tables → Bool) (old new : State) (result : Result Bool StoreFault) : Type 0 where
   pub looks : LooksForOld (λ t is. is ≡ fit t) Never old new result
   pub disk : DiskHasCause old_schema old new result

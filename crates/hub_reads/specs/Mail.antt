@@ -1,4 +1,5 @@
--- Entries of mailboxes as a query finds them. It compares their numbers, and takes those below zero as such.
+-- Defines mailbox entries as a query finds them. A query compares numbers with their sign, so a negative one is below
+-- zero.
 use Rattle.std.specs.Prelude.{ℕ, ◌%◌, ◌^◌, ◌==◌, Bool, not, ◌&&◌, ◌||◌, nat_lt, List, filter, map, Option, None, option_map}
 use Rattle.std.specs.List.{last_or}
 use Rattle.hub_store.specs.Heads.{head_of}
@@ -8,11 +9,11 @@ use Rattle.hub_tables.specs.State.{is_taken}
 use Rattle.hub_tables.specs.Tables.{Tables, view}
 use Rattle.hub_tables.specs.declared.rows.MailRow.{MailRow}
 
--- what a cell shows whose number is no greater than zero
+-- whether a cell that is read as this number is zero or less
 abbrev pub is_low : ℕ → Bool
 is_low n = (n == 0) || (nat_lt (2 ^ 65) n && (n % 2 == 1))
 
--- a number above this one, as a query has it
+-- whether a number is above this one, as a query compares them
 abbrev pub is_above : ℕ → ℕ → Bool
 is_above bound n = nat_lt bound n && not (is_low n)
 

@@ -1,4 +1,4 @@
--- What the number of the schema is.
+-- Defines what the look-up of the schema's number returns.
 use Rattle.std.specs.Prelude.{◌≡◌, ◌⊎◌, ◌↔◌, ℕ, false, Bool, IsTrue, Result, Err, IfOk, IfErr, OnOk}
 use Rattle.sqlite.specs.State.{State, HasCleanDisk, Survives}
 use Rattle.hub_store.specs.declared.fault.StoreFault.{StoreFault}
@@ -7,8 +7,8 @@ use Rattle.hub_schema.specs.Schema.{old_schema, hub_schema}
 use Rattle.hub_schema.specs.State.{HasNumber, Never, Spares}
 use Rattle.hub_reads.specs.Asks.{HasDiskCause}
 
--- whether it is this, exactly, in the tables of a hub or in those of schema 1, where a fault of the disk has a cause;
--- nothing changes, also after a crash; after a fault a transaction that was open may be undone
+-- Whether the schema's number is exactly this, in the tables of a hub or in those of schema 1; there, a fault of the
+-- disk has a cause. Nothing changes, even after a crash; after a fault, a transaction that was open may be undone.
 pub record TellsNumber (n : ℕ) (old new : State) (result : Result Bool StoreFault) : Type 0 where
   pub number :
       HasCleanDisk new → (old.now.schema ≡ hub_schema) ⊎ (old.now.schema ≡ old_schema) →

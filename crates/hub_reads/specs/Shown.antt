@@ -1,4 +1,4 @@
--- What a query shows of a stored row: all columns but the row number.
+-- Defines how the columns that a query shows are read: all columns of a row but the row number.
 use Rattle.std.specs.Prelude.{ℕ, List, ◌∷◌}
 use Rattle.sqlite_value.specs.declared.value.Value.TheVariants.{Null}
 use Rattle.sqlite_value.specs.Order.{Row, column}
@@ -38,7 +38,7 @@ shown_receipt row = receipt_in (Null ∷ row)
 abbrev pub shown_mail : Row → MailRow
 shown_mail row = mail_in (Null ∷ row)
 
--- number, kind and document of an entry
+-- number, kind and document number of an entry
 abbrev pub shown_head : Row → MailHead
 shown_head row = record {
   number = number_in (column row 0);
@@ -46,10 +46,10 @@ shown_head row = record {
   document = bytes_in (column row 2);
 }
 
--- of one column of bytes
+-- one column of bytes
 abbrev pub shown_bytes : Row → List ℕ
 shown_bytes row = bytes_in (column row 0)
 
--- of one column of numbers
+-- one column of numbers
 abbrev pub shown_number : Row → ℕ
 shown_number row = number_in (column row 0)

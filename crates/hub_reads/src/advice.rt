@@ -1,4 +1,4 @@
-//! Look-ups of despatch advices.
+//! Looks up despatch advices.
 ghost use Rattle.sqlite.specs.Held.{state};
 ghost use Rattle.hub_schema.specs.State.{LooksUp};
 ghost use Rattle.hub_tables.specs.State.{knows_advice};

@@ -1,4 +1,4 @@
-//! Asking a connection by a fixed text.
+//! Asks a connection with a fixed text.
 ghost use Rattle.std.specs.Prelude.{◌≡◌, ◌⊎◌, ◌==◌, false, not, length, map, slice_get, IsTrue, IfOk, IfErr, IfSome};
 ghost use Rattle.std.specs.List.{list_all};
 ghost use Rattle.sqlite.specs.Held.{state};
@@ -14,7 +14,7 @@ use sqlite::types::ValueRef;
 use sqlite::{Alter, Connection, Row};
 use std::alloc::Global;
 
-/// The rows of an answer.
+/// Returns the rows of an answer.
 pub(crate) fn ask<S: Alter>(
     conn: &mut Connection<S>,
     text: &str,
@@ -44,7 +44,7 @@ pub(crate) fn has_row<S: Alter>(
     Ok(!rows.is_empty())
 }
 
-/// The rows of an answer, where each is of its kind.
+/// Returns the rows of an answer; `Unclean` if one does not have the form of its kind.
 pub(crate) fn rows_of<S: Alter, T: Shown>(
     conn: &mut Connection<S>,
     alloc: Global,
@@ -60,7 +60,7 @@ pub(crate) fn rows_of<S: Alter, T: Shown>(
     all_shown(alloc, rows.as_slice())
 }
 
-/// The first row of an answer, where it is of its kind.
+/// Returns the first row of an answer, if there is one; `Unclean` if it does not have the form of its kind.
 pub(crate) fn first_of<S: Alter, T: Shown>(
     conn: &mut Connection<S>,
     text: &str,

@@ -1,4 +1,4 @@
-//! Look-ups of the contents of pallets.
+//! Looks up the contents of pallets.
 ghost use Rattle.std.specs.Prelude.{IsTrue, IfOk};
 ghost use Rattle.std.specs.List.{list_all};
 ghost use Rattle.sqlite.specs.Held.{state};
@@ -17,7 +17,7 @@ use sqlite::types::ValueRef;
 use sqlite::{Alter, Connection};
 use std::alloc::Global;
 
-/// The contents of a pallet of whatever supplier, by place.
+/// Returns the contents of a pallet of any supplier, by place.
 pub fn contents_on<S: Alter>(
     conn: &mut Connection<S>,
     alloc: Global,
@@ -35,7 +35,7 @@ pub fn contents_on<S: Alter>(
     )
 }
 
-/// The contents of a pallet, by place. None where the pallet is another supplier's.
+/// Returns the contents of a pallet, by place. There are none if the pallet is another supplier's.
 pub fn contents_of<S: Alter>(
     conn: &mut Connection<S>,
     alloc: Global,

@@ -1,4 +1,4 @@
-//! Whether a register fits to the rows of schema 1, in which none is founded yet.
+//! Checks whether a register fits the rows of schema 1, in which no register has been founded yet.
 ghost use Rattle.std.specs.Prelude.{◌≡◌, ◌⊎◌, [], option_copied, IfErr};
 ghost use Rattle.std.specs.List.{list_all};
 ghost use Rattle.sqlite.specs.Held.{state};
@@ -19,11 +19,11 @@ use hub_register::Register;
 use hub_store::StoreFault;
 use sqlite::{Alter, Connection, Row};
 
-// The row of the supplier whose GLN is in a cell. What is no GLN is nobody's.
+// Returns the supplier whose GLN is in a cell, if there is one. Bytes that are not a GLN name no supplier.
 fn supplier_in<'a>(register: &'a Register, row: &Row, at: usize) -> Option<&'a SupplierRow>
     ensures { option_copied result ≡ row_of register.now (bytes_in (column row.now at)) }
 {
-    // The contract of `hub` says that each GLN of the register is one.
+    // This contract says that each GLN of the register is one.
     let _register = register.hub();
     match gln_at(row, at) {
         Ok(gln) => register.supplier(&gln),
@@ -31,7 +31,7 @@ fn supplier_in<'a>(register: &'a Register, row: &Row, at: usize) -> Option<&'a S
     }
 }
 
-// Whether an SSCC is under a prefix of a supplier.
+// Whether an SSCC is under one of the supplier's prefixes.
 fn is_under(supplier: &SupplierRow, sscc: &Sscc) -> bool
     ensures { result ≡ under_some sscc.now supplier.now.prefixes }
 {
@@ -42,7 +42,7 @@ fn is_under(supplier: &SupplierRow, sscc: &Sscc) -> bool
         .any(|prefix| sscc.under(prefix))
 }
 
-// Whether the SSCC of a pallet is under a prefix of its supplier, who is registered.
+// Whether the supplier of a pallet is registered, and the SSCC is under one of its prefixes.
 fn pallet_fits(register: &Register, row: &Row) -> bool
     ensures { result ≡ spec.pallet_fits register.now row.now }
 {
@@ -149,7 +149,7 @@ fn mail_fits<S: Alter>(conn: &mut Connection<S>, register: &Register) -> Result<
     are_registered(conn, register, "SELECT supplier FROM mail")
 }
 
-// The pallets, what is remembered, and the mail.
+// Whether the register fits the pallets, the remembered messages, and the mail.
 fn from_pallets<S: Alter>(conn: &mut Connection<S>, register: &Register) -> Result<bool, StoreFault>
     ensures looks { spec.TellsOld (spec.from_pallets register.now)
         (state S.Store conn.old) (state S.Store conn.new) result }
@@ -166,8 +166,8 @@ fn from_pallets<S: Alter>(conn: &mut Connection<S>, register: &Register) -> Resu
     mail_fits(conn, register)
 }
 
-/// Whether the register fits to the rows of schema 1: each supplier of a row is registered, and each pallet's SSCC is under
-/// one of its company prefixes. Cells that are no GLN or no SSCC fit to no register.
+/// Whether the register fits the rows of schema 1: the supplier of each row is registered, and each pallet's SSCC is
+/// under one of its supplier's company prefixes. A cell that is not a GLN or an SSCC fits no register.
 pub fn fits<S: Alter>(conn: &mut Connection<S>, register: &Register) -> Result<bool, StoreFault>
     ensures looks { spec.TellsOld (founding.fits register.now)
         (state S.Store conn.old) (state S.Store conn.new) result }

@@ -1,4 +1,5 @@
-//! The look-ups of a hub in SQL: one statement each, of fixed text, that reads one table by a key, or all of it.
+//! Looks up the rows of a hub with SQL: each look-up is one statement of fixed text, and reads one table by a key or as
+//! a whole.
 #![tactic(auto)]
 
 mod advice;

@@ -1,4 +1,4 @@
-//! Look-ups of the lines of orders.
+//! Looks up the lines of orders.
 ghost use Rattle.std.specs.Prelude.{◌≡◌, ◌++◌, pos, IsTrue, IfOk, OnOk};
 ghost use Rattle.std.specs.List.{list_all};
 ghost use Rattle.sqlite.specs.Held.{state};
@@ -21,7 +21,7 @@ use sqlite::{Alter, Connection};
 use std::alloc::Global;
 use std::collections::BTreeSet;
 
-/// The lines of an order, by line number.
+/// Returns the lines of an order, by line number.
 pub fn lines_of<S: Alter>(
     conn: &mut Connection<S>,
     alloc: Global,
@@ -41,14 +41,14 @@ pub fn lines_of<S: Alter>(
     )
 }
 
-// A line number as a parameter.
+// Returns a line number as a parameter.
 fn value_of<'a>(line: u32) -> ValueRef<'a>
     ensures { owned result ≡ Int (pos line) }
 {
     ValueRef::Int(i64::from(line))
 }
 
-// The lines of an order that have a line number: one or none, where tables are sound.
+// Returns the lines of an order with a line number: one or none, if the tables are sound.
 fn lines_numbered<S: Alter>(
     conn: &mut Connection<S>,
     alloc: Global,
@@ -74,7 +74,7 @@ fn lines_numbered<S: Alter>(
     )
 }
 
-// Puts rows after others.
+// Appends rows to others.
 fn put_lines(found: &mut Items<LineRow>, rows: Items<LineRow>) -> Result<(), MemoryFault>
     ensures { OnOk result (found.new ≡ found.old ++ rows) }
 {
@@ -84,7 +84,8 @@ fn put_lines(found: &mut Items<LineRow>, rows: Items<LineRow>) -> Result<(), Mem
     Ok(())
 }
 
-/// The lines of an order that have one of these line numbers, by number: of each one or none, where tables are sound.
+/// Returns the lines of an order with one of these line numbers, by number: for each number one or none, if the tables
+/// are sound.
 pub fn lines_at<S: Alter>(
     conn: &mut Connection<S>,
     alloc: Global,
@@ -98,7 +99,7 @@ pub fn lines_at<S: Alter>(
 {
     let mut numbers = lines.iter();
     let Some(first) = numbers.next() else {
-        // Nothing is found without a number, but a connection that is shut has to fail here too.
+        // Without numbers there is nothing to find, but a connection that is shut has to fail here too.
         order_known(conn, supplier, number)?;
         return Ok(Items::new(alloc));
     };
@@ -110,7 +111,7 @@ pub fn lines_at<S: Alter>(
     Ok(found)
 }
 
-/// The lines of all orders of the supplier, by order number and line number.
+/// Returns the lines of all orders of the supplier, by order number and line number.
 pub fn all_lines<S: Alter>(
     conn: &mut Connection<S>,
     alloc: Global,

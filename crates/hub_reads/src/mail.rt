@@ -1,4 +1,4 @@
-//! Look-ups in mailboxes.
+//! Looks up entries of mailboxes.
 ghost use Rattle.std.specs.Prelude.{◌≡◌, ◌<◌, ◌≤◌, ◌^◌, ◌⊎◌, pos, negsuc};
 ghost use Rattle.std.specs.Prelude.{length, map, take, IsTrue, IfOk, IfSome};
 ghost use Rattle.std.specs.List.{list_all, list_any};
@@ -26,7 +26,7 @@ use sqlite::types::ValueRef;
 use sqlite::{Alter, Connection};
 use std::alloc::Global;
 
-// The number as a parameter.
+// Returns a number as a parameter.
 fn signed<'a>(number: u64) -> ValueRef<'a>
     requires { number < 2 ^ 63 }
     ensures { owned result ≡ Int (pos number) }
@@ -34,7 +34,7 @@ fn signed<'a>(number: u64) -> ValueRef<'a>
     ValueRef::Int(number as i64)
 }
 
-// Whether the supplier has an entry whose number is no greater than zero.
+// Whether the supplier has an entry whose number is zero or less.
 fn has_low<S: Alter>(conn: &mut Connection<S>, supplier: &Gln) -> Result<bool, StoreFault>
     ensures looks { LooksUp (λ t. list_any (spec.low_of supplier.now) t.mail)
         (state S.Store conn.old) (state S.Store conn.new) result }
@@ -64,7 +64,7 @@ fn has_above<S: Alter>(
     )
 }
 
-// The mailbox entry of a number that can be a parameter.
+// Returns the mailbox entry with a number that can be a parameter.
 fn entry_of<S: Alter>(
     conn: &mut Connection<S>,
     supplier: &Gln,
@@ -83,7 +83,7 @@ fn entry_of<S: Alter>(
     )
 }
 
-/// The mailbox entry of a number.
+/// Returns the mailbox entry with a number, if there is one.
 pub fn mail_item<S: Alter>(
     conn: &mut Connection<S>,
     supplier: &Gln,
@@ -103,7 +103,7 @@ pub fn mail_item<S: Alter>(
     Ok(None)
 }
 
-// The most rows of an answer, as a parameter; a number that SQL does not have sets no limit.
+// Returns the greatest number of rows as a parameter; a number too large for SQL sets no limit.
 fn most_rows<'a>(limit: usize) -> ValueRef<'a>
     ensures { (owned result ≡ Int (pos limit)) ⊎ ((2 ^ 63 ≤ limit) × (owned result ≡ Int (negsuc 0))) }
 {
@@ -113,7 +113,7 @@ fn most_rows<'a>(limit: usize) -> ValueRef<'a>
     }
 }
 
-// The first of them.
+// Returns the first `limit` of the entries.
 fn first_heads(heads: Items<MailHead>, limit: usize) -> Items<MailHead>
     ensures first { result ≡ take limit heads }
     ensures limit { length result ≤ limit }
@@ -123,7 +123,7 @@ fn first_heads(heads: Items<MailHead>, limit: usize) -> Items<MailHead>
     Items::from_vec(heads)
 }
 
-// What a list shows of the entries above a number that are not taken, by number: of so many of them, or of all.
+// Returns what a list shows of the entries above a number that are not taken, by number: of `most` of them, or of all.
 fn heads_above<S: Alter>(
     conn: &mut Connection<S>,
     alloc: Global,
@@ -146,7 +146,7 @@ fn heads_above<S: Alter>(
     )
 }
 
-// The first of them, above a number that can be a parameter.
+// Like `heads_above`, for the first `limit` entries, above a number that can be a parameter.
 #[tactic(auto, using(crate::proofs::Counting::all_take))]
 fn first_above<S: Alter>(
     conn: &mut Connection<S>,
@@ -166,7 +166,7 @@ fn first_above<S: Alter>(
     Ok(first_heads(heads, limit))
 }
 
-// The first of them, above any number.
+// Like `first_above`, above any number.
 fn untaken_above<S: Alter>(
     conn: &mut Connection<S>,
     alloc: Global,
@@ -189,8 +189,8 @@ fn untaken_above<S: Alter>(
     Ok(Items::new(alloc))
 }
 
-/// What a list shows of the mailbox entries above a number that are not taken, by number: of the first so many of them.
-/// No body is read.
+/// Returns what a list shows of the mailbox entries above a number that are not taken, by number: of the first `limit`
+/// of them. No message is read.
 pub fn mail_after<S: Alter>(
     conn: &mut Connection<S>,
     alloc: Global,
@@ -210,7 +210,7 @@ pub fn mail_after<S: Alter>(
     untaken_above(conn, alloc, supplier, number, limit)
 }
 
-// The number of the last entry above zero.
+// Returns the number of the last entry above zero.
 fn highest<S: Alter>(conn: &mut Connection<S>, supplier: &Gln) -> Result<Option<u64>, StoreFault>
     ensures looks { LooksUp (spec.highest supplier.now)
         (state S.Store conn.old) (state S.Store conn.new) result }
@@ -223,7 +223,7 @@ fn highest<S: Alter>(conn: &mut Connection<S>, supplier: &Gln) -> Result<Option<
     )
 }
 
-// The same, and 0 where there is none.
+// Returns the number of the last entry above zero, or 0 if there is none.
 fn highest_or_zero<S: Alter>(conn: &mut Connection<S>, supplier: &Gln) -> Result<u64, StoreFault>
     ensures looks { LooksUp (λ t. unwrap_or (spec.highest supplier.now t) 0)
         (state S.Store conn.old) (state S.Store conn.new) result }
@@ -233,7 +233,7 @@ fn highest_or_zero<S: Alter>(conn: &mut Connection<S>, supplier: &Gln) -> Result
     Ok(number.unwrap_or(0))
 }
 
-/// The number of the last entry of the supplier's mailbox, 0 where there is none.
+/// Returns the number of the last entry of the supplier's mailbox, or 0 if there is none.
 pub fn last_mail<S: Alter>(conn: &mut Connection<S>, supplier: &Gln) -> Result<u64, StoreFault>
     ensures looks { LooksUp (λ t. last (view supplier.now t))
         (state S.Store conn.old) (state S.Store conn.new) result }

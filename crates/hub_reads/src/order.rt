@@ -1,4 +1,4 @@
-//! Look-ups of orders.
+//! Looks up orders.
 ghost use Rattle.sqlite.specs.Held.{state};
 ghost use Rattle.hub_schema.specs.State.{LooksUp};
 ghost use Rattle.hub_tables.specs.State.{knows_order};
@@ -10,7 +10,7 @@ use hub_store::StoreFault;
 use sqlite::types::ValueRef;
 use sqlite::{Alter, Connection};
 
-/// Whether the supplier has an order of this number.
+/// Whether the supplier has an order with this number.
 pub fn order_known<S: Alter>(
     conn: &mut Connection<S>,
     supplier: &Gln,

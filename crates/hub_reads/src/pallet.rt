@@ -1,4 +1,4 @@
-//! Look-ups of pallets.
+//! Looks up pallets.
 ghost use Rattle.std.specs.Prelude.{IsTrue, IfOk, IfSome};
 ghost use Rattle.std.specs.List.{list_all};
 ghost use Rattle.sqlite.specs.Held.{state};
@@ -16,7 +16,7 @@ use sqlite::types::ValueRef;
 use sqlite::{Alter, Connection};
 use std::alloc::Global;
 
-/// Whether any supplier has a pallet of this SSCC.
+/// Whether any supplier has a pallet with this SSCC.
 pub fn used<S: Alter>(conn: &mut Connection<S>, sscc: &Sscc) -> Result<bool, StoreFault>
     ensures looks { LooksUp (λ t. has_pallet t sscc.now)
         (state S.Store conn.old) (state S.Store conn.new) result }
@@ -28,7 +28,7 @@ pub fn used<S: Alter>(conn: &mut Connection<S>, sscc: &Sscc) -> Result<bool, Sto
     )
 }
 
-/// Whether the supplier has a pallet of this SSCC.
+/// Whether the supplier has a pallet with this SSCC.
 pub(crate) fn is_held<S: Alter>(
     conn: &mut Connection<S>,
     supplier: &Gln,
@@ -47,7 +47,7 @@ pub(crate) fn is_held<S: Alter>(
     )
 }
 
-/// The supplier's pallet of an SSCC.
+/// Returns the supplier's pallet with an SSCC, if it has one.
 pub fn pallet_of<S: Alter>(
     conn: &mut Connection<S>,
     supplier: &Gln,
@@ -67,7 +67,7 @@ pub fn pallet_of<S: Alter>(
     )
 }
 
-/// The pallets of the supplier, by SSCC.
+/// Returns the pallets of the supplier, by SSCC.
 pub fn all_pallets<S: Alter>(
     conn: &mut Connection<S>,
     alloc: Global,

@@ -1,4 +1,4 @@
-//! Look-ups of the register: the hub's row, the keys of suppliers and their company prefixes.
+//! Looks up the register: the hub's row, the keys of suppliers and their company prefixes.
 ghost use Rattle.std.specs.Prelude.{◌≡◌, false, IsTrue, IfOk};
 ghost use Rattle.std.specs.List.{list_all};
 ghost use Rattle.sqlite.specs.Held.{state};
@@ -16,7 +16,7 @@ use hub_tables::{HubRow, KeyRow, PrefixRow};
 use sqlite::{Alter, Connection};
 use std::alloc::Global;
 
-/// The hub's rows, by its GLN.
+/// Returns the hub's rows, by GLN.
 pub fn all_hubs<S: Alter>(
     conn: &mut Connection<S>,
     alloc: Global,
@@ -33,7 +33,7 @@ pub fn all_hubs<S: Alter>(
     )
 }
 
-/// The keys of all suppliers, by the supplier.
+/// Returns the keys of all suppliers, by supplier.
 pub fn all_keys<S: Alter>(
     conn: &mut Connection<S>,
     alloc: Global,
@@ -50,7 +50,7 @@ pub fn all_keys<S: Alter>(
     )
 }
 
-/// The company prefixes of all suppliers, by the prefix.
+/// Returns the company prefixes of all suppliers, by prefix.
 pub fn all_prefixes<S: Alter>(
     conn: &mut Connection<S>,
     alloc: Global,
@@ -67,7 +67,7 @@ pub fn all_prefixes<S: Alter>(
     )
 }
 
-// The register of the hub's rows and keys, with the prefixes that are there.
+// Makes the register of the hub's rows and keys, with the prefixes that exist.
 fn register_by<S: Alter>(
     conn: &mut Connection<S>,
     alloc: Global,
@@ -82,7 +82,7 @@ fn register_by<S: Alter>(
     Ok(register_of(alloc, hubs, keys, prefixes.as_slice())?)
 }
 
-// The register of the hub's rows, with the keys and prefixes that are there.
+// Makes the register of the hub's rows, with the keys and prefixes that exist.
 fn register_of_hubs<S: Alter>(
     conn: &mut Connection<S>,
     alloc: Global,
@@ -95,7 +95,7 @@ fn register_of_hubs<S: Alter>(
     register_by(conn, alloc, hubs, keys.as_slice())
 }
 
-/// The register that the rows hold; `None` where they hold none.
+/// Returns the register that the rows hold, or `None` if they hold none.
 pub fn register<S: Alter>(
     conn: &mut Connection<S>,
     alloc: Global,

@@ -1,4 +1,4 @@
-//! Look-ups of what was received of pallets.
+//! Looks up what was received of pallets.
 ghost use Rattle.std.specs.Prelude.{IsTrue, IfOk};
 ghost use Rattle.std.specs.List.{list_all};
 ghost use Rattle.sqlite.specs.Held.{state};
@@ -17,7 +17,7 @@ use sqlite::types::ValueRef;
 use sqlite::{Alter, Connection};
 use std::alloc::Global;
 
-/// What was received of a pallet of whatever supplier, by item.
+/// Returns what was received of a pallet of any supplier, by item.
 pub fn receipts_on<S: Alter>(
     conn: &mut Connection<S>,
     alloc: Global,
@@ -35,7 +35,7 @@ pub fn receipts_on<S: Alter>(
     )
 }
 
-/// What was received of a pallet, by item. None where the pallet is another supplier's.
+/// Returns what was received of a pallet, by item. There is nothing if the pallet is another supplier's.
 pub fn receipts_of<S: Alter>(
     conn: &mut Connection<S>,
     alloc: Global,

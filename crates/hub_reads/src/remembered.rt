@@ -1,4 +1,4 @@
-//! Look-ups of what is remembered under references.
+//! Looks up what is remembered under references.
 ghost use Rattle.std.specs.Prelude.{◌≡◌, pos, IsTrue, IfOk, IfSome};
 ghost use Rattle.sqlite.specs.Held.{state};
 ghost use Rattle.sqlite_value.specs.Value.{owned};
@@ -17,14 +17,14 @@ use hub_tables::{Case, Side};
 use sqlite::types::ValueRef;
 use sqlite::{Alter, Connection};
 
-// The letter of a side, as a parameter.
+// Returns the letter of a side, as a parameter.
 fn letter_of<'a>(side: Side) -> ValueRef<'a>
     ensures { owned result ≡ Int (pos (side_letter side)) }
 {
     ValueRef::Int(i64::from(side.code()))
 }
 
-/// The content that is remembered of a side under two references; a cancellation has no message reference.
+/// Returns the content remembered for a side under two references; a cancellation has no message reference.
 pub fn remembered_content<'a, S: Alter>(
     conn: &mut Connection<S>,
     supplier: &'a Gln,

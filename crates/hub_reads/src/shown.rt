@@ -1,5 +1,5 @@
-//! Rows of an answer as rows of the hub. A query shows all columns of a row, in their order; for a list of a mailbox, number,
-//! kind and document alone.
+//! Reads the rows of an answer as rows of the hub. A query shows all columns of a row, in their order; for a list of a
+//! mailbox, only number, kind and document number.
 ghost use Rattle.std.specs.Prelude.{◌≡◌, ◌⊎◌, Bool, false, IsTrue, IfOk, IfErr, IfSome, Err, map, slice_get};
 ghost use Rattle.std.specs.List.{list_all};
 ghost use Rattle.hub_store.specs.Clean.{clean_line, clean_pallet, clean_content, clean_receipt, clean_mail, clean_head};
@@ -21,20 +21,21 @@ use std::alloc::Global;
 
 /// A row of one kind, as a query shows it.
 pub(crate) trait Shown: Drop {
-    /// What is shown.
+    /// The row that the cells stand for.
     ghost shown: { Values → Self };
 
-    /// It is of the kind.
+    /// Whether a row has the form of its kind.
     ghost clean: { Self → Bool };
 
-    /// The row, where it is of the kind. From `before`, the row that was read before it, it may take over what is the same.
+    /// Reads a row; `Unclean` if it does not have the form of its kind. Values that are the same as in `before`, the
+    /// row read before it, may be shared with it.
     fn of_row(row: &Row, before: Option<&Self>) -> Result<Self, StoreFault>
         ensures ok { IfOk result (λ x. (x ≡ shown row.now) × IsTrue (clean x)) }
         ensures unclean { result ≡ Err StoreFault.Unclean → clean (shown row.now) ≡ false }
         ensures fails { IfErr result (λ fault. (fault ≡ StoreFault.Memory) ⊎ (fault ≡ StoreFault.Unclean)) };
 }
 
-// The greatest number of a line, and of a place on a pallet.
+// The greatest line number, and the greatest place on a pallet.
 const LAST_LINE: u64 = 999_999;
 
 impl Shown for HubRow {
@@ -244,7 +245,7 @@ impl Shown for u64 {
     }
 }
 
-/// The rows, where each is of the kind.
+/// Reads the rows; `Unclean` if one does not have the form of its kind.
 #[tactic(auto, using(crate::proofs::Counting::one_more))]
 pub(crate) fn all_shown<T: Shown>(alloc: Global, rows: &[Row]) -> Result<Items<T>, StoreFault>
     ensures ok { IfOk result (λ items. items ≡ map T.shown rows.now) }
@@ -262,7 +263,7 @@ pub(crate) fn all_shown<T: Shown>(alloc: Global, rows: &[Row]) -> Result<Items<T
     Ok(items)
 }
 
-/// The first row, where it is of the kind.
+/// Reads the first row, if there is one; `Unclean` if it does not have the form of its kind.
 pub(crate) fn first_shown<T: Shown>(rows: &[Row]) -> Result<Option<T>, StoreFault>
     ensures ok { IfOk result (λ first. first ≡ slice_get (map T.shown rows.now) 0) }
     ensures clean { IfOk result (λ first. IfSome first (λ x. IsTrue (T.clean x))) }

@@ -1,4 +1,4 @@
-//! Cells of a row as values of the hub.
+//! Reads the cells of a row as values of the hub.
 ghost use Rattle.std.specs.List.{list_any};
 ghost use Rattle.std.specs.Prelude.{◌≡◌, ◌==◌, ◌≢◌, ◌⊎◌, ◌≤◌, ◌^◌, ◌∷◌, [], false, Err, nat_le, IfOk, IfErr, IsTrue};
 ghost use Rattle.edi_segments.specs.Service.{is_decimal};
@@ -20,7 +20,7 @@ use hub_tables::{Case, Column};
 use sqlite::types::ValueRef;
 use sqlite::{Error, ErrorCode, Row};
 
-// Out of memory, or a row without the form of its kind.
+// Returns the fault of a cell that was not read: out of memory, or a row without the form of its kind.
 fn unread(error: &Error) -> StoreFault
     ensures unclean { result ≡ StoreFault.Unclean → error.now ≢ Error.SqliteFailure ErrorCode.OutOfMemory }
     ensures which { (result ≡ StoreFault.Memory) ⊎ (result ≡ StoreFault.Unclean) }
@@ -31,7 +31,7 @@ fn unread(error: &Error) -> StoreFault
     }
 }
 
-// The bytes, each of which is below 256.
+// Turns bytes into items below 256.
 fn items_of(bytes: Vec<u8>) -> Items<u8>
     ensures value { result ≡ bytes.items }
     ensures right { IsTrue (are_bytes result) }
@@ -39,7 +39,7 @@ fn items_of(bytes: Vec<u8>) -> Items<u8>
     Items::from_vec(bytes)
 }
 
-// The bytes of a cell, where they stand.
+// Returns the bytes of a cell without copying them.
 fn blob_at(row: &Row, at: usize) -> Result<&[u8], StoreFault>
     ensures ok { IfOk result (λ bytes. bytes.now ≡ bytes_in (column row.now at)) }
     ensures unclean { IfErr result (λ fault.
@@ -51,7 +51,7 @@ fn blob_at(row: &Row, at: usize) -> Result<&[u8], StoreFault>
     }
 }
 
-/// The bytes of a cell, taken out.
+/// Returns a copy of the bytes of a cell.
 pub(crate) fn bytes_at(row: &Row, at: usize) -> Result<Items<u8>, StoreFault>
     ensures ok { IfOk result (λ bytes. bytes ≡ bytes_in (column row.now at)) }
     ensures right { IfOk result (λ bytes. IsTrue (are_bytes bytes)) }
@@ -64,7 +64,7 @@ pub(crate) fn bytes_at(row: &Row, at: usize) -> Result<Items<u8>, StoreFault>
     }
 }
 
-/// The number of a cell.
+/// Reads the number of a cell.
 pub(crate) fn number_at(row: &Row, at: usize) -> Result<u64, StoreFault>
     ensures ok { IfOk result (λ number. number ≡ number_in (column row.now at)) }
     ensures unclean { result ≡ Err StoreFault.Unclean → 2 ^ 64 ≤ number_in (column row.now at) }
@@ -76,7 +76,7 @@ pub(crate) fn number_at(row: &Row, at: usize) -> Result<u64, StoreFault>
     }
 }
 
-/// The number of a cell, within limits.
+/// Reads the number of a cell, and checks that it is within limits.
 pub(crate) fn within_at(row: &Row, at: usize, low: u64, high: u64) -> Result<u64, StoreFault>
     ensures ok { IfOk result (λ number. number ≡ number_in (column row.now at)) }
     ensures right { IfOk result (λ number. IsTrue (is_within low high number)) }
@@ -91,7 +91,7 @@ pub(crate) fn within_at(row: &Row, at: usize, low: u64, high: u64) -> Result<u64
     Ok(number)
 }
 
-/// The number of a document.
+/// Reads the number of a document.
 pub(crate) fn document_at(row: &Row, at: usize) -> Result<Items<u8>, StoreFault>
     ensures ok { IfOk result (λ number. number ≡ bytes_in (column row.now at)) }
     ensures right { IfOk result (λ number. IsTrue (is_number number)) }
@@ -105,7 +105,7 @@ pub(crate) fn document_at(row: &Row, at: usize) -> Result<Items<u8>, StoreFault>
     Ok(number)
 }
 
-/// A GLN.
+/// Reads a GLN.
 pub(crate) fn gln_at(row: &Row, at: usize) -> Result<Gln, StoreFault>
     ensures ok { IfOk result (λ gln. gln ≡ bytes_in (column row.now at)) }
     ensures right { IfOk result (λ gln. IsTrue (is_gln gln)) }
@@ -119,7 +119,7 @@ pub(crate) fn gln_at(row: &Row, at: usize) -> Result<Gln, StoreFault>
     }
 }
 
-/// A GLN, which is taken over from the row before where the bytes are the same.
+/// Reads a GLN, copying the one of the row before if the bytes are the same.
 pub(crate) fn gln_again(row: &Row, at: usize, before: Option<&Gln>) -> Result<Gln, StoreFault>
     ensures ok { IfOk result (λ gln. gln ≡ bytes_in (column row.now at)) }
     ensures right { IfOk result (λ gln. IsTrue (is_gln gln)) }
@@ -135,7 +135,7 @@ pub(crate) fn gln_again(row: &Row, at: usize, before: Option<&Gln>) -> Result<Gl
     gln_at(row, at)
 }
 
-/// A company prefix.
+/// Reads a company prefix.
 pub(crate) fn prefix_at(row: &Row, at: usize) -> Result<Prefix, StoreFault>
     ensures ok { IfOk result (λ prefix. prefix ≡ bytes_in (column row.now at)) }
     ensures right { IfOk result (λ prefix. IsTrue (is_prefix prefix)) }
@@ -149,7 +149,7 @@ pub(crate) fn prefix_at(row: &Row, at: usize) -> Result<Prefix, StoreFault>
     }
 }
 
-/// The key of a party.
+/// Reads the key of a party.
 pub(crate) fn key_at(row: &Row, at: usize) -> Result<Key, StoreFault>
     ensures ok { IfOk result (λ key. key ≡ bytes_in (column row.now at)) }
     ensures right { IfOk result (λ key. IsTrue (is_party_key key)) }
@@ -163,7 +163,7 @@ pub(crate) fn key_at(row: &Row, at: usize) -> Result<Key, StoreFault>
     }
 }
 
-/// A pallet's SSCC.
+/// Reads a pallet's SSCC.
 pub(crate) fn sscc_at(row: &Row, at: usize) -> Result<Sscc, StoreFault>
     ensures ok { IfOk result (λ sscc. sscc ≡ bytes_in (column row.now at)) }
     ensures right { IfOk result (λ sscc. IsTrue (is_key 18 sscc)) }
@@ -177,7 +177,7 @@ pub(crate) fn sscc_at(row: &Row, at: usize) -> Result<Sscc, StoreFault>
     }
 }
 
-/// An article, by all fourteen digits.
+/// Reads the number of an article, with all fourteen digits.
 pub(crate) fn gtin_at(row: &Row, at: usize) -> Result<Gtin, StoreFault>
     ensures ok { IfOk result (λ gtin. gtin ≡ bytes_in (column row.now at)) }
     ensures right { IfOk result (λ gtin. IsTrue (is_key 14 gtin)) }
@@ -194,7 +194,7 @@ pub(crate) fn gtin_at(row: &Row, at: usize) -> Result<Gtin, StoreFault>
     }
 }
 
-/// A case of an enum.
+/// Reads a case of an enum.
 pub(crate) fn case_at<C: Case + Copy>(row: &Row, at: usize) -> Result<Column<C>, StoreFault>
     ensures ok { IfOk result (λ found. found ≡ number_in (column row.now at)) }
     ensures right { IfOk result (λ found. IsTrue (list_any (λ case. found == C.number case) C.every)) }
@@ -208,7 +208,7 @@ pub(crate) fn case_at<C: Case + Copy>(row: &Row, at: usize) -> Result<Column<C>,
     }
 }
 
-/// A decimal mark.
+/// Reads a decimal mark.
 pub(crate) fn decimal_at(row: &Row, at: usize) -> Result<u8, StoreFault>
     ensures ok { IfOk result (λ decimal. decimal ≡ number_in (column row.now at)) }
     ensures right { IfOk result (λ decimal. IsTrue (is_decimal decimal)) }
@@ -222,7 +222,7 @@ pub(crate) fn decimal_at(row: &Row, at: usize) -> Result<u8, StoreFault>
     }
 }
 
-/// When a message came.
+/// Reads the moment when a message came.
 pub(crate) fn moment_at(row: &Row, at: usize) -> Result<Moment, StoreFault>
     ensures ok { IfOk result (λ moment. moment ≡ number_in (column row.now at)) }
     ensures right { IfOk result (λ moment. moment ≤ last_moment) }

@@ -1,4 +1,5 @@
--- Tables with a key changed: they hold a register and are sound as before, and suppliers see them as before.
+-- Proves that tables with a changed key still hold a register and are as sound as before, and that suppliers see them
+-- unchanged.
 use Rattle.std.proofs.Common.{◌≡◌, ◌≢◌, ℕ, suc, ◌≤◌, Bool, true, false, cond, ◌||◌, List, [], ◌∷◌, filter, map, length, Some}
 use Rattle.std.proofs.Common.{option_map, IsTrue, refl, sym, ap, ap₂, subst, ◌∙◌}
 use Rattle.std.specs.List.{AllByRecursion, list_all}
@@ -31,7 +32,7 @@ use Rattle.hub_rekey.specs.KeyChange.{rekeyed, with_retailers, with_suppliers}
 use Rattle.hub_rekey.specs.declared.key_change.KeyOwner.{KeyOwner}
 use Rattle.hub_rekey.specs.declared.key_change.KeyOwner.TheVariants.{Retailer, Supplier}
 
--- Rows that a function changes in part.
+-- A function that changes some rows of a list.
 module _ {X : Type 0} (f : X → X) where
   map_stays : {Y : Type 0} (g : X → Y) → ((x : X) → g (f x) ≡ g x) → (xs : List X) → map g (map f xs) ≡ map g xs
   map_stays g e [] = refl
@@ -64,7 +65,7 @@ module _ (gln key : List ℕ) where
   all_set [] = refl
   all_set (row ∷ rows) = ap₂ ◌∷◌ (one_set row) (all_set rows)
 
-  -- it is what the change makes
+  -- the change makes exactly these tables
   pub key_is_set : (t : Tables) → apply (SetKey new_row) t ≡ rekeyed (Supplier gln) key t
   key_is_set t = ap (λ rows. record t { keys = rows }) (all_set t.keys)
 
@@ -73,7 +74,7 @@ module _ (gln key : List ℕ) where
       elim (same row.supplier gln) as (λ v. (cond v (record row { key = key }) row).supplier ≡ row.supplier)
       [ true ↦ refl | false ↦ refl ]
 
-  -- the row that a register has of a supplier
+  -- the register's row of a supplier, with the new key
   abbrev changed : SupplierRow → SupplierRow
   changed s = cond (same s.gln gln) (record s { key = key }) s
 

@@ -1,4 +1,4 @@
--- What a call does that changes a key.
+-- Proves what a call does that changes a key.
 use Rattle.std.proofs.Common.{◌≡◌, inl, inr, ℕ, true, false, cond, ◌||◌, List, [], ◌∷◌, map, Option, Some, None, Result, Ok, Err}
 use Rattle.std.proofs.Common.{option_map, refl, sym, ap, subst, ◌∙◌}
 use Rattle.std.specs.List.{list_any}
@@ -30,7 +30,7 @@ use Rattle.hub_rekey.specs.declared.key_change.Rekeyed.{Rekeyed}
 use Rattle.hub_rekey.specs.declared.key_change.Rekeyed.TheVariants.{Done, Unknown}
 use Rattle.hub_rekey.proofs.Tables.{key_is_set, rekeyed_sound}
 
--- who has no row has no key
+-- a supplier without a row has no key
 no_key : (gln : List ℕ) (t : Tables) → row_of (register_of t) gln ≡ None → has_key t.keys gln ≡ false
 no_key gln t none = sym (by_keys t.keys) ∙ none_if_not_found (λ supplier. same supplier.gln gln) (suppliers_of t) none
   where
@@ -53,7 +53,7 @@ hub_is_set key t here =
     row : List HubRow → HubRow
     row hubs = record { hub = (hub_in hubs).hub; retailer = (hub_in hubs).retailer; key = key }
 
--- What the change that was made of the register does to tables that hold this register.
+-- What the change made for a register does to tables that hold this register.
 pub record Changes (owner : KeyOwner) (key : List ℕ) (t : Tables) (change : Change) : Type 0 where
   pub party : is_party owner t ≡ true
   pub makes : apply change t ≡ rekeyed owner key t
@@ -103,7 +103,7 @@ module _ {S : Type 0} (g : Ghosts S) (old middle : S) (owner : KeyOwner) (key : 
       → change_of (register_of (g.content old)) owner key ≡ found
   of_tables found is h = ap (λ r. change_of r owner key) (sym (looked.answers h)) ∙ is
 
-  -- no such party
+  -- there is no such party
   pub unknown : change_of register owner key ≡ None → Rekeys g old middle owner key (Ok Unknown)
   unknown none = record {
     done = λ h e. absurd (cc (e));
@@ -135,7 +135,7 @@ module _ {S : Type 0} (g : Ghosts S) (old middle : S) (owner : KeyOwner) (key : 
     made h = ap (apply change) (stayed h) ∙ (so h).makes
 
   module _ (new : S) (change : Change) (right : is_party_key key ≡ true) (is : change_of register owner key ≡ Some change) where
-    -- the store did not take it
+    -- the store failed to commit it
     pub failed : {X : Type 0} (fault : StoreFault) (result : Result Rekeyed StoreFault) → result ≡ Err fault
         → (other : StoreFault)
         → Commits {X = X} g.content g.honest g.left g.broken middle new (change ∷ []) (Err other)
@@ -153,7 +153,7 @@ module _ {S : Type 0} (g : Ghosts S) (old middle : S) (owner : KeyOwner) (key : 
           was_honest = λ h. looked.was_honest (told.was_honest h);
         })
 
-    -- it did
+    -- the store committed it
     pub done : {X : Type 0} (x : X) → Commits g.content g.honest g.left g.broken middle new (change ∷ []) (Ok x)
         → Rekeys g old new owner key (Ok Done)
     done x told =

@@ -1,4 +1,4 @@
--- A key that is changed: what the tables are then, and what a call does that changes it.
+-- Defines the tables with a changed key, and what a call that changes one does.
 use Rattle.std.specs.Prelude.{◌≡◌, ◌⊎◌, ℕ, Bool, true, false, List, map, if◌then◌else◌, Result, Ok, OnErr, Option, Some, option_map}
 use Rattle.hub_parties.specs.Rows.{RegisterRows, row_of}
 use Rattle.hub_tables.specs.Register.{has_key}
@@ -15,11 +15,11 @@ use Rattle.hub_rekey.specs.declared.key_change.KeyOwner.TheVariants.{Retailer, S
 use Rattle.hub_rekey.specs.declared.key_change.Rekeyed.{Rekeyed}
 use Rattle.hub_rekey.specs.declared.key_change.Rekeyed.TheVariants.{Done, Unknown}
 
--- the hub's row with another key of its retailer
+-- the hub's row with this key of its retailer
 abbrev pub with_retailers : List ℕ → HubRow → HubRow
 with_retailers key row = record row { key = key }
 
--- a supplier's key is this one, and each other's stays
+-- the supplier with this GLN gets this key, and every other supplier keeps its own
 abbrev pub with_suppliers : List ℕ → List ℕ → KeyRow → KeyRow
 with_suppliers gln key row = if same row.supplier gln then record row { key = key } else row
 
@@ -39,8 +39,8 @@ change_of register Retailer key = Some (SetHub (record { hub = register.hub; ret
 change_of register (Supplier gln) key =
     option_map (λ row. SetKey (record { supplier = gln; key = key })) (row_of register gln)
 
--- The key is changed, or there is no such party and the content stays; after a fault it stays too. A crash leaves the old
--- key or the new one, and once the key is changed the new one alone.
+-- The outcome of changing a key: it is changed, or there is no such party and the content stays. After a fault the
+-- content stays too. A crash leaves the old key or the new one; once the key is changed, only the new one.
 pub record Rekeys {S : Type 0} (g : Ghosts S) (old new : S) (owner : KeyOwner) (key : List ℕ)
     (result : Result Rekeyed StoreFault) : Type 0 where
   pub done : g.honest new → result ≡ Ok Done →

@@ -1,4 +1,4 @@
-//! A party's key that is changed in a store.
+//! Changes a party's key in a store.
 ghost use Rattle.std.specs.Prelude.{◌≡◌, true};
 ghost use Rattle.hub_parties.specs.Key.{is_party_key};
 ghost use Rattle.hub_store.specs.Calls.{Fails};
@@ -12,16 +12,16 @@ use hub_register::Register;
 use hub_store::{Store, StoreFault};
 use hub_tables::{Change, HubRow, KeyRow};
 
-/// Whose key is changed.
+/// The party whose key is changed.
 #[derive(Clone, Copy, Debug, PartialEq, Eq)]
 pub enum KeyOwner {
-    /// The retailer's.
+    /// The retailer.
     Retailer,
-    /// That of the supplier with this GLN.
+    /// The supplier with this GLN.
     Supplier(Gln),
 }
 
-/// What became of it.
+/// Whether a key was changed.
 #[derive(Clone, Copy, Debug, PartialEq, Eq)]
 pub enum Rekeyed {
     /// The key is changed.
@@ -30,12 +30,12 @@ pub enum Rekeyed {
     Unknown,
 }
 
-// The change that gives a party of this register the key; `None` where it has no such party.
+// Returns the change that gives a party of this register the key, or `None` if it has no such party.
 fn change_of(register: &Register, owner: &KeyOwner, key: Key) -> Option<Change>
     ensures value { result ≡ spec.change_of register.now owner.now key }
     ensures valid { is_party_key key ≡ true }
 {
-    // The contract of this call says that the key is one.
+    // This contract says that the key is one.
     let _bytes = key.bytes();
     match owner {
         KeyOwner::Retailer => Some(Change::SetHub(HubRow {
@@ -53,11 +53,13 @@ fn change_of(register: &Register, owner: &KeyOwner, key: Key) -> Option<Change>
     }
 }
 
-/// Changes the key of one party, in one commit. It does not ask for the old key: anyone who can open the store can do so.
+/// Changes the key of one party, in one commit. It does not ask for the old key: anyone who can open the store can do
+/// this.
 ///
 /// # Errors
 ///
-/// Those of the store. The store then answers as before, but once it is opened again it may have either key.
+/// Returns the store's fault. The store then holds what it held before, but once it is opened again it may have either
+/// key.
 pub fn rekey<S: Store>(store: &mut S, owner: &KeyOwner, key: Key) -> Result<Rekeyed, StoreFault>
     ensures rekeys { (S.honest store.old → SoundHub (S.content store.old)) →
         Rekeys S.Store store.old store.new owner.now key result }

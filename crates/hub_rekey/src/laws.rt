@@ -1,4 +1,4 @@
-//! Laws of a key that is changed, each the contract of a function without a body.
+//! States laws about changing a key, each as the contract of a function without a body.
 ghost use Rattle.std.specs.Prelude.{◌≡◌, ◌≢◌, true, ℕ, List, IsTrue};
 ghost use Rattle.hub_parties.specs.Key.{is_party_key};
 ghost use Rattle.hub_tables.specs.Register.{parties_in};
@@ -8,14 +8,14 @@ ghost use Rattle.hub_rekey.specs.KeyChange.{rekeyed};
 ghost use Rattle.hub_rekey.specs.declared.key_change.KeyOwner.{KeyOwner};
 ghost use Rattle.hub_rekey.specs.declared.key_change.KeyOwner.TheVariants.{Retailer, Supplier};
 
-/// A sound start stays one.
+/// A sound start with a changed key is still one.
 pub fn rekeyed_tables_are_sound()
     ensures { (owner : KeyOwner) (key : List ℕ) (t : Tables) →
         IsTrue (is_party_key key) → SoundHub t → SoundHub (rekeyed owner key t) }
 {}
 
-/// A supplier whose key is changed sees its rows with that key changed alone. No other supplier sees anything of it, and of
-/// the retailer's key none does.
+/// A supplier whose key is changed sees its rows with only that key changed. No other supplier sees any difference, and
+/// if the retailer's key is changed, no supplier does.
 pub fn rekeying_keeps_suppliers_apart()
     ensures seen { (gln key : List ℕ) (t : Tables) →
         view gln (rekeyed (Supplier gln) key t) ≡ rekeyed (Supplier gln) key (view gln t) }

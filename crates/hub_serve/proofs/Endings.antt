@@ -1,4 +1,4 @@
--- What became of one connection.
+-- Proves how one connection ends.
 use Rattle.std.proofs.Common.{◌≡◌, ℕ, ◌+◌, Bool, true, false, List, [], ◌∷◌, Option, Some, None, Result, Ok, Err, refl, ◌∙◌}
 use Rattle.std.proofs.Common.{inl, inr}
 use Rattle.std.specs.Prelude.{◌≢◌, IfOk}
@@ -24,7 +24,7 @@ use Rattle.hub_serve.specs.Serve.{Asked, AskedAt, Connection, FailedSo, IsAsked,
 use Rattle.hub_serve.specs.declared.line.Ending.TheVariants.{Gone}
 use Rattle.hub_serve.proofs.Passing.{adds_none, takes_none}
 
--- a fault is told exactly where its flag went up
+-- a fault is reported exactly if its flag was raised
 pub failed_so : (served : Result Served IoFault) (closed : Closed) (read write : Bool) → read ≡ false → write ≡ false
     → (served ≡ Err Read → closed.read_failed ≡ true)
     → (served ≢ Err Read → closed.read_failed ≡ read)
@@ -36,7 +36,7 @@ failed_so (Ok served) closed read write r w raised kept cut same =
 failed_so (Err Read) closed read write r w raised kept cut same = (raised refl, same (λ e. cc) ∙ w)
 failed_so (Err Write) closed read write r w raised kept cut same = (kept (λ e. cc) ∙ r, cut refl)
 
--- a client that went away before it was taken
+-- a client that disconnected before its connection was taken
 pub gone : {Does : Input → Reply → Type 0} {Same : Type 0} {register : RegisterRows} {old new : Known}
     → TakesFirst old.coming new.coming (None ∷ [])
     → new.closed ≡ old.closed
@@ -56,16 +56,16 @@ gone {old = old} {new = new} clients closed moments same = record {
 }
 
 module _ (Does : Input → Reply → Type 0) (Same : Type 0) (register : RegisterRows) (moment : ℕ) where
-  -- a question that was asked at this moment
+  -- a question was asked at this moment
   abbrev pub Asks : Question → Reply → Type 0
   Asks question reply = Does (input_of moment question.gln question.key question.request) reply
 
-  -- what was asked, where no more is known
+  -- something was asked, or nothing was, if no more is known
   asked_once : OneStep Asks Same → (asked : Option Asked) × AskedAt moment asked × Did Does Same asked
   asked_once (inl same) = (None, tt, same)
   asked_once (inr step) = (Some (record { moment = moment; question = step.0; reply = step.1 }), refl, step.2)
 
-  -- what was asked, by what a question came to
+  -- what was asked, from the question of the bytes
   by_question : (bytes : List ℕ) (left : Option (List ℕ)) (answer : _) (question : _) (asks : asked.Asks register bytes question)
       → http.Answers Asks Same (passes asks.head) question answer
       → TakesAtMost (Some bytes) left (longest_head + announced_by register asks.head)
@@ -84,7 +84,7 @@ module _ (Does : Input → Reply → Type 0) (Same : Type 0) (register : Registe
   by_question bytes left answer (Err refusal) asks (inr stops) taken =
       (None, tt, record { question = Err refusal; asks = asks; answers = inr (stops.0, (refl, stops.1.1)); taken = taken }, stops.1.0)
 
-  -- what was asked in a connection that was served so
+  -- what was asked in a connection with this result
   asked_so : (bytes left was is : Option (List ℕ)) (served : Result Served IoFault)
       → Ended Asks Same register bytes left was is served
       → OneStep Asks Same

@@ -1,4 +1,4 @@
--- Connections that pass: what of those that come is taken, and what is added to those that were ended.
+-- Proves which connections are taken, and which are added to those that have ended.
 use Rattle.std.proofs.Common.{◌≡◌, ◌||◌, Bool, true, false, IsTrue, List, [], ◌∷◌, ◌++◌, Option, Some, None, refl, sym}
 use Rattle.std.proofs.Common.{ap, ◌∙◌, append_assoc}
 use Rattle.std.proofs.lemmas.Grind.{flat_map-append}
@@ -11,18 +11,18 @@ pub takes_none : {A : Type 0} (known rest : Option (List A)) → rest ≡ known 
 takes_none None rest e = tt
 takes_none (Some all) rest e = (all, refl, e)
 
--- a flag that went up
+-- a flag that was raised
 pub went_up : (old new : Bool) → new ≡ (old || true) → IsTrue new
 went_up true new e = e
 went_up false new e = e
 
--- those that come stay
+-- those that still come stay the same
 pub takes_still : {A : Type 0} (known rest later : Option (List A)) (xs : List A) → TakesFirst known rest xs → later ≡ rest
     → TakesFirst known later xs
 takes_still None rest later xs takes e = tt
 takes_still (Some all) rest later xs takes e = (takes.0, takes.1, e ∙ takes.2)
 
--- first these, and then those
+-- first these are taken, and then those
 pub takes_both : {A : Type 0} (known rest later : Option (List A)) (xs ys : List A) → TakesFirst known rest xs
     → TakesFirst rest later ys
     → TakesFirst known later (xs ++ ys)
@@ -42,7 +42,7 @@ pub adds_none : (old new : Option (List Closed)) → new ≡ old → Adds old ne
 adds_none None new e = tt
 adds_none (Some all) new e = e ∙ ap (λ (l : List Closed). Some l) (sym (append-nil all))
 
--- those that were ended stay
+-- those that have ended stay the same
 pub adds_still : (old between new : Option (List Closed)) (xs : List Closed) → Adds old between xs → new ≡ between → Adds old new xs
 adds_still None between new xs adds e = tt
 adds_still (Some all) between new xs adds e = e ∙ adds
@@ -54,7 +54,7 @@ passes_none known = record {
   closed = adds_none known.closed known.closed refl;
 }
 
--- one connection more
+-- one more connection
 pub passes_more : (old between new : Known) (served : List Connection) (one : Connection) → Passes old between served
     → Passes between new (one ∷ [])
     → Passes old new (served ++ one ∷ [])

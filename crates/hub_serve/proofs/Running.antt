@@ -1,4 +1,4 @@
--- What one connection does to a run of a hub.
+-- Proves that each connection adds to a run of a hub.
 use Rattle.std.proofs.Common.{◌≡◌, List, [], ◌∷◌, ◌++◌, Option, Some, None, sym, subst, ap, ◌∙◌}
 use Rattle.std.proofs.lemmas.Grind.{flat_map-append}
 use Rattle.std.proofs.lemmas.List.{append-nil}
@@ -33,7 +33,7 @@ module _ {S : Type 0} (g : Ghosts S) where
         let step = did h (stays (was_honest h) sound) in
         more old.1 between.1 new.1 earlier told (input_in asked) asked.reply sound.sound before step
 
-    -- and then one connection more
+    -- one more connection
     pub runs_more : (old between new : RegisterRows × S) (served : List Connection) (one : Connection)
         → (g.honest new.1 → g.honest between.1)
         → StaysSound g old between

@@ -1,4 +1,4 @@
--- Connections that were served up to some moment.
+-- Proves what holds of the connections served so far.
 use Rattle.std.proofs.Common.{◌≡◌, ℕ, Bool, ◌+◌, ◌≤◌, suc, true, List, [], ◌∷◌, ◌++◌, length, Option, refl, sym}
 use Rattle.std.proofs.Common.{ap, ◌∙◌, subst, inl, inr, append_assoc, arith, Result, Ok, Err}
 use Rattle.std.specs.Prelude.{max, fold, is_err, IsTrue, ◌<◌, false}
@@ -30,7 +30,7 @@ pub record SoFar (Runs : List Input → List Reply → Type 0) (Stopped : List C
   pub written : Written old new failed after (lines_from 1 served)
   pub status_is : status ≡ greatest served
 
--- one connection more
+-- one more connection
 all_more : (P : Connection → Type 0) (served : List Connection) (one : Connection) → AllByRecursion P served → P one
     → AllByRecursion P (served ++ one ∷ [])
 all_more P [] one all is = (is, tt)
@@ -87,7 +87,7 @@ broken : {E : Type 0} (old new : Option (List ℕ)) (failed after : Bool) (text 
 broken old new failed after text (Ok done) bytes flag e = absurd (false≢true e)
 broken old new failed after text (Err fault) bytes flag e = (bytes, flag)
 
--- no more were served behind those that were
+-- no more connections were served after these
 stops_behind : (Over Unknown : Type 0) (coming between rest : Coming) (sent : List (Option (List ℕ)))
     → TakesFirst coming between sent
     → Stops Over Unknown between rest []
@@ -103,7 +103,7 @@ stops_behind Over Unknown coming between rest sent first (inr one) =
 
 module _ {register : RegisterRows} {known : Known} {old : Option (List ℕ)} {failed : Bool}
     {Runs : List Input → List Reply → Type 0} {Stopped : List Connection → Type 0} {rest : Known} {number status : ℕ} where
-  -- all were served
+  -- all connections were served
   pub whole : {Going Over Unknown : Type 0} {Broke : List Connection → Type 0} {count : ℕ} {new : Option (List ℕ)} {after : Bool}
       → SoFar Runs Stopped register known rest old new failed after number status
       → Going
@@ -127,7 +127,7 @@ module _ {register : RegisterRows} {known : Known} {old : Option (List ℕ)} {fa
         });
   }
 
-  -- no more can be
+  -- no more can be served
   pub cut_short : {Going Over Unknown : Type 0} {Broke : List Connection → Type 0} {count : ℕ} {new : Option (List ℕ)} {after : Bool}
       {After : List Input → List Reply → Type 0} {Later : List Connection → Type 0} {later : Known}
       (s : SoFar Runs Stopped register known rest old new failed after number status)
@@ -156,7 +156,7 @@ module _ {register : RegisterRows} {known : Known} {old : Option (List ℕ)} {fa
         }));
   }
 
-  -- what was printed up to the line of one connection more
+  -- what was printed, up to the line of one more connection
   written_more : {E : Type 0} {between new : Option (List ℕ)} {middle after : Bool} {next : ℕ}
       (s : SoFar Runs Stopped register known rest old between failed middle number status) (one : Connection)
       → next ≡ number + 1
@@ -176,7 +176,7 @@ module _ {register : RegisterRows} {known : Known} {old : Option (List ℕ)} {fa
         flag = written.flag ∙ s.written.flag;
       }
 
-  -- and then one connection more, of whose line this was printed
+  -- one more connection, with what was printed of its line
   module _ {E : Type 0} {After : List Input → List Reply → Type 0} {Later : List Connection → Type 0} {later : Known} {between new : Option (List ℕ)}
       {middle after : Bool} {next : ℕ} (s : SoFar Runs Stopped register known rest old between failed middle number status)
       (one : Connection) (passes : Passes rest later (one ∷ [])) (is : IsServed register one)
@@ -202,7 +202,7 @@ module _ {register : RegisterRows} {known : Known} {old : Option (List ℕ)} {fa
           ∙ greatest_more 0 s.served one;
     }
 
-    -- the store has failed for good with it, and it was to stop then
+    -- the store failed for good during the connection, and serving was to stop then
     pub gave_up : {Going Over Unknown : Type 0} {Broke : List Connection → Type 0} {count : ℕ} → is_err line ≡ false → Going
         → number < count
         → Broke (s.served ++ one ∷ [])

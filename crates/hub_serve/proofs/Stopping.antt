@@ -1,4 +1,4 @@
--- Where serving is to stop once the store has failed for good, that is at once.
+-- Proves that serving stops at once when the store has failed for good, if it is to.
 use Rattle.std.proofs.Common.{◌≡◌, ◌⊎◌, inl, inr, ℕ, List, [], ◌∷◌, ◌++◌, length, None, refl, ◌∙◌}
 use Rattle.hub_parties.specs.Rows.{RegisterRows}
 use Rattle.hub_store.specs.declared.store.Store.{Ghosts}
@@ -11,7 +11,7 @@ none_of : {X : Type 0} (xs : List X) → length xs ≡ 0 → xs ≡ []
 none_of [] none = refl
 none_of (x ∷ xs) none = cc
 
--- the store was whole before a connection, or it is the first
+-- the store had not failed for good before a connection, or it is the first connection
 pub was_whole : {S : Type 0} (g : Ghosts S) (old between new : RegisterRows × S) (served : List Connection) (one : Connection)
     (number : ℕ)
     → length served ≡ number

@@ -1,4 +1,4 @@
--- How a socket is used, one use after another.
+-- Proves how a socket is used, one use after another.
 use Rattle.std.proofs.Common.{◌≡◌, ℕ, ◌+◌, ◌-◌, ◌≤◌, List, [], ◌∷◌, ◌++◌, map, take, Option, Some, None, Result, Ok, Err, inl, inr}
 use Rattle.std.proofs.Common.{ap, ◌∙◌, append_assoc, arith, refl, subst, sym}
 use Rattle.std.specs.Prelude.{⊤, IsErr, OnErr, flat_map}
@@ -17,7 +17,7 @@ use Rattle.hub_serve.specs.Connections.{Adds}
 use Rattle.hub_serve.specs.Timed.{AsksOnly, InTime, IsTimed, Lingers, OnTime, ReadsOn, Time, read_at}
 use Rattle.hub_serve.specs.Uses.{Use, Uses, end_sending, read, read_wait, told}
 
--- what holds anyway holds where a call failed
+-- what always holds holds if a call failed
 pub on_err : {A E : Type 0} {P : Type 0} (r : Result A E) → P → OnErr r P
 on_err (Ok a) p = tt
 on_err (Err e) p = p
@@ -25,7 +25,7 @@ on_err (Err e) p = p
 pub some_is : {A : Type 0} {x y : List A} → Some x ≡ Some y → x ≡ y
 some_is {A} {x} {y} e = ap (λ (o : Option (List A)). unwrap_or o x) e
 
--- first these, and then those
+-- first these uses, and then those
 pub adds_then : {A : Type 0} (old between new : Option (List A)) (xs ys : List A) → Adds old between xs → Adds between new ys
     → Adds old new (xs ++ ys)
 adds_then None between new xs ys first second = tt
@@ -37,7 +37,7 @@ adds_then {A} (Some all) (Some more) new xs ys first second =
 pub asks_once : (before after : Uses) (moment : ℕ) → Adds before after (told moment ∷ []) → AsksOnly before after
 asks_once before after moment adds = (moment ∷ [], adds)
 
--- the clock was asked, and then the wait could not be set
+-- the clock was asked, and then setting the wait failed
 pub timed_not : {A E : Type 0} (wait : ℕ → Use) (call : Use) (old new : Time) (before between after : Uses) (r : Result A E)
     (moment : ℕ) → IsErr r → Adds before between (told moment ∷ []) → Adds between after []
     → IsTimed wait call old new before after r
@@ -50,14 +50,15 @@ all_append : {A : Type 0} (P : A → Type 0) (xs ys : List A) → AllByRecursion
 all_append P [] ys first second = second
 all_append P (x ∷ xs) ys first second = (first.0, all_append P xs ys first.1 second)
 
--- the reads that were made so far began with the time
+-- the reads so far began with the time
 abbrev pub BeganWith : Time → List (ℕ × ℕ) → Type 0
 BeganWith (None, whole) [] = ⊤
 BeganWith (None, whole) (first ∷ more) = ⊥
 BeganWith (Some begun, whole) [] = ⊥
 BeganWith (Some begun, whole) (first ∷ more) = instant_nanos begun ≡ first.0
 
--- How far a socket was read away: the bytes that were taken, of so many at most, and the reads that were made.
+-- How far a socket was read and its bytes dropped: how many bytes were taken, up to a limit, and the reads that were
+-- made.
 pub record Away (limit left : ℕ) (old new : Time) (known rest : Option (List ℕ)) (before after : Uses) : Type 0 where
   pub within : left ≤ limit
   pub lasts : new.1 ≡ old.1
@@ -86,7 +87,7 @@ on_time_more nanos (Some begun, whole) (first ∷ more) now left on_time began i
 
 module _ (limit left : ℕ) (old between new : Time) (known some rest : Option (List ℕ)) (before then after : Uses)
     (away : Away limit left old between known some before then) where
-  -- reads that were made, and then the clock was asked
+  -- reads, and then the clock was asked
   pub reads_asked : AsksOnly then after → ReadsOn (as_nanos old.1) [] before after
   reads_asked asks = record {
     made = away.made;
@@ -115,7 +116,7 @@ module _ (limit left : ℕ) (old between new : Time) (known some rest : Option (
     on_time_then : OnTime (as_nanos old.1) (away.made ++ (instant_nanos now, timed.left) ∷ [])
     on_time_then = on_time_more (as_nanos old.1) between away.made now timed.left away.on_time away.began left_so
 
-    -- one read more, after which the clock was not asked
+    -- one more read, after which the clock was not asked
     pub reads_more : ReadsOn (as_nanos old.1) [] before after
     reads_more = record {
       made = away.made ++ (instant_nanos now, timed.left) ∷ [];
@@ -124,7 +125,7 @@ module _ (limit left : ℕ) (old between new : Time) (known some rest : Option (
       on_time = on_time_then;
     }
 
-    -- and it took as many bytes as it says
+    -- and it took as many bytes as it returned
     pub away_more : (buffer : List ℕ) (count : ℕ) → Consumes some rest (take count buffer) → count ≤ left
         → Away limit (left - count) old new known rest before after
     away_more buffer count takes fits =
@@ -147,18 +148,18 @@ module _ (limit left : ℕ) (old between new : Time) (known some rest : Option (
               (began_more between away.made now timed.left away.began);
         }
 
-  -- whatever became of a read
+  -- a read, whatever its result
   pub reads_so : {A E : Type 0} (r : Result A E) → IsTimed (λ wait. read_wait wait) read between new then after r
       → ReadsOn (as_nanos old.1) [] before after
   reads_so (Ok a) timed = reads_more timed
   reads_so (Err e) (inl timed) = reads_more timed
   reads_so (Err e) (inr asks) = reads_asked asks
 
--- it was told that nothing more is sent, and nothing was read
+-- the client was told that nothing more is sent, and nothing was read
 pub lingers_not : (nanos : ℕ) (before after : Uses) → Adds before after (end_sending ∷ []) → Lingers nanos before after
 lingers_not nanos before after told_so = record { made = []; asked = []; uses = told_so; on_time = tt }
 
--- it was told that nothing more is sent, and then read on for so long at most
+-- the client was told that nothing more is sent, and then bytes were read for at most this time
 pub lingers : {T : Type 0} (uses : T → Uses) (nanos : ℕ) (before : Uses) (ended end last : T) (whole : Duration) (side : T × Time)
     → Adds before (uses ended) (end_sending ∷ [])
     → side ≡ (ended, (None, whole))

@@ -1,4 +1,4 @@
--- What became of a connection, and the line that says so.
+-- Defines how a connection ends, and the line that reports it.
 use Rattle.std.specs.Prelude.{ℕ, ◌==◌, if◌then◌else◌, List, ◌++◌, codes, decimal, Result, Ok, Err}
 use Rattle.hub_http.specs.declared.serve.IoFault.{IoFault}
 use Rattle.hub_http.specs.declared.serve.IoFault.TheVariants.{Read, Write}
@@ -6,13 +6,13 @@ use Rattle.hub_http.specs.declared.serve.Served.{Served}
 use Rattle.hub_serve.specs.declared.line.Ending.{Ending}
 use Rattle.hub_serve.specs.declared.line.Ending.TheVariants.{Answered, Gone, ReadFailed, WriteFailed}
 
--- what became of a connection that was served so
+-- how a connection with this result ended
 abbrev pub ending_of : Result Served IoFault → Ending
 ending_of (Ok served) = Answered served
 ending_of (Err Read) = ReadFailed
 ending_of (Err Write) = WriteFailed
 
--- the line of the port that is listened on
+-- the line that reports the port
 abbrev pub port_line : ℕ → List ℕ
 port_line port = codes "listening " ++ (decimal port ++ codes "\n")
 

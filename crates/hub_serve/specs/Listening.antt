@@ -1,4 +1,4 @@
--- Connections from the network: how they are taken from a listener, timed, and closed.
+-- Defines how connections from the network are taken from a listener, timed, and closed.
 use Rattle.std.specs.Prelude.{◌≡◌, ◌⊎◌, ℕ, Bool, true, false, [], ◌∷◌, Some, None, IfSome, Result, Ok, Err}
 use Rattle.std.specs.Duration.{as_nanos}
 use Rattle.std.specs.Time.{instant_nanos}
@@ -13,12 +13,11 @@ use Rattle.hub_serve.specs.declared.connections.NoConnection.TheVariants.{Gone, 
 use Rattle.hub_serve.specs.declared.line.Ending.{Ending}
 use Rattle.hub_serve.specs.declared.line.Ending.TheVariants.{Answered}
 
--- a side: its socket, its time, and whether a read or a write has failed
+-- one side of a connection: its socket, its time, and whether a read or a write has failed
 abbrev pub Side : Type 0 → Type 0
 Side T = (T × Time) × Bool
 
--- each lasts so many nanoseconds, of which those of the reader run and those of the writer do not yet; and nothing has
--- failed
+-- Each side may last this many nanoseconds: the reader's time has begun, the writer's has not, and nothing has failed.
 pub record AtBegin {T : Type 0} (nanos : ℕ) (reader writer : Side T) : Type 0 where
   pub reader_lasts : as_nanos reader.0.1.1 ≡ nanos
   pub writer_lasts : as_nanos writer.0.1.1 ≡ nanos
@@ -27,7 +26,7 @@ pub record AtBegin {T : Type 0} (nanos : ℕ) (reader writer : Side T) : Type 0 
   pub read : reader.1 ≡ false
   pub write : writer.1 ≡ false
 
--- the time of a side runs from what its clock told, and nothing else was done with its socket
+-- the time of a side began when its clock said so, and nothing else was done with its socket
 pub record BeginsNow {T : Type 0} (uses : T → Uses) (side : Side T) : Type 0 where
   pub begun : Instant
   pub begun_is : side.0.1.0 ≡ Some begun
@@ -39,31 +38,31 @@ no_connection ConnectionAborted = Gone
 no_connection ConnectionReset = Gone
 no_connection _ = Over
 
--- A connection came; or none, and the error says whether others may come; or one that had to be closed at once.
+-- A connection arrived; or none, and the error says whether others may follow; or one that had to be closed at once.
 abbrev pub Accepts : {S : Type 0} → Deeds → Deeds → Result S NoConnection → Type 0
 Accepts before after (Ok sides) = Adds before after (came ∷ [])
 Accepts before after (Err none) =
     ((kind : ErrorKind) × (none ≡ no_connection kind) × Adds before after (failed kind ∷ []))
     ⊎ ((uses : Uses) × (none ≡ Gone) × Adds before after (came ∷ closed uses ∷ []))
 
--- a socket lingers for a second where bytes have come that were not read, and else stays as it is
+-- a socket lingers for a second if bytes have arrived that were not read, and otherwise stays as it is
 abbrev pub LingersIf : Bool → Uses → Uses → Type 0
 LingersIf true before after = Lingers 1_000_000_000 before after
 LingersIf false before after = after ≡ before
 
--- it was asked whether there are such bytes
+-- the socket was asked whether there are such bytes
 pub record LingersIfMore (before after : Uses) : Type 0 where
   pub more : Bool
   pub asked : Uses
   pub asks : Adds before asked (has_more more ∷ [])
   pub lingers : LingersIf more asked after
 
--- Where the request was not read to its end, it lingers for a second in any case.
+-- If the request was not read to its end, the socket lingers for a second in any case.
 abbrev pub LingersUnless : Bool → Uses → Uses → Type 0
 LingersUnless true before after = LingersIfMore before after
 LingersUnless false before after = Lingers 1_000_000_000 before after
 
--- that after an answer; after any other ending it stays as it is
+-- the socket lingers in this way after an answer; after any other ending it stays as it is
 abbrev pub LingersAfter : Ending → Uses → Uses → Type 0
 LingersAfter (Answered served) before after = LingersUnless served.read_to_end before after
 LingersAfter _ before after = after ≡ before

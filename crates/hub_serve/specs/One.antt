@@ -1,4 +1,4 @@
--- What one connection does.
+-- Defines what serving one connection does.
 use Rattle.std.specs.Prelude.{◌≡◌, [], ◌∷◌, Option, Some, None, Result, Ok, Err}
 use Rattle.hub_requests.specs.declared.reply.Reply.{Reply}
 use Rattle.hub_requests.specs.declared.request.Input.{Input}
@@ -7,12 +7,12 @@ use Rattle.hub_serve.specs.Connections.{Known}
 use Rattle.hub_serve.specs.Serve.{Asked, Connection, IsServed, Passes, input_in}
 use Rattle.hub_serve.specs.declared.line.Ending.{Ending}
 
--- what was asked was done, or nothing was
+-- the request was answered, or there was none
 abbrev pub Did : (Input → Reply → Type 0) → Type 0 → Option Asked → Type 0
 Did Does Same None = Same
 Did Does Same (Some asked) = Does (input_in asked) asked.reply
 
--- a connection was served and ended so
+-- a connection was served and has ended
 pub record ServesOne (Does : Input → Reply → Type 0) (Same : Type 0) (register : RegisterRows) (old new : Known)
     (ending : Ending) : Type 0 where
   pub one : Connection
@@ -21,7 +21,7 @@ pub record ServesOne (Does : Input → Reply → Type 0) (Same : Type 0) (regist
   pub is : IsServed register one
   pub did : Did Does Same one.asked
 
--- the next connection; where there is none, nothing was done, none was ended, and the moments still come
+-- the next connection was served; if there is none, nothing was done, none has ended, and the moments still come
 abbrev pub ServesNext : {E : Type 0} → (Input → Reply → Type 0) → Type 0 → RegisterRows → Known → Known
     → Result Ending E → Type 0
 ServesNext Does Same register old new (Ok ending) = ServesOne Does Same register old new ending

@@ -1,4 +1,4 @@
--- Connections served one after another: what became of each, what is printed, and the exit status.
+-- Defines what serving connections one after another does: how each ends, what is printed, and the exit status.
 use Rattle.std.specs.Prelude.{◌≡◌, ◌⊎◌, ⊤, ℕ, ◌+◌, ◌<◌, ◌≤◌, max, Bool, List, [], ◌∷◌, ◌++◌, length, map, flat_map}
 use Rattle.std.specs.Prelude.{fold, Option, Some, None, Result, Ok, Err, IfOk, IfSome, IsTrue, IsFalse}
 use Rattle.std.specs.List.{AllByRecursion}
@@ -18,14 +18,14 @@ use Rattle.hub_serve.specs.Output.{Written, BrokenOff}
 use Rattle.hub_serve.specs.declared.line.Ending.{Ending}
 use Rattle.hub_serve.specs.declared.line.Ending.TheVariants.{Answered, Gone, ReadFailed, WriteFailed}
 
--- what was asked of the hub in a connection, when, and the reply
+-- what was asked of the hub in a connection, at which moment, and the reply
 pub record Asked : Type 0 where
   pub moment : ℕ
   pub question : Question
   pub reply : Reply
 
--- A connection: what its client sent, where that is known; the moment at which it came, and how it stood at its end,
--- unless its client went away before; what was asked of the hub, if anything; and what became of it.
+-- A connection: what its client sent, if that is known; the moment at which it arrived and how it was left at its end,
+-- unless its client disconnected before; what was asked of the hub, if anything; and how it ended.
 pub record Connection : Type 0 where
   pub bytes : Option (List ℕ)
   pub moment : Option ℕ
@@ -41,15 +41,15 @@ listed (Some it) = it ∷ []
 abbrev pub sent_in : List Connection → List (Option (List ℕ))
 sent_in = map (λ one. one.bytes)
 
--- the moments at which they came
+-- the moments at which they arrived
 abbrev pub moments_in : List Connection → List ℕ
 moments_in = flat_map (λ one. listed one.moment)
 
--- how they stood at their ends
+-- how they were left at their ends
 abbrev pub ends_in : List Connection → List Closed
 ends_in = flat_map (λ one. listed one.closed)
 
--- what the hub was asked, and told
+-- the input to the hub, and its reply
 abbrev pub input_in : Asked → Input
 input_in asked = input_of asked.moment asked.question.gln asked.question.key asked.question.request
 
@@ -67,12 +67,12 @@ inputs = flat_map (λ one. inputs_of one.asked)
 abbrev pub replies : List Connection → List Reply
 replies = flat_map (λ one. replies_of one.asked)
 
--- the lines of connections in their order, the first of this number
+-- the lines of connections in their order, with numbers from this one
 abbrev pub lines_from : ℕ → List Connection → List ℕ
 lines_from number [] = []
 lines_from number (one ∷ served) = line_of number one.ending ++ lines_from (number + 1) served
 
--- the greatest status of all
+-- the greatest exit status of the connections
 abbrev pub greatest : List Connection → ℕ
 greatest served = fold (λ status one. max status (ending_status one.ending)) 0 served
 
@@ -81,20 +81,21 @@ abbrev pub IsAsked : Option Asked → Question → Reply → Type 0
 IsAsked None question reply = ⊥
 IsAsked (Some asked) question reply = (asked.question ≡ question) × (asked.reply ≡ reply)
 
--- what was asked was asked at this moment
+-- the request was made at this moment
 abbrev pub AskedAt : ℕ → Option Asked → Type 0
 AskedAt moment None = ⊤
 AskedAt moment (Some asked) = asked.moment ≡ moment
 
--- a read has failed, or a write, exactly where this says so
+-- a read or a write has failed exactly if the result says so
 abbrev pub FailedSo : Result Served IoFault → Closed → Type 0
 FailedSo (Ok served) closed = IsFalse closed.read_failed × IsFalse closed.write_failed
 FailedSo (Err Read) closed = IsTrue closed.read_failed × IsFalse closed.write_failed
 FailedSo (Err Write) closed = IsFalse closed.read_failed × IsTrue closed.write_failed
 
--- A connection was taken at a moment, served so, and ended as what it became. Where its bytes are known, what was asked
--- is what they ask, and its client was sent the response to that: all of it, or a front where a write failed; and it is
--- told whether they were read to the end of the request. Where a read failed, nothing was asked, and nothing sent.
+-- A connection was taken at a moment, served with this result, and ended accordingly. If its bytes are known, the
+-- request is the one that they ask, and its client was sent the response: all of it, or a prefix if a write failed; and
+-- it is reported whether the bytes were read to the end of the request. If a read failed, nothing was asked, and
+-- nothing sent.
 pub record IsTaken (register : RegisterRows) (one : Connection) (served : Result Served IoFault) : Type 0 where
   pub moment : ℕ
   pub moment_is : one.moment ≡ Some moment
@@ -108,13 +109,13 @@ pub record IsTaken (register : RegisterRows) (one : Connection) (served : Result
   pub ended : Ended (IsAsked one.asked) (one.asked ≡ None) register one.bytes closed.left begun closed.sent served
   pub to_end : IfOk served (λ done. TellsEnd one.bytes closed.left done.read_to_end)
 
--- the client of a connection went away before it was taken: nothing was asked, and nothing sent
+-- the client of a connection disconnected before it was taken: nothing was asked, and nothing sent
 pub record IsGone (one : Connection) : Type 0 where
   pub moment : one.moment ≡ None
   pub asked : one.asked ≡ None
   pub closed : one.closed ≡ None
 
--- what an ending says
+-- what holds of a connection that ended in this way
 abbrev pub EndsSo : RegisterRows → Connection → Ending → Type 0
 EndsSo register one (Answered served) = IsTaken register one (Ok served)
 EndsSo register one Gone = IsGone one
@@ -124,24 +125,24 @@ EndsSo register one WriteFailed = IsTaken register one (Err Write)
 abbrev pub IsServed : RegisterRows → Connection → Type 0
 IsServed register one = EndsSo register one one.ending
 
--- where it is known what comes, these are the first of it
+-- if it is known what comes, these come first
 abbrev pub AreFirst : {A : Type 0} → Option (List A) → List A → Type 0
 AreFirst {A} known first = IfSome known (λ all. (rest : List A) × (all ≡ first ++ rest))
 
--- these connections came first, at the moments that came first, and were ended
+-- these connections arrived first, at the moments that came first, and have ended
 pub record Passes (old new : Known) (served : List Connection) : Type 0 where
   pub clients : TakesFirst old.coming new.coming (sent_in served)
   pub moments : TakesFirst old.moments new.moments (moments_in served)
   pub closed : Adds old.closed new.closed (ends_in served)
 
--- why no more were served, and which still come: no more could be taken, and all others do; or one more was taken, its
--- moment is not known, and those behind it do
+-- why no more were served, and which still come: no more could be taken, and all others still come; or one more was
+-- taken, its moment is not known, and those after it still come
 abbrev pub Stops : Type 0 → Type 0 → Coming → Coming → List (Option (List ℕ)) → Type 0
 Stops Over Unknown coming rest sent =
     (Over × TakesFirst coming rest sent)
     ⊎ (Unknown × ((bytes : Option (List ℕ)) × TakesFirst coming rest (sent ++ bytes ∷ [])))
 
--- as many connections were served as there were to be, and those behind them still come
+-- as many connections were served as there were to be, and those after them still come
 pub record Whole (known rest : Known) (Going : Type 0) (count : ℕ) (old new : Option (List ℕ)) (failed after : Bool)
     (served : List Connection) (status : ℕ) : Type 0 where
   pub passed : Passes known rest served
@@ -159,7 +160,7 @@ pub record CutShort (known rest : Known) (Over Unknown : Type 0) (count : ℕ) (
   pub written : Written old new failed after (lines_from 1 served)
   pub status_is : status ≡ 3
 
--- the line of the last could not be written; those behind it still come
+-- the line of the last connection could not be written; those after it still come
 pub record Lost (known rest : Known) (Going : Type 0) (count : ℕ) (old new : Option (List ℕ)) (after : Bool)
     (served : List Connection) (status : ℕ) : Type 0 where
   pub passed : Passes known rest served
@@ -171,7 +172,8 @@ pub record Lost (known rest : Known) (Going : Type 0) (count : ℕ) (old new : O
   pub broken : BrokenOff old new after (lines_from 1 earlier) (line_of (length served) last.ending)
   pub status_is : status ≡ 3
 
--- It was to end with the connection at which the store failed for good, and this is the last; those behind it still come.
+-- Serving was to end with the connection at which the store failed for good, and this is the last one; those after it
+-- still come.
 pub record GaveUp (known rest : Known) (Going Broke : Type 0) (count : ℕ) (old new : Option (List ℕ)) (failed after : Bool)
     (served : List Connection) (status : ℕ) : Type 0 where
   pub passed : Passes known rest served
@@ -181,8 +183,8 @@ pub record GaveUp (known rest : Known) (Going Broke : Type 0) (count : ℕ) (old
   pub broke : Broke
   pub status_is : status ≡ 3
 
--- Connections were served in their order, which are the first of those that come, at the moments that come, and these
--- were ended. What was asked of the hub in them, and the replies, are a run of it. Where serving is to stop, it did at once.
+-- Connections were served in their order: the first of those that come, at the moments that come, and these have ended.
+-- What was asked of the hub in them, with the replies, is a run of it. If serving was to stop, it stopped at once.
 pub record Serves (Runs : List Input → List Reply → Type 0) (Stopped : List Connection → Type 0) (register : RegisterRows)
     (known rest : Known) (Going Over Unknown : Type 0) (Broke : List Connection → Type 0) (count : ℕ) (old new : Option (List ℕ))
     (failed after : Bool) (status : ℕ) : Type 0 where

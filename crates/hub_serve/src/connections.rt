@@ -1,4 +1,4 @@
-//! Connections, and the moments at which they come.
+//! Defines connections, and the moments at which they arrive.
 use crate::line::Ending;
 use edi_base::{Sink, Source};
 use edi_envelope::Moment;
@@ -8,20 +8,20 @@ use edi_envelope::Moment;
 pub struct Sides<R, W> {
     /// What its client sends.
     pub reader: R,
-    /// What its client is sent.
+    /// What is sent to its client.
     pub writer: W,
 }
 
 /// Why there is no connection.
 #[derive(Clone, Copy, Debug, PartialEq, Eq)]
 pub enum NoConnection {
-    /// The client of the next one went away before it was taken. Others may come.
+    /// The client of the next one disconnected before it was taken. Others may follow.
     Gone,
     /// No more can be taken.
     Over,
 }
 
-/// Connections that come one after another.
+/// Connections that arrive one after another.
 pub trait Connections {
     ghost use Rattle.std.specs.Prelude.{◌≡◌, ◌||◌, ℕ, Bool, List, [], ◌∷◌, Option, None, IfOk};
     ghost use Rattle.hub_serve.specs.Connections as spec;
@@ -30,18 +30,18 @@ pub trait Connections {
 
     type Writer: Sink + Drop;
 
-    // What the clients of the connections that still come will send, where it is known which come: of each its bytes,
-    // where they are known.
+    // What the clients of the connections to come will send, if it is known which come: for each its bytes, if they are
+    // known.
     ghost coming: { Self → Option (List (Option (List ℕ))) } = { λ _. None };
 
-    // Of the connections that were ended, in their order, where it is known: what was left of what the client of each
-    // sent, what it was sent, whether a read or a write of it has failed, and what it was said to have become.
+    // How the connections ended, in their order, if that is known: what was left of what each client sent, what it was
+    // sent, whether a read or a write failed, and how the connection was reported to have ended.
     ghost closed: { Self → Option (List spec.Closed) } = { λ _. None };
 
     // Whether no more can be taken.
     ghost failed: { Self → Bool };
 
-    /// The next connection, of which nothing was read yet, and to which nothing was written. It waits until one comes.
+    /// Waits for the next connection and returns it. Nothing has been read of it yet, and nothing written to it.
     fn next(&mut self) -> Result<Sides<Self::Reader, Self::Writer>, NoConnection>
         ensures takes { spec.Takes Self.Reader.remaining (coming self.old) (coming self.new) result }
         ensures is_new { IfOk result (λ sides. spec.IsNew (Self.Writer.contents sides.writer)
@@ -49,9 +49,9 @@ pub trait Connections {
         ensures closed { closed self.new ≡ closed self.old }
         ensures flag { failed self.new ≡ (failed self.old || spec.is_over result) };
 
-    /// Ends a connection, of which this became. If it was answered and its request was not read to its end, what the
-    /// client still sends is passed over, within limits, so that it reads the response and not that the connection was
-    /// broken off.
+    /// Ends a connection, which ended in this way. If it was answered and its request was not read to its end, more of
+    /// what the client sends is read and dropped, within limits, so that the client reads the response instead of
+    /// finding the connection reset.
     fn end(&mut self, sides: Sides<Self::Reader, Self::Writer>, ending: Ending)
         ensures coming { coming self.new ≡ coming self.old }
         ensures closed { spec.Adds (closed self.old) (closed self.new)
@@ -60,18 +60,18 @@ pub trait Connections {
         ensures flag { failed self.new ≡ failed self.old };
 }
 
-/// The moments at which connections come.
+/// The moments at which connections arrive.
 pub trait Moments {
     ghost use Rattle.std.specs.Prelude.{◌≡◌, ◌||◌, ℕ, Bool, List, Option, None, is_none};
     ghost use Rattle.hub_serve.specs.Connections.{TakesMoment};
 
-    // The moments of the connections that still come, where they are known.
+    // The moments of the connections to come, if they are known.
     ghost coming: { Self → Option (List ℕ) } = { λ _. None };
 
     // Whether a moment was not known.
     ghost failed: { Self → Bool };
 
-    /// The moment of the connection that came last, or none where it is not known.
+    /// Returns the moment of the connection that arrived last, or `None` if it is not known.
     fn next(&mut self) -> Option<Moment>
         ensures takes { TakesMoment (coming self.old) (coming self.new) result }
         ensures flag { failed self.new ≡ (failed self.old || is_none result) };

@@ -1,4 +1,4 @@
-//! Serving: connections of HTTP/1.1 one after another, over the network.
+//! Serves connections of HTTP/1.1 over the network, one after another.
 #![tactic(auto)]
 
 mod connections;

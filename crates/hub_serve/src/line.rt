@@ -1,4 +1,4 @@
-//! What became of a connection, and the line that says so.
+//! Prints the line that reports how a connection ended.
 ghost use Rattle.std.specs.Prelude.{◌≡◌, ◌++◌, decimal};
 ghost use Rattle.edi_base.specs.Buffer.{Puts, Flags};
 ghost use Rattle.http_messages.specs.Response.{Writes};
@@ -9,20 +9,20 @@ use edi_base::exit::{DONE, FAILED, REFUSED};
 use edi_base::{Buffer, Sink, WriteFault};
 use hub_http::{IoFault, Served};
 
-/// What became of a connection.
+/// How a connection ended.
 #[derive(Clone, Copy, Debug, PartialEq, Eq)]
 pub enum Ending {
     /// A response was written.
     Answered(Served),
-    /// Its client went away before it was taken.
+    /// Its client disconnected before it was taken.
     Gone,
     /// A read failed. Nothing was asked of the hub, and nothing written.
     ReadFailed,
-    /// A write failed. What was asked of the hub was done.
+    /// A write failed. The hub had done what was asked.
     WriteFailed,
 }
 
-/// What became of a connection that was served so.
+/// Returns how a connection with this result ended.
 pub(crate) fn ending_of(served: Result<Served, IoFault>) -> Ending
     ensures { result ≡ spec.ending_of served }
 {
@@ -34,7 +34,7 @@ pub(crate) fn ending_of(served: Result<Served, IoFault>) -> Ending
 }
 
 impl Ending {
-    /// The exit status: 0 where it was answered 200, 3 where it failed or was answered 503, else 1.
+    /// Returns the exit status: 0 if it was answered 200, 3 if it failed or was answered 503, and 1 otherwise.
     pub(crate) fn status(self) -> u8
         ensures { result ≡ ending_status self }
     {
@@ -47,7 +47,7 @@ impl Ending {
     }
 }
 
-// Puts a number between two texts.
+// Writes a number between two texts.
 fn put_number<W: Sink>(
     out: &mut W,
     waiting: &mut Buffer,
@@ -65,7 +65,7 @@ fn put_number<W: Sink>(
     waiting.put(out, after)
 }
 
-// Puts the end of the line of a connection.
+// Writes the end of a connection's line.
 fn put_end<W: Sink>(out: &mut W, waiting: &mut Buffer, ending: Ending) -> Result<(), WriteFault>
     ensures bytes { Puts result (W.contents out.old) (W.contents out.new) waiting.old waiting.new
         (end_of ending) }
@@ -79,7 +79,7 @@ fn put_end<W: Sink>(out: &mut W, waiting: &mut Buffer, ending: Ending) -> Result
     }
 }
 
-/// Prints the line of a connection, at once.
+/// Prints the line of a connection, without delay.
 pub(crate) fn print_line<W: Sink>(
     out: &mut W,
     number: u64,
@@ -94,7 +94,7 @@ pub(crate) fn print_line<W: Sink>(
     waiting.flush(out)
 }
 
-/// Prints that a port is listened on, as `listening 8080`, at once.
+/// Prints which port the hub listens on, as `listening 8080`, without delay.
 pub fn print_listening<W: Sink>(out: &mut W, port: u16) -> Result<(), WriteFault>
     ensures bytes { Writes result (W.contents out.old) (W.contents out.new) (port_line port) }
     ensures flag { Flags result (W.failed out.old) (W.failed out.new) }

@@ -1,4 +1,4 @@
-//! Connections over the network.
+//! Takes connections from the network.
 ghost use Rattle.std.specs.Prelude.{◌≡◌, ◌∷◌, [], false, IfOk, Some, None};
 ghost use Rattle.std.specs.Duration.{as_nanos};
 ghost use Rattle.std.specs.IoError.{error_kind};
@@ -21,21 +21,21 @@ use std::marker::Model;
 use std::net::{Ipv4Addr, Net, SocketAddr, SocketAddrV4, TcpListener};
 use std::time::{Clock, Duration, Instant};
 
-/// How many seconds a client has to send its request, and as many again to take the response.
+/// The seconds that a client has to send its request, and again to read the response.
 const WHOLE: u64 = 10;
 
-/// How many seconds is read on at most, once a response was written to a request that was not read to its end.
+/// The seconds for which more is read at most, after a response to a request that was not read to its end.
 const LINGER: u64 = 1;
 
-/// How many bytes are read on at most.
+/// The number of bytes of which no more are read then.
 const LINGER_BYTES: usize = 1_048_576;
 
-/// How many bytes are read on at once.
+/// The number of bytes read at a time.
 const PIECE: usize = 4096;
 
-/// Connections that come over the network to a listener. The client of each has 10 seconds to send its request, from
-/// when it was taken, and 10 seconds to take the response, from when that is begun to be written. What the hub does in
-/// between is not its time.
+/// Connections that arrive at a listener over the network. Each client has 10 seconds to send its request, from when
+/// its connection was taken, and 10 seconds to read the response, from when the hub begins to write it. The time that
+/// the hub takes in between does not count.
 #[derive(Drop)]
 pub struct Listening<L> {
     listener: L,
@@ -72,7 +72,8 @@ impl<L> Listening<L> {
     }
 }
 
-// Tells an error of `accept` that concerns one client, which disconnected, from one after which none can be taken.
+// Returns whether an error of `accept` concerns only one client, which disconnected, or means that none can be taken
+// any more.
 fn no_connection(error: &io::Error) -> NoConnection
     ensures { result ≡ spec.no_connection (error_kind error.now) }
 {
@@ -110,8 +111,8 @@ fn sides_of<T: Socket>(
     }
 }
 
-// Reads and drops what comes until the client ends, or so many bytes came, or the time is over, which begins with the
-// first read.
+// Reads and drops bytes until the client ends, the limit is reached, or the time is over, which begins with the first
+// read.
 fn read_away<T: Socket>(timed: &mut Timed<T>, limit: usize) -> io::Result<()>
     requires { timed.old.1.0 ≡ None }
     ensures bytes { TakesAtMost (T.remaining timed.old.0) (T.remaining timed.new.0) limit }
@@ -129,7 +130,7 @@ fn read_away<T: Socket>(timed: &mut Timed<T>, limit: usize) -> io::Result<()>
     Ok(())
 }
 
-// Says that nothing more is sent, and reads on until the client ends or a limit is met.
+// Tells the client that nothing more is sent, and reads until it ends or a limit is reached.
 fn linger<T: Socket>(mut socket: T) -> T
     ensures bytes { TakesAtMost (T.remaining socket) (T.remaining result) 1_048_576 }
     ensures uses { Lingers 1_000_000_000 (T.uses socket) (T.uses result) }
@@ -142,7 +143,8 @@ fn linger<T: Socket>(mut socket: T) -> T
     timed.into_inner()
 }
 
-// Reads on if the client has sent more than was read: a close would then reset the connection, and the response be lost.
+// Reads on if the client has sent more than was read. Otherwise closing would reset the connection, and lose the
+// response.
 fn linger_if_more<T: Socket>(mut socket: T) -> T
     ensures { LingersIfMore (T.uses socket) (T.uses result) }
 {
@@ -152,8 +154,8 @@ fn linger_if_more<T: Socket>(mut socket: T) -> T
     socket
 }
 
-// Reads on if a response was written and the client may still be sending: if the request was not read to its end, or more
-// has come behind it. Gives back the socket, to be closed.
+// Reads on if a response was written and the client may still be sending: the request was not read to its end, or more
+// has arrived after it. Returns the socket, to be closed.
 fn last_of<T: Socket>(socket: T, ending: Ending) -> T
     ensures { LingersAfter ending (T.uses socket) (T.uses result) }
 {

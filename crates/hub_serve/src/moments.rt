@@ -1,4 +1,4 @@
-//! Gives each connection its moment: the one that is named, or else what a clock tells.
+//! Gives each connection its moment: the one that is given, or the current moment of a clock.
 ghost use Rattle.std.specs.Prelude.{◌≡◌, false};
 ghost use Rattle.std.specs.Time.{system_time_nanos};
 ghost use Rattle.hub_serve.specs.Moments.{moment_at};
@@ -21,7 +21,7 @@ pub fn moment_now<C: Clock>(clock: &C) -> Option<Moment> {
     moment_of(SystemTime::now(clock).ok()?)
 }
 
-/// The moments that a clock tells, one at each call.
+/// The moments of a clock, one at each call.
 #[derive(Drop)]
 pub struct ClockMoments<'c, C> {
     clock: &'c C,
@@ -37,7 +37,7 @@ impl<'c, C> Model for ClockMoments<'c, C> {
 }
 
 impl<'c, C> ClockMoments<'c, C> {
-    /// The clock was not asked yet.
+    /// Makes the moments of a clock that was not asked yet.
     pub fn new(clock: &'c C) -> Self
         ensures { result ≡ false }
     {
@@ -47,7 +47,7 @@ impl<'c, C> ClockMoments<'c, C> {
         }
     }
 
-    /// Whether the clock has failed, or told a moment past the last.
+    /// Whether the clock has failed, or is past the last moment.
     pub fn has_failed(&self) -> bool
         ensures { result ≡ self.now }
     {
@@ -65,7 +65,7 @@ impl<'c, C: Clock> Moments for ClockMoments<'c, C> {
     }
 }
 
-/// A moment that is named, for each connection; or else the moments of a clock.
+/// The same moment for each connection, if one is given; otherwise the moments of a clock.
 #[derive(Drop)]
 pub struct NamedOr<M> {
     named: Option<Moment>,
@@ -81,14 +81,14 @@ impl<M> Model for NamedOr<M> {
 }
 
 impl<M> NamedOr<M> {
-    /// This moment each time, or else those of this clock.
+    /// Gives this moment each time, or else the moments of this clock.
     pub fn new(named: Option<Moment>, clock: M) -> Self
         ensures { result ≡ (named, clock) }
     {
         NamedOr { named, clock }
     }
 
-    /// The clock.
+    /// Returns the clock.
     pub fn clock(&self) -> &M
         ensures { result.now ≡ self.now.1 }
     {
@@ -105,7 +105,7 @@ impl<M: Moments> Moments for NamedOr<M> {
 
     ghost failed = { λ m. M.failed m.1 };
 
-    // Without a named moment, the clock is asked at each call.
+    // Without a given moment, the clock is asked at each call.
     fn next(&mut self) -> Option<Moment>
         ensures takes { TakesMoment (coming_of self.old.0 (M.coming self.old.1))
             (coming_of self.new.0 (M.coming self.new.1)) result }

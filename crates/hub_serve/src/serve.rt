@@ -1,4 +1,4 @@
-//! Connections served one after another.
+//! Serves connections one after another.
 ghost use Rattle.std.specs.Prelude.{◌≡◌, ◌≢◌, ◌⊎◌, IsTrue, true, false, [], None, OnErr, OnOk};
 ghost use Rattle.hub_http.specs.HubCore.Hub.{RunsFrom, StaysSound, StepsFrom};
 ghost use Rattle.hub_serve.specs.Broken.{BrokeAtLast, StopsAtOnce, StopsBroken};
@@ -14,16 +14,16 @@ use hub_http::{Hub, Paths, serve_one};
 use hub_store::Store;
 use std::alloc::Global;
 
-/// What is done once the store has failed for good: it answers that fault until it is opened anew.
+/// What to do once the store has failed for good: it then returns that fault until it is opened again.
 #[derive(Clone, Copy, Debug, PartialEq, Eq)]
 pub enum OnBroken {
-    /// Further connections are served. A request that the store is asked for is answered 503.
+    /// Serve further connections. A request that needs the store is answered 503.
     ServeOn,
-    /// No more connections are served.
+    /// Serve no more connections.
     Stop,
 }
 
-// Whether the store has failed for good, and no more is served then.
+// Whether the store has failed for good, and serving is to stop then.
 fn is_over<S: Store>(hub: &Hub<S>, on_broken: OnBroken) -> bool
     ensures over { result ≡ true → StopsBroken on_broken (S.broken hub.now.1 ≢ None) }
     ensures on { result ≡ false → on_broken ≡ OnBroken.Stop → S.broken hub.now.1 ≡ None }
@@ -34,7 +34,7 @@ fn is_over<S: Store>(hub: &Hub<S>, on_broken: OnBroken) -> bool
     }
 }
 
-// No connection is served any more.
+// Says that no more connections are served.
 #[derive(Clone, Copy)]
 struct NoMore;
 
@@ -51,7 +51,7 @@ fn serve_next<L: Connections, S: Store, M: Moments>(
         (known (L.coming connections.old) (L.closed connections.old) (M.coming moments.old))
         (known (L.coming connections.new) (L.closed connections.new) (M.coming moments.new)) result }
 
-    // No connection is served any more only where none could be taken, or the moment of the one that was is not known.
+    // No more are served only if none could be taken, or the moment of the one that was taken is not known.
     ensures stopped { OnErr result (Stops (IsTrue (L.failed connections.new)) (IsTrue (M.failed moments.new))
         (L.coming connections.old) (L.coming connections.new) []) }
     ensures going { OnOk result ((L.failed connections.new ≡ L.failed connections.old)
@@ -80,14 +80,14 @@ fn serve_next<L: Connections, S: Store, M: Moments>(
     Ok(ending)
 }
 
-/// Serves so many connections one after another, and prints of each, once it has ended, its number and the status that
-/// it was answered, as `connection 1 200`, or `connection 1 fault` where it failed: a read or a write of it, or its
-/// client went away before it was taken. Each comes at the moment that is next.
+/// Serves `count` connections one after another. When each has ended, prints its number and the status of its answer,
+/// as `connection 1 200`; or `connection 1 fault` if it failed: a read or a write failed, or its client disconnected
+/// before it was taken. Each connection gets the next moment.
 ///
-/// Answers the exit status: 0 where all were answered 200; 3 where one failed or was answered 503, where no more could
-/// be taken or a moment was not known, and then no more are served, and where a line could not be written; else 1.
-/// Where it is to stop once the store has failed for good, the connection at which that happened is the last, and the
-/// status 3.
+/// Returns the exit status: 0 if all were answered 200; 3 if one failed or was answered 503, if no more could be taken
+/// or a moment was not known, so that no more are served, or if a line could not be written; and 1 otherwise. If
+/// serving is to stop once the store has failed for good, the connection at which that happened is the last, and the
+/// status is 3.
 pub fn serve_on<L: Connections, S: Store, M: Moments, W: Sink>(
     alloc: Global,
     paths: &Paths,

@@ -13,16 +13,16 @@ pub trait Socket {
     ghost use Rattle.hub_serve.specs.Connections.{Adds};
     ghost use Rattle.hub_serve.specs.Uses as spec;
 
-    // How it was used so far, in order, where that is known.
+    // How it was used so far, in order, if that is known.
     ghost uses: { Self → spec.Uses } = { λ _. None };
 
-    // The bytes that reads will give, where they are known.
+    // The bytes that reads will give, if they are known.
     ghost remaining: { Self → Option (List ℕ) } = { λ _. None };
 
-    // The bytes that were written, where they are known.
+    // The bytes that were written, if they are known.
     ghost contents: { Self → Option (List ℕ) } = { λ _. None };
 
-    /// The moment that the clock tells.
+    /// Returns the current moment of the clock.
     fn instant(&mut self) -> io::Result<Instant>
         ensures uses { Adds (uses self.old) (uses self.new) (spec.told_by result) }
         ensures unknown { uses self.old ≡ None → uses self.new ≡ None }
@@ -41,13 +41,13 @@ pub trait Socket {
         ensures remaining { remaining self.new ≡ remaining self.old }
         ensures contents { contents self.new ≡ contents self.old };
 
-    /// Puts the next bytes at the front of the buffer, and says how many.
+    /// Reads bytes into the front of the buffer, and returns how many.
     fn read(&mut self, buffer: &mut [u8]) -> io::Result<usize>
         ensures bound { ReadsAtMost result buffer.new }
         ensures bytes { ReadConsumes (remaining self.old) (remaining self.new) result buffer.new }
         ensures uses { Adds (uses self.old) (uses self.new) (spec.read ∷ []) };
 
-    /// Takes some of the bytes from their front on, and says how many.
+    /// Writes some of the bytes, beginning with the first, and returns how many.
     fn write(&mut self, bytes: &[u8]) -> io::Result<usize>
         ensures bound { WritesAtMost result bytes.now }
         ensures bytes { WriteAppends (contents self.old) (contents self.new) result bytes.now }
@@ -58,7 +58,7 @@ pub trait Socket {
         ensures uses { Adds (uses self.old) (uses self.new) (spec.end_sending ∷ []) }
         ensures remaining { remaining self.new ≡ remaining self.old };
 
-    /// Whether bytes have come that were not read, or that is not known. It does not wait for any.
+    /// Whether bytes have arrived that were not read, or this is not known. It does not wait for any.
     fn has_more(&mut self) -> bool
         ensures uses { Adds (uses self.old) (uses self.new) (spec.has_more result ∷ []) }
         ensures remaining { remaining self.new ≡ remaining self.old };
@@ -69,7 +69,7 @@ pub trait Socket {
         Self: Sized;
 }
 
-/// A listener that gives sockets, and takes each back at its end.
+/// A listener that hands out sockets, and closes each at its end.
 pub trait Listener {
     ghost use Rattle.std.specs.Prelude.{[], ◌∷◌, None, IfOk};
     ghost use Rattle.hub_serve.specs.Connections.{Adds};
@@ -77,7 +77,7 @@ pub trait Listener {
 
     type Socket: Socket + Drop;
 
-    // What it did so far, in order, where that is known.
+    // What it did so far, in order, if that is known.
     ghost deeds: { Self → spec.Deeds } = { λ _. None };
 
     /// Waits for the next connection.
@@ -90,8 +90,8 @@ pub trait Listener {
         ensures deeds { Adds (deeds self.old) (deeds self.new) (spec.closed (Self.Socket.uses socket) ∷ []) };
 }
 
-/// A socket of the network, timed by a clock. It does not report how it was used, since std's contracts say nothing of
-/// clocks, timeouts and `shutdown`.
+/// A socket of the network, timed by a clock. It does not report how it was used, because the standard library's
+/// contracts do not describe clocks, timeouts and `shutdown`.
 #[derive(Drop)]
 pub struct NetSocket<'c, C, T> {
     clock: &'c C,
@@ -152,7 +152,7 @@ pub struct NetListener<'c, C, L> {
 }
 
 impl<'c, C, L> NetListener<'c, C, L> {
-    // Gives the sockets of a listener.
+    // Wraps a listener and a clock.
     pub(crate) fn of(clock: &'c C, listener: L) -> Self {
         NetListener { clock, listener }
     }

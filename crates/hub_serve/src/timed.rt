@@ -1,4 +1,4 @@
-//! A side of a connection that takes so long as a whole, and no longer.
+//! Limits the total time of one side of a connection.
 ghost use Rattle.std.specs.Prelude.{◌≡◌, IfOk, OnErr, Some, None};
 ghost use Rattle.std.specs.Duration.{as_nanos};
 ghost use Rattle.hub_serve.specs.Timed.{AsksOnly, GoesOn, IsLeft};
@@ -9,9 +9,9 @@ use std::io::{Error, ErrorKind, Read, Write};
 use std::marker::Model;
 use std::time::{Duration, Instant};
 
-/// One side of a connection, whose reads and writes fail once so much time has passed since it began: no call waits
-/// longer than to that moment. So a client that sends or takes nothing, or a byte now and then, is cut off. A side
-/// begins with the connection, or with its own first read or write.
+/// One side of a connection, whose reads and writes fail once a given time has passed since it began: no call waits
+/// longer. So a client that sends or reads nothing, or a byte now and then, is cut off. A side begins with the
+/// connection, or with its own first read or write.
 #[derive(Drop)]
 pub struct Timed<T> {
     socket: T,
@@ -30,7 +30,7 @@ impl<T> Model for Timed<T> {
 }
 
 impl<T: Socket> Timed<T> {
-    /// A side of this socket, which began at a moment of its clock, and lasts so long.
+    /// Makes a side of this socket that began at a moment of its clock and lasts this long.
     pub fn since(socket: T, begun: Instant, whole: Duration) -> Self
         ensures { result ≡ (socket, (Some begun, whole)) }
     {
@@ -41,7 +41,7 @@ impl<T: Socket> Timed<T> {
         }
     }
 
-    /// A side of this socket, which begins with its first read or write, and lasts so long.
+    /// Makes a side of this socket that begins with its first read or write and lasts this long.
     pub fn from_first_use(socket: T, whole: Duration) -> Self
         ensures { result ≡ (socket, (None, whole)) }
     {
@@ -53,7 +53,7 @@ impl<T: Socket> Timed<T> {
         }
     }
 
-    /// The socket.
+    /// Returns the socket.
     pub fn into_inner(self) -> T
         ensures { result ≡ self.0 }
     {
@@ -65,8 +65,8 @@ impl<T: Socket> Timed<T> {
         socket
     }
 
-    // Asks the clock what is left of the time, which begins now if it has not. Nothing left is an error, since a socket
-    // takes a timeout of zero for a wait without end.
+    // Asks the clock how much of the time is left; the time begins now if it has not. It is an error if nothing is
+    // left, because a socket takes a timeout of zero as a wait without end.
     fn left(&mut self) -> io::Result<Duration>
         ensures left { IfOk result (λ left.
             IsLeft (as_nanos left) self.old.1 self.new.1 (T.uses self.old.0) (T.uses self.new.0)) }
@@ -95,7 +95,7 @@ impl<T: Socket> Read for Timed<T> {
 
     ghost remaining = { λ t. T.remaining t.0 };
 
-    // Gives what the socket gives. The time goes on, or begins.
+    // Reads from the socket, as long as there is time; the time begins if it has not.
     fn read(&mut self, buffer: &mut [u8]) -> io::Result<usize>
         ensures bound { ReadsAtMost result buffer.new }
         ensures bytes { ReadConsumes (T.remaining self.old.0) (T.remaining self.new.0) result buffer.new }
@@ -117,7 +117,7 @@ impl<T: Socket> Write for Timed<T> {
     ghost use Rattle.hub_serve.specs.Timed.{GoesOn, HasBegun, IsTimed};
     ghost use Rattle.hub_serve.specs.Uses as uses;
 
-    // Hands these bytes to the socket. The time goes on, or begins.
+    // Writes to the socket, as long as there is time; the time begins if it has not.
     fn write(&mut self, bytes: &[u8]) -> io::Result<usize>
         ensures bound { WritesAtMost result bytes.now }
         ensures bytes { WriteAppends None None result bytes.now }

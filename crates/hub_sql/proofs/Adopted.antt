@@ -1,4 +1,4 @@
--- A store that takes over a connection with tables.
+-- Proves what a store holds that takes over a connection with tables.
 use Rattle.std.proofs.Common.{◌≡◌, ◌≢◌, ◌⊎◌, inl, inr, true, IsTrue, IsSome, [], ◌∷◌, None, Result, Ok, Err, IfOk, refl, sym, ap, subst}
 use Rattle.std.proofs.Common.{◌∙◌, ◌≤◌, arith}
 use Rattle.sqlite.specs.Effect.{Database}
@@ -36,7 +36,7 @@ pub left_alone : {S : Type 0} (g : Ghosts S) (h : Held S)
 left_alone g h settled idle up t (inl e) = e
 left_alone g h settled idle up t (inr it) = it.2 ∙ ap tables_in (settled it.0 up it.1 ∙ ap (λ d. d.trees) (sym (idle up)))
 
--- what holds the rows of a connection that was found as it was before holds those that it had
+-- what holds the rows of a connection that is as it was before holds the rows that it had before
 pub rows_held_before : {S E : Type 0} (g : Ghosts S) (was now : State) (rows : Trees → Tables) (r : Result (Stored S) E)
     → (HasCleanDisk now → IsAsBefore was now) → (HasCleanDisk now → HasCleanDisk was)
     → IfOk r (HoldsRows g now (rows now.now.trees)) → IfOk r (HoldsRows g was (rows was.now.trees))
@@ -48,7 +48,7 @@ rows_held_before g was now rows (Ok store) same clean it = record {
 }
 rows_held_before g was now rows (Err e) same clean it = tt
 
--- of the versions of the tables all but schema 1 are a hub's
+-- the tables of every version but schema 1 are a hub's
 pub holds_hub : (version : Stage) (db : Database) → version ≢ First → HoldsTables version db → HoldsHub db
 holds_hub First db later it = absurd (later refl)
 holds_hub Second db later it = inl it
@@ -59,19 +59,19 @@ later_hub First later = absurd (later refl)
 later_hub Second later = refl
 later_hub Third later = refl
 
--- and in each the row numbers rise
+-- and in each of them the row numbers rise
 pub hub_shaped : (version : Stage) (trees : Trees) → version ≢ First → AreShaped version trees → AreOrdered trees
 hub_shaped First trees later it = absurd (later refl)
 hub_shaped Second trees later it = it
 hub_shaped Third trees later it = it
 
--- so they do where they did as the connection was looked at first
+-- so they rise if they did when the connection was first looked at
 pub rise_as_before : (was now : State) → was.now.schema ≡ hub_schema → IsAsBefore was now
     → AreRising was.now.trees was.now.schema.tables → AreOrdered now.now.trees
 rise_as_before was now has same rise =
     subst (λ (db : Database). AreOrdered db.trees) (sym same.shown) (subst (λ (s : Schema). AreRising was.now.trees s.tables) has rise)
 
--- the number of all but schema 1 that is not schema 2
+-- a version that is neither schema 1 nor schema 2 has the number of schema 3
 pub third_number : (version : Stage) (db : Database) → version ≢ First → version ≢ Second
     → HasNumber (number_of version) db.trees → HasNumber 3 db.trees
 third_number First db later other it = absurd (later refl)
@@ -90,7 +90,7 @@ as_it_was schema Are says spoilt old new x looks clean = record {
   ];
 }
 
--- looked at twice, and as it was
+-- a connection looked at twice is as it was
 pub as_before_then : (was mid now : State) → IsAsBefore was mid → IsAsBefore mid now → IsAsBefore was now
 as_before_then was mid now one two = record {
   shown = two.shown ∙ one.shown;
@@ -98,7 +98,7 @@ as_before_then was mid now one two = record {
   crash = λ trees left. one.crash trees (two.crash trees left);
 }
 
--- the tables are those that the connection had as it was first looked at
+-- the tables are those that the connection had when it was first looked at
 pub held_before : (version : Stage) (was mid now : State) → IsAsBefore was mid
     → HoldsTables version mid.now × IsAsBefore mid now → HoldsTables version was.now × IsAsBefore was now
 held_before version was mid now one two =
@@ -114,20 +114,20 @@ held_neither was mid now one two = (
   as_before_then was mid now one.1 two.1,
 )
 
--- a fault that is none of the others
+-- a fault that is not one of the others is `Disk`
 pub of_disk : (fault : StoreFault) → fault ≢ Version → fault ≢ Memory → fault ≢ Unclean → fault ≡ Disk
 of_disk Memory known memory unclean = absurd (memory refl)
 of_disk Disk known memory unclean = refl
 of_disk Unclean known memory unclean = absurd (unclean refl)
 of_disk Version known memory unclean = absurd (known refl)
 
--- where nothing comes back so, all is so of what does
+-- if nothing comes back for which this holds, everything holds of what does
 pub never_comes : {S : Type 0} (g : Ghosts S) (so : State → Type 0) (back : Returned S) → ComesWith g back (λ _. ⊥)
     → ComesWith g back so
 never_comes g so (Connection conn) none = λ clean. absurd (none clean)
 never_comes g so (Store store) none = none
 
--- of two looks, one after another
+-- two looks, one after another
 pub counted_on : (was mid now : State) → CountsOn was mid → CountsOn mid now → CountsOn was now
 counted_on was mid now one two = record {
   faults = omega (arith, one.faults, two.faults);
@@ -135,7 +135,7 @@ counted_on was mid now one two = record {
   limit = two.limit ∙ one.limit;
 }
 
--- what stays shut after the connection was looked at does so for the connection as it was
+-- storage that stays shut after the connection was looked at also does so for the connection before
 pub stays_shut : {S : Type 0} (g : Ghosts S) (was mid : State) (version : Stage) (store : S) (fault : StoreFault)
     → mid.committed ≡ was.committed → was.faults ≤ mid.faults
     → StaysShut g mid version store fault → StaysShut g was version store fault
@@ -152,7 +152,7 @@ stays_shut g was mid version store fault same counts (inr (inr it)) = inr (inr (
   },
 ))
 
--- a cause that came after the connection was looked at is one from before
+-- a cause that arose after the connection was looked at is also one from before
 pub cause_passed : (was mid now : State) → CountsOn was mid → HasDiskCause mid now → HasDiskCause was now
 cause_passed was mid now counts (inl more) = inl (more_faults counts.faults more)
 cause_passed was mid now counts (inr (inl shut)) = inr (inl (sym counts.opened ∙ shut))
@@ -174,7 +174,7 @@ refused_version {conn = conn} {fault = fault} refuses other unclean disk spared 
   spared = spared_ever spared;
 }
 
--- once the tables are known to be a hub's, `Version` does not come any more
+-- once the tables are known to be a hub's, `Version` is not reported any more
 pub refused_later : {S : Type 0} {g : Ghosts S} {was : State} {back : Returned S} {fault : StoreFault}
     → was.now.schema ≡ hub_schema → fault ≢ Version
     → ((¬ HoldsHub was.now) → ComesWith g back (λ _. ⊥))
@@ -191,7 +191,7 @@ refused_later {g = g} {back = back} has opened holds unclean usable spared = rec
   spared = spared;
 }
 
--- the connection was opened anew
+-- the connection was opened again
 module _ {S : Type 0} {g : Ghosts S} {was : State} {version : Stage} {mid conn : Held S} (anew : IsAnew g version was mid conn)
     (later : version ≢ First) where
   pub adopted : {s : Stored S}
@@ -208,11 +208,11 @@ module _ {S : Type 0} {g : Ghosts S} {was : State} {version : Stage} {mid conn :
     clean = λ honest. anew.clean (anew.early (clean honest));
   }
 
-  -- no register is held, and so none was
+  -- no register is held, so none was
   none_was : HasCleanDisk (state g conn) → HoldsNone (tables_in (state g conn).now.trees) → HoldsNone (tables_in was.committed.trees)
   none_was clean none = subst (λ (rows : Trees). HoldsNone (tables_in rows)) (same_trees anew clean) none
 
-  -- what may be left is what may be left of the connection as it was
+  -- what a crash may leave now, it could leave of the connection as it was
   may_be_raised : HasCleanDisk (state g conn) → (db : Trees) → MayBeRenumbered version (tables_in (state g conn).now.trees) db
       → MayBeRaised was db
   may_be_raised clean db made = (
@@ -220,7 +220,7 @@ module _ {S : Type 0} {g : Ghosts S} {was : State} {version : Stage} {mid conn :
     subst (λ (rows : Trees). IsFounded (tables_in rows) db) (same_trees anew clean) made.1,
   )
 
-  -- another schema than the version's may have been read at a fault of the disk alone
+  -- only after a fault of the disk may the schema read differ from the version's
   reread : (fault : StoreFault) → (conn.schema ≡ hub_schema) ⊎ (fault ≡ Disk)
       → (conn.schema ≡ schema_of version) ⊎ ((fault ≡ Disk) × IsKnown was)
   reread fault (inl same) = inl (same ∙ sym (later_hub version later))

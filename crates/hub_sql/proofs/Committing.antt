@@ -1,4 +1,4 @@
--- A commit of a store, from what it is on the connection.
+-- Proves what a commit of a store does, from what it does on the connection.
 use Rattle.std.proofs.Common.{◌≡◌, ℕ, ◌≤◌, inl, inr, true, false, IsTrue, List, [], ◌∷◌, ◌++◌, Option, None, Some, Result}
 use Rattle.std.proofs.Common.{Ok, Err, refl, sym, ap, subst, ◌∙◌, arith}
 use Rattle.std.specs.BTreeMap.{btree_map_len}
@@ -30,7 +30,7 @@ content_after : {S : Type 0} (g : Ghosts S) (old new : Stored S) → new.past �
 content_after g old new past = ap (λ p. rows_in g (last_or None p)) past ∙ ap (rows_in g)
     (last_added old.past (new.held, true) None)
 
--- what was so before
+-- the store was settled before
 module _ {S : Type 0} (g : Ghosts S) {kept : Option RegisterRows} {marks : Marks} (old new : Stored S)
     (settled : IsSettled g kept marks old)
     (back : honest g new → honest g old) where

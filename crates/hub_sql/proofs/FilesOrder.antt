@@ -1,4 +1,4 @@
--- What a database has that was opened over files: the row numbers of each of its tables rise.
+-- Shows that in a database opened over files the row numbers of each table rise.
 use Rattle.std.proofs.Common.{◌≡◌, inl, inr, List, [], ◌∷◌, filter, sym, ap, subst, ◌∙◌}
 use Rattle.std.proofs.Math.Logic.{∥∥₁_elim}
 use Rattle.std.specs.List.{AllZip}
@@ -25,7 +25,7 @@ use Rattle.hub_sql.specs.File.{IsOver}
 use Rattle.hub_sql.specs.Opening.{IsReady}
 use Rattle.hub_sql.specs.Version.{AreRising}
 
--- no table is listed where nothing is
+-- no table is listed if nothing is
 none_listed : (objects : List Row) (tables : List Table) (trees : Trees) → objects ≡ []
     → AllZip IsTableRow (filter is_table_row objects) tables → AreRising trees tables
 none_listed objects [] trees none listed = tt

@@ -1,4 +1,4 @@
--- A new store over a connection.
+-- Proves what holds of a new store over a connection.
 use Rattle.std.proofs.Common.{◌≡◌, ℕ, Bool, true, false, List, [], ◌∷◌, Option, None, sym, ap, subst, arith}
 use Rattle.std.specs.BTreeMap.{btree_map_len}
 use Rattle.std.specs.List.{last_or}

@@ -1,4 +1,4 @@
--- A list of a mailbox that begins at a mark.
+-- Proves that a list of a mailbox may begin at a mark.
 use Rattle.std.proofs.Common.{◌≡◌, ℕ, IsTrue, List, Option, None, Result, Ok, Err, IfOk, OnOk, OnErr, map, take, sym, ap, subst, ◌∙◌}
 use Rattle.sqlite.specs.Held.{state}
 use Rattle.sqlite.specs.State.{State, HasCleanDisk}
@@ -22,7 +22,7 @@ use Rattle.hub_sql.proofs.Marking.{from_start, noted}
 abbrev pub listed : List ℕ → ℕ → ℕ → Tables → List MailHead
 listed supplier number limit t = take limit (map head_of (untaken_after (view supplier t) number))
 
--- a look-up of one thing is one of another, where both are the same of these tables
+-- two look-ups that give the same of these tables are the same look-up
 look_alike : {X : Type 0} (one other : Tables → X) (old new : State) (result : Result X StoreFault)
     → (HasCleanDisk new → IsTrue old.is_open → one (tables_in old.now.trees) ≡ other (tables_in old.now.trees))
     → LooksUp one old new result → LooksUp other old new result
@@ -60,7 +60,7 @@ module _ (old new : State) (marks : Marks) (supplier : List ℕ) (number limit :
       noted (tables_in old.now.trees) marks after supplier number limit heads (hub_rises old (holds up)).mail
       (taken (clean_before old new _ looks.crash clean) up) (looks.answers clean holds) notes
 
--- the marks of a store are right of the rows that its connection shows
+-- the marks of a store are right for the rows that its connection shows
 pub shown_taken : {S : Type 0} (g : Ghosts S) {kept : Option RegisterRows} {marks : Marks} (s : Stored S) → IsSettled g kept marks s
     → honest g s → IsTrue (state g s.held).is_open → TakenUpToMarks (tables_in (state g s.held).now.trees) marks
 shown_taken g {marks = marks} s settled clean up = subst (λ t. TakenUpToMarks t marks) (sym (settled.rows clean up)) (settled.taken clean)

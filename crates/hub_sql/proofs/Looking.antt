@@ -1,4 +1,4 @@
--- A look-up of a store, from what it is on the connection.
+-- Proves what a look-up of a store returns, from what it returns on the connection.
 use Rattle.std.proofs.Common.{◌≡◌, ◌≢◌, inl, inr, false, IsTrue, Option, None, Some, Result, Ok, Err, IfOk, IfErr, OnOk}
 use Rattle.std.proofs.Common.{refl, sym, ap, subst, ◌∙◌}
 use Rattle.std.specs.List.{last_or}
@@ -31,7 +31,7 @@ pub on_ok_of : {X E P : Type 0} (found : Result X E) (x : X) → found ≡ Ok x 
 on_ok_of (Ok y) x e h = h
 on_ok_of (Err f) x e h = cc
 
--- what is true of a value that was found is true of it as it is handed on
+-- what is true of a value that was found is true of it when it is passed on
 pub handed_on : {X : Type 0} (P : X → Type 0) (found result : Result X StoreFault) → IfOk found P → IfOk result (λ x. found ≡ Ok x)
     → IfOk result P
 handed_on P found (Ok x) holds is = ok_of P found x is holds
@@ -63,7 +63,7 @@ module _ {S : Type 0} (g : Ghosts S) {kept : Option RegisterRows} {marks : Marks
   pub holds : honest g old → Holds (state g old.held)
   holds clean o = settled.hub clean o
 
-  -- rows and schema are those that were, where the connection still shows them
+  -- rows and schema are as they were, if the connection still shows them
   pub still : new.held.in_transaction ≡ false → (honest g new → new.fault ≡ None → new.held.schema ≡ hub_schema)
       → (honest g new → honest g old)
       → (honest g new → IsTrue (state g new.held).is_open → IsTrue (state g old.held).is_open ×
@@ -129,7 +129,8 @@ module _ {S : Type 0} (g : Ghosts S) {kept : Option RegisterRows} {marks : Marks
             ap (λ d. d.schema) shown.2 ∙ settled.schema whole (back clean)
         schema (Err f) is usable clean none = usable none
 
--- the same of the store as its view shows it; what the call on the connection says comes last, so that it can be searched for
+-- the same for the store as its view shows it; what the call on the connection returns comes last, so that a search
+-- finds it
 pub looked_as_seen : {S X : Type 0} (g : Ghosts S) {kept : Option RegisterRows} {marks : Marks} {old new seen : Stored S}
     {schema : Schema} {found result : Result X StoreFault}
     → old ≡ seen → IsSettled g kept marks old → old.fault ≡ None → new.past ≡ old.past → (answer : Tables → X)
@@ -140,7 +141,7 @@ looked_as_seen g {kept} {marks} {old} {new} {seen} {schema} {found} {result} is 
     subst (λ s. Looks (content g) (honest g) (left g) (λ s. s.fault) s new (answer (content g s)) result) is
     (looked g old new settled whole past answer found result looks (subst (λ s. Settles found s result new.fault) shown makes))
 
--- a store with a fault for good answers it, and stays as it is
+-- a store with a lasting fault returns it, and stays as it is
 module _ {S : Type 0} (g : Ghosts S) (s : Stored S) {X : Type 0} (result : Result X StoreFault) (good : LastingFault)
     (has : s.fault ≡ Some good)
     (is : result ≡ Err (fault_of good)) where

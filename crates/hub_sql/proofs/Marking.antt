@@ -1,4 +1,4 @@
--- What is taken of a mailbox: what a list from a mark on shows, and what changes leave.
+-- Shows that marks stay right: what a list from a mark shows, and what changes leave of it.
 use Rattle.std.proofs.Common.{◌≡◌, ℕ, zero, suc, ◌-◌, ◌≤◌, ◌<◌, ◌==◌, nat_lt, nat_le, Bool, true, false, not, cond, ◌&&◌, inl, inr}
 use Rattle.std.proofs.Common.{List, [], ◌∷◌, map, filter, take, refl, sym, ap, subst, ◌∙◌, arith, true≢false}
 use Rattle.std.specs.List.{AllByRecursion}
@@ -25,7 +25,7 @@ use Rattle.hub_reads.proofs.Sorting.{rises_filter}
 use Rattle.hub_sql.specs.Marks.{IsTakenUpTo, TakenUpTo, Marks, mark_of, TakenUpToMarks, list_start, shown_mark, Notes}
 use Rattle.hub_sql.specs.Marks.{mark_with, mark_after, mark_after_all}
 
--- up to a lower number, and up to none
+-- entries taken up to a number are taken up to a lower one
 pub lower : (t : Tables) (supplier : List ℕ) (mark number : ℕ) → number ≤ mark → TakenUpTo t supplier mark → TakenUpTo t supplier number
 lower t supplier mark number less =
     all_weaker (IsTakenUpTo supplier mark) (IsTakenUpTo supplier number)
@@ -42,7 +42,7 @@ owns supplier entry = same entry.supplier supplier
 abbrev waits : ℕ → MailRow → Bool
 waits number entry = nat_lt number entry.number && not (is_taken entry)
 
--- a number that is not from 1 up to the mark is above neither or both
+-- a number outside 1 to the mark is above both or above neither
 above : (n number mark : ℕ) → number ≤ mark → (1 ≤ n → n ≤ mark → ⊥) → nat_lt mark n ≡ nat_lt number n
 above zero number mark less out = grind (arith, nat_tests)
 above (suc n) number mark less out =
@@ -51,7 +51,7 @@ above (suc n) number mark less out =
     let there : nat_lt number (suc n) ≡ true = grind (arith, nat_tests, more, less) in
     here ∙ sym there
 
--- an entry waits above the mark where it waits above a lower number
+-- an entry waits above the mark if it waits above a lower number
 alike : (supplier : List ℕ) (number mark : ℕ) → number ≤ mark → (entry : MailRow) → IsTakenUpTo supplier mark entry
     → (owns supplier entry && waits mark entry) ≡ (owns supplier entry && waits number entry)
 alike supplier number mark less entry it = elim (cases_Bool (owns supplier entry)) [
@@ -69,7 +69,7 @@ alike supplier number mark less entry it = elim (cases_Bool (owns supplier entry
     none true = refl
     none false = refl
 
--- so a list from the mark on shows what it would show from the lower number on
+-- so a list from the mark shows what it would show from the lower number
 pub from_mark : (t : Tables) (supplier : List ℕ) (number mark : ℕ) → number ≤ mark → TakenUpTo t supplier mark
     → untaken_after (view supplier t) mark ≡ untaken_after (view supplier t) number
 from_mark t supplier number mark less taken =
@@ -82,7 +82,7 @@ from_mark t supplier number mark less taken =
 
 -- What a list shows first.
 
--- entries that wait above the mark are above a number: all up to that number are taken
+-- if an entry that waits above the mark is above a number, all entries up to that number are taken
 enough : (supplier : List ℕ) (mark number : ℕ) (entries : List MailRow) → AllByRecursion (IsTakenUpTo supplier mark) entries
     → AllByRecursion (λ entry. number < entry.number) (filter (λ entry. owns supplier entry && waits mark entry) entries)
     → AllByRecursion (IsTakenUpTo supplier number) entries
@@ -112,7 +112,7 @@ enough supplier mark number (entry ∷ entries) taken above =
       ]
     ]
 
--- of two entries of one supplier, in the order of their keys, the first has the lower number
+-- of two entries of one supplier in the order of their keys, the first has the lower number
 rises_by_number : (supplier : List ℕ) (a b : MailRow) → owns supplier a ≡ true → owns supplier b ≡ true → mail_cmp a b ≡ Less
     → a.number < b.number
 rises_by_number supplier a b first second less =
@@ -139,7 +139,7 @@ module _ (t : Tables) (supplier : List ℕ) (mark : ℕ) (rises : Rises mail_cmp
   abbrev test : MailRow → Bool
   test entry = owns supplier entry && waits mark entry
 
-  -- where the entries that wait are these
+  -- if the entries that wait are these
   first_is : (first : MailRow) (rest : List MailRow) → filter test t.mail ≡ first ∷ rest → TakenUpTo t supplier (first.number - 1)
   first_is first rest is =
       let passes = subst (AllByRecursion (λ entry. test entry ≡ true)) is (all_passes test t.mail) in
@@ -243,7 +243,7 @@ pub taken_to_no_marks : (t : Tables) (marks : Marks) → ((supplier : List ℕ) 
 taken_to_no_marks t marks none =
     record { each = λ supplier. subst (TakenUpTo t supplier) (sym (none supplier)) (taken_to_none t supplier) }
 
--- a list above a number shows what it shows from where it begins
+-- a list above a number shows the same from where it begins
 pub from_start : (t : Tables) (marks : Marks) (supplier : List ℕ) (number : ℕ) → TakenUpToMarks t marks
     → untaken_after (view supplier t) (list_start marks supplier number) ≡ untaken_after (view supplier t) number
 from_start t marks supplier number taken = elim (cases_Bool (nat_le number mark)) [

@@ -1,4 +1,4 @@
--- A hub that is founded in a database of schema 1, beside its rows.
+-- Proves what founding a hub leaves in a database of schema 1, beside its rows.
 use Rattle.std.proofs.Common.{◌≡◌, ◌≢◌, ◌⊎◌, inl, inr, List, [], true, false, None, refl, sym, ap, subst, ◌∙◌}
 use Rattle.sqlite.specs.Effect.{Database}
 use Rattle.sqlite.specs.Held.{Held, state}
@@ -31,14 +31,14 @@ use Rattle.hub_sql.specs.declared.version.Version.TheVariants.{First}
 use Rattle.hub_sql.proofs.Adopted.{of_disk, never_comes}
 use Rattle.hub_sql.proofs.Sparing.{IsAnew, same_trees, spared_anew, spared_ever}
 
--- the row numbers of its tables rise where they did as the connection was looked at first
+-- the row numbers of its tables rise if they did when the connection was first looked at
 pub shaped_as_before : (was now : State) → was.now.schema ≡ schema_of First → IsAsBefore was now
     → AreRising was.now.trees was.now.schema.tables → AreShaped First now.now.trees
 shaped_as_before was now has same rise =
     subst (λ (db : Database). AreShaped First db.trees) (sym same.shown)
     (subst (λ (s : Schema). AreRising was.now.trees s.tables) has rise)
 
--- faults of founding that are equal are of one fault of the store
+-- equal faults of founding have equal faults of the store
 pub same_fault : (a b : StoreFault) → found.Store a ≡ found.Store b → a ≡ b
 same_fault a b e = cc
 
@@ -73,7 +73,7 @@ refused_version {was = was} {conn = conn} {fault = fault} tables refuses other u
   spared = spared_ever spared;
 }
 
--- they are, and no `Version` comes any more
+-- they are, so `Version` is not reported any more
 pub refused_old : {S : Type 0} {g : Ghosts S} {register : RegisterRows} {was : State} {back : Returned S} {fault : FoundFault}
     → was.now.schema ≡ schema_of First → IsOfFounding fault
     → (((before : Tables) → ¬ Stood was before) → ComesWith g back (λ _. ⊥))
@@ -95,7 +95,7 @@ refused_old {g = g} {back = back} has which holds unfit usable rows spared = rec
   spared = spared;
 }
 
--- the connection was opened anew
+-- the connection was opened again
 module _ {S : Type 0} {g : Ghosts S} {was : State} {mid conn : Held S} (anew : IsAnew g First was mid conn)
     (register : RegisterRows) where
   pub migrates : {s : Stored S} → s.fault ≡ None
@@ -121,7 +121,7 @@ module _ {S : Type 0} {g : Ghosts S} {was : State} {mid conn : Held S} (anew : I
     clean = λ honest. anew.clean (anew.early (clean honest));
   }
 
-  -- what may be left is what may be left of the connection as it was
+  -- what a crash may leave now, it could leave of the connection as it was
   may_be_founded : HasCleanDisk (state g conn) → (db : Trees) → MayBeBeside (traffic_in (state g conn).now.trees) register db
       → MayBeFounded register was db
   may_be_founded clean db made = (
@@ -130,7 +130,7 @@ module _ {S : Type 0} {g : Ghosts S} {was : State} {mid conn : Held S} (anew : I
     subst (λ (rows : Trees). MayBeBeside (traffic_in rows) register db) (same_trees anew clean) made,
   )
 
-  -- another schema than that of schema 1 may have been read at a fault of the disk alone
+  -- only after a fault of the disk may the schema read differ from schema 1
   reread : {Disks : Type 0} → (conn.schema ≡ schema_of First) ⊎ Disks → (conn.schema ≡ schema_of First) ⊎ (Disks × IsKnown was)
   reread (inl same) = inl same
   reread (inr disk) = inr (disk, (First, anew.known))

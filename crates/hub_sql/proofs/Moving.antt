@@ -1,4 +1,4 @@
--- What is known of a connection, by what is known of another.
+-- Carries what is known of one connection over to another.
 use Rattle.std.proofs.Common.{◌≡◌, IsTrue, sym, subst, ◌∙◌}
 use Rattle.sqlite.specs.Effect.{IsDatabase}
 use Rattle.sqlite.specs.State.{State}
@@ -13,7 +13,7 @@ ready_as_before old new same committed is_open ready = record {
   sound = subst IsDatabase (sym same) ready.sound;
 }
 
--- with the number of schema 3 all tables are a hub's
+-- tables of schema 2 or 3 with the number of schema 3 are a hub's
 pub numbered_hub : (s : State) → HasTables s → IsNumbered s.now.trees → IsHub s
 numbered_hub s has number =
     record { schema = has.schema; numbered = number; ordered = has.ordered; sound = has.sound }

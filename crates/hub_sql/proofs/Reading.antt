@@ -1,4 +1,4 @@
--- The register of a store, from what is found on the connection.
+-- Proves which register a store returns, from what is found on the connection.
 use Rattle.std.proofs.Common.{◌≡◌, inl, inr, false, IsTrue, Option, None, Some, Result, Ok, Err, IfOk, IfErr, refl, sym, ap, subst}
 use Rattle.std.proofs.Common.{◌∙◌}
 use Rattle.std.specs.Option.{IfSome}
@@ -23,7 +23,7 @@ use Rattle.hub_sql.specs.Stored.{Stored, content, left, HasRegister, IsSettled, 
 use Rattle.hub_sql.specs.Marks.{Marks}
 use Rattle.hub_sql.proofs.Looking.{failed, holds, still, same_content, looked, ok_of, on_ok_of, refused_fails}
 
--- where there is none, that is a fault
+-- if there is none, that is a fault
 abbrev pub as_fault : Result (Option RegisterRows) StoreFault → Result RegisterRows StoreFault
 as_fault (Ok (Some register)) = Ok register
 as_fault (Ok None) = Err Unclean
@@ -59,12 +59,12 @@ held_one old new (Err fault) looks = record {
   unclean = λ clean are is. let same : fault ≡ Unclean = cc in looks.unclean clean are (ap Err same);
 }
 
--- it is looked up in all tables, and so in a hub's
+-- it is looked up in all tables, so also in a hub's
 pub held : (old new : State) (found : Result (Option RegisterRows) StoreFault) → LooksIn IsHeldBy HoldsNone old new found
     → LooksFor HasRegister HoldsNone old new (as_fault found)
 held old new found looks = held_one old new found (of_hub IsHeldBy HoldsNone old new found looks)
 
--- of rows that hold one it is a look-up
+-- a look-up, if the rows hold one
 pub as_look : (old new : State) (result : Result RegisterRows StoreFault)
     → (HasCleanDisk old → IsTrue old.is_open → HoldsRegister (tables_in old.now.trees))
     → LooksFor HasRegister HoldsNone old new result
@@ -144,7 +144,7 @@ module _ {S : Type 0} (g : Ghosts S) {kept : Option RegisterRows} {marks : Marks
       (λ clean up. subst HoldsRegister (sym (settled.rows clean up)) (holds_one clean)) looks)
       makes
 
--- a store with a fault for good answers it, and stays as it is
+-- a store with a lasting fault returns it, and stays as it is
 module _ {S : Type 0} (g : Ghosts S) (s : Stored S) (result : Result RegisterRows StoreFault) (good : LastingFault)
     (has : s.fault ≡ Some good)
     (is : result ≡ Err (fault_of good)) where
@@ -158,7 +158,7 @@ module _ {S : Type 0} (g : Ghosts S) (s : Stored S) (result : Result RegisterRow
     fails = λ _. refused_fails g s result good has is;
   }
 
--- one that is kept is answered of a store without a fault for good
+-- a store without a lasting fault returns the register that it keeps
 module _ {S : Type 0} (g : Ghosts S) {marks : Marks} (s : Stored S) (register : RegisterRows)
     (settled : IsSettled g (Some register) marks s)
     (whole : s.fault ≡ None) where

@@ -1,4 +1,4 @@
--- What comes back with a fault.
+-- Shows that no committed row is lost in what comes back with a fault.
 use Rattle.std.proofs.Common.{◌≡◌, ◌⊎◌, inl, inr, ℕ, Bool, true, false, IsTrue, Ok, Err, Result, refl, sym, ap}
 use Rattle.std.proofs.Common.{◌∙◌, arith}
 use Rattle.sqlite_trees.specs.Tree.{Trees}
@@ -21,12 +21,12 @@ use Rattle.hub_sql.specs.declared.version.Version.{Version}
 use Rattle.hub_sql.specs.declared.version.Version.TheVariants.{Second}
 
 module _ {S : Type 0} (g : Ghosts S) where
-  -- where it is not shut, an idle connection shows what is committed
+  -- an idle connection that is not shut shows what is committed
   abbrev pub IsSettled : Held S → Type 0
   IsSettled h = IsTrue (state g h).is_open → (state g h).now ≡ (state g h).committed
 
   module _ (was new : Held S) (settled : IsSettled was) (idle : new.in_transaction ≡ false) where
-    -- all is as it was, or undone
+    -- everything is as it was, or undone
     shown : ShowsTheSame (state g was) (state g new) ⊎ IsUndone (state g was) (state g new) → IsTrue (state g new).is_open
         → ((state g new).now ≡ (state g was).committed) × ((state g new).now ≡ (state g was).now)
     shown (inl same) up = (same.rows ∙ settled (sym same.is_open ∙ up), same.rows)
@@ -69,7 +69,7 @@ module _ {S : Type 0} (g : Ghosts S) where
       spared_so was new settled (it.mode idle) (λ _. ⊥) it.crash (λ _ trees none. absurd none)
       (λ clean up. either_way (state g was) (state g new) r (it.leaves clean))
 
-  -- it is the connection that it was
+  -- the connection itself comes back
   pub spared_itself : (MayBe : Trees → Type 0) (h : Held S) → IsSettled h → h.in_transaction ≡ false
       → SparesConnection g ⊥ MayBe (state g h) h
   spared_itself MayBe h settled idle = record {
@@ -81,7 +81,7 @@ module _ {S : Type 0} (g : Ghosts S) where
     crash = λ clean trees left. inl left;
   }
 
-  -- what else may be left
+  -- more may be left
   pub spared_more : {A B : Type 0} (MayBe May : Trees → Type 0) (was : State) (conn : Held S)
       → (A → B)
       → ((trees : Trees) → MayBe trees → May trees)
@@ -99,7 +99,7 @@ module _ {S : Type 0} (g : Ghosts S) where
     ];
   }
 
-  -- a founding failed, of tables that stood there
+  -- a founding failed in tables that existed before
   pub spared_founding : (asked : Type 0) (before : Tables) (register : RegisterRows) (was new : Held S) (fault : StoreFault)
       → IsSettled was → (HasCleanDisk (state g was) → asked)
       → (HasCleanDisk (state g was) → fits register before ≡ true)
@@ -121,7 +121,7 @@ module _ {S : Type 0} (g : Ghosts S) where
       (λ clean trees made. inr (inr (refl, made (so (early clean)))))
       (λ clean up. inl (it.kept clean (so (early clean)) up))
 
-  -- it was taken apart, which undoes what was not committed
+  -- the connection was closed, which undoes what was not committed
   pub spared_below : (conn : Held S) (store : S) → IsRolledBack (g.view conn.store) (g.view store)
       → IsQuiet g.view g.faults g.recovers g.is_shielded conn.store store → SparesStore g (state g conn) store
   spared_below conn store undone quiet = record {
@@ -130,7 +130,7 @@ module _ {S : Type 0} (g : Ghosts S) where
     crash = λ clean trees left. quiet.outcomes trees left;
   }
 
-  -- and could not be opened anew
+  -- and its storage could not be opened again
   pub spared_again : (was : State) (store back : S) → SparesStore g was store
       → IsQuiet g.view g.faults g.recovers g.is_shielded store back
       → (IsClean (g.view back) → IsTrue (g.view back).is_open → (g.view back).trees ≡ (g.view store).trees)
@@ -176,14 +176,14 @@ module _ {S : Type 0} (g : Ghosts S) where
     ];
   }
 
--- nothing else may be left, whatever might be
+-- nothing else may be left, if nothing else might be
 pub spared_ever : {S : Type 0} {g : Ghosts S} {Another : Type 0} {May : Trees → Type 0} {was : State} {conn : Held S}
     → SparesConnection g ⊥ (λ _. ⊥) was conn → SparesConnection g Another May was conn
 spared_ever {g = g} {May = May} {was = was} {conn = conn} it =
     spared_more g (λ _. ⊥) May was conn (λ never. absurd never) (λ trees never. absurd never) it
 
--- The tables of a connection were found to be of a version, and nothing changed as they were looked at. It was opened
--- anew after that, and has the rows that were committed.
+-- The tables of a connection were found to be of a version, and nothing changed while they were looked at. After that
+-- it was opened again, and has the rows that were committed.
 pub record IsAnew {S : Type 0} (g : Ghosts S) (version : Version) (was : State) (mid conn : Held S) : Type 0 where
   pub known : was.now.schema ≡ schema_of version
   pub holds : HasCleanDisk (state g mid) → HoldsTables version was.now × IsAsBefore was (state g mid)
@@ -195,7 +195,7 @@ pub record IsAnew {S : Type 0} (g : Ghosts S) (version : Version) (was : State) 
   pub settled :
       (db : Trees) → IsTrue (state g conn).is_open → (state g conn).may_leave db → db ≡ (state g conn).committed.trees
 
--- a connection that was opened this moment is known so without being opened anew
+-- a connection that was just opened need not be opened again
 pub opened_now : {S : Type 0} {g : Ghosts S} {version : Version} {was : State} {conn : Held S}
     → was.now.schema ≡ schema_of version
     → (HasCleanDisk (state g conn) → HoldsTables version was.now × IsAsBefore was (state g conn))
@@ -219,7 +219,7 @@ module _ {S : Type 0} {g : Ghosts S} {version : Version} {was : State} {mid conn
   pub same_trees : HasCleanDisk (state g conn) → (state g conn).now.trees ≡ was.committed.trees
   same_trees clean = anew.rows clean ∙ ap (λ d. d.trees) (anew.holds (anew.early clean)).1.committed
 
-  -- the connection comes back after it was opened anew
+  -- the connection comes back after it was opened again
   pub spared_anew : {Another : Type 0} {MayBe May : Trees → Type 0} {back : Held S}
       → (conn.schema ≡ schema_of version) ⊎ Another
       → (HasCleanDisk (state g back) → (trees : Trees) → MayBe trees → May trees)

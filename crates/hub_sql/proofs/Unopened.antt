@@ -1,4 +1,4 @@
--- What is left where no database was opened.
+-- Shows what is left if no database was opened.
 use Rattle.std.proofs.Common.{refl}
 use Rattle.sqlite_disk.specs.declared.Disk as disk
 use Rattle.sqlite_disk.specs.declared.Files.{Files as Pair}

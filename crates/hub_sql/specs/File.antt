@@ -1,4 +1,4 @@
--- What comes of opening a file, by what it held and the log beside it.
+-- Defines what opening a file can return, depending on what it and the log beside it held.
 use Rattle.std.specs.Prelude.{◌≡◌, ◌⊎◌}
 use Rattle.sqlite.specs.Files.{file_state, over_files, IsOpened, IsCleanLeft, FailsToOpenFiles, LeavesFiles}
 use Rattle.sqlite.specs.declared.error.Error.{Error}
@@ -22,7 +22,7 @@ use Rattle.hub_sql.specs.declared.file.LeftOfFile.{LeftOfFile}
 use Rattle.hub_sql.specs.declared.file.LeftOfFile.TheVariants.{Nothing, Files, Returned}
 
 module _ {D : Type 0} {g : disk.Ghosts D} where
-  -- a connection that was opened over files which held this: its rows are theirs
+  -- a connection that was opened over files with this content: its rows are theirs
   pub record IsOver (image : Image) (conn : Held (FileStore D g)) : Type 0 where
     pub opened : HasCleanDisk (file_state conn) → IsOpened conn
     pub found : HasCleanDisk (file_state conn) → FindsIn image (file_state conn)
@@ -37,9 +37,8 @@ module _ {D : Type 0} {g : disk.Ghosts D} where
   FoundsFiles register image store =
       (conn : Held (FileStore D g)) × IsOver image conn × Founds over_files register (file_state conn) store
 
-  -- Where no database was opened: nothing comes back, and only which fault it may be is said; or the files come back,
-  -- which could not be read. What is left of them is what they held, and the fault is that of an error by which the
-  -- opening of such files fails, as the kit has it.
+  -- What is left if no database was opened: nothing, and only which faults are possible is said; or files that could
+  -- not be read. They still hold what they held, and the fault is an error with which SQL fails to open such files.
   abbrev pub LeavesUnopened : (Pair D → Type 0) → StoreFault → LeftOfFile D g → Type 0
   LeavesUnopened IsFresh fault Nothing = (fault ≡ Memory) ⊎ (fault ≡ Disk)
   LeavesUnopened IsFresh fault (Files left) =
@@ -47,13 +46,13 @@ module _ {D : Type 0} {g : disk.Ghosts D} where
       × ((files : Pair D) × IsFresh files × (IsCleanLeft left → FailsToOpenFiles files left e × LeavesFiles files left))
   LeavesUnopened IsFresh fault (Returned back) = ⊥
 
-  -- with a fault: the same; or a connection of such files, as `adopt` gives it
+  -- what is left with a fault: as above, or a connection over such files, as `adopt` returns it
   abbrev pub LeavesFile : (Pair D → Type 0) → Image → StoreFault → LeftOfFile D g → Type 0
   LeavesFile IsFresh image fault (Returned back) =
       (conn : Held (FileStore D g)) × IsOver image conn × Refuses over_files (file_state conn) back fault
   LeavesFile IsFresh image fault left = LeavesUnopened IsFresh fault left
 
-  -- or as `found` gives it
+  -- what is left with a fault: as above, or a connection over such files, as `found` returns it
   abbrev pub LeavesUnfounded : (Pair D → Type 0) → RegisterRows → Image → FoundFault → LeftOfFile D g → Type 0
   LeavesUnfounded IsFresh register image fault (Returned back) =
       (conn : Held (FileStore D g)) × IsOver image conn

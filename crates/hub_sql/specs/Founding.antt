@@ -1,4 +1,4 @@
--- What a store is that is founded, and when none is.
+-- Defines what store founding a hub makes, and why it can fail.
 use Rattle.std.specs.Prelude.{◌≡◌, ◌≢◌, ◌⊎◌, ⊤, true, false, List, None}
 use Rattle.sqlite.specs.Held.{Held, state}
 use Rattle.sqlite.specs.State.{State, HasCleanDisk}
@@ -26,24 +26,24 @@ use Rattle.hub_sql.specs.declared.returned.Returned.{Returned}
 use Rattle.hub_sql.specs.declared.returned.Returned.TheVariants.{Connection, Store}
 use Rattle.hub_sql.specs.declared.version.Version.TheVariants.{First}
 
--- what stood where a hub is founded: no table, or those of schema 1 with these rows
+-- what was there before a hub is founded: no table, or the tables of schema 1 with these rows
 abbrev pub Stood : State → Tables → Type 0
 Stood was before =
     ((was.now.schema ≡ no_schema) × (before ≡ empty))
     ⊎ (HoldsTables First was.now × (before ≡ traffic_in was.committed.trees))
 
--- the fault of a founding, or of a number that was not set: never a row without the form of its kind, since those of a
--- register have it
+-- the fault of a failed founding, or of a number that was not set: it is never `Unclean`, since the rows of a register
+-- have the form of their kind
 abbrev pub laying_of : StoreFault → StoreFault
 laying_of Memory = Memory
 laying_of fault = Disk
 
--- the faults of a founding that was begun
+-- the faults of a founding that had begun
 abbrev pub IsOfFounding : FoundFault → Type 0
 IsOfFounding fault = (fault ≡ found.Rows) ⊎ ((fault ≡ found.Store Memory) ⊎ (fault ≡ found.Store Disk))
 
--- with the rows of the register beside those that stood there, to which it fits: a sound start where those were sound for
--- some suppliers; a crash leaves these alone
+-- A store with the rows of the register beside those that were there, which it fits: a sound start if these were sound
+-- for some suppliers. A crash leaves exactly these rows.
 pub record Founds {S : Type 0} (g : Ghosts S) (register : RegisterRows) (was : State) (store : Stored S) : Type 0 where
   pub before : Tables
   pub whole : store.fault ≡ None
@@ -55,8 +55,8 @@ pub record Founds {S : Type 0} (g : Ghosts S) (register : RegisterRows) (was : S
   pub crash : honest g store → (t : Tables) → left g store t → t ≡ content g store
   pub clean : honest g store → HasCleanDisk was
 
--- what may be left by a founding that failed, beside what was committed: a hub's tables, with the rows of the register
--- beside these, to which it fits
+-- what a failed founding may leave, besides what was committed: a hub's tables, with the rows of the register beside
+-- these, which it fits
 abbrev pub MayBeBeside : Tables → RegisterRows → Trees → Type 0
 MayBeBeside before register trees =
     (fits register before ≡ true) × IsFounded (founded_beside before register) trees
@@ -64,8 +64,8 @@ MayBeBeside before register trees =
 abbrev pub MayBeFounded : RegisterRows → State → Trees → Type 0
 MayBeFounded register was trees = (before : Tables) × Stood was before × MayBeBeside before register trees
 
--- the disk failed; or it did in a connection that was opened again, which shows the rows that were committed, or that has
--- another schema than schema 1
+-- The disk failed; or it failed in a connection that was opened again, which shows the rows that were committed, or
+-- whose schema is not schema 1.
 abbrev pub FailsOver : {S : Type 0} → Ghosts S → State → Returned S → Type 0
 FailsOver {S} g was (Connection conn) = HasCleanDisk (state g conn) →
     HasDiskCause was (state g conn)
@@ -73,12 +73,12 @@ FailsOver {S} g was (Connection conn) = HasCleanDisk (state g conn) →
     × (over.step_limit ≡ was.step_limit) × ((over.schema ≢ schema_of First) ⊎ HasDiskCause (state g over) (state g conn)))
 FailsOver g was (Store store) = ⊤
 
--- `Version` comes with the connection as it was, and only where it has tables, and not those of schema 1. Where they are
--- of another schema no other fault comes; where they have another number, only out of memory, or a fault of the disk with
--- its cause. `Rows` comes where there are those of schema 1, to whose rows the register does not fit, and the connection
--- has them still; there no other fault comes but these two. `Unclean` never comes, as no row of a register was there. The
--- connection comes back, but for a store that could not be opened again, and its schema is as it was, but perhaps after a
--- fault of the disk.
+-- When founding fails. `Version`: the connection comes back as it was, and it has tables, but not those of schema 1. If
+-- they are of another schema, there is no other fault; if only their number differs, the other faults are `Memory` and
+-- a fault of the disk with its cause. `Rows`: the connection has the tables of schema 1, still unchanged, and the
+-- register does not fit their rows; then the only other faults are `Memory` and a failed disk. `Unclean` is never
+-- reported, because there were no rows of a register. The connection comes back, unless its storage could not be opened
+-- again, and its schema is as it was, except perhaps after a fault of the disk.
 pub record RefusesFounding {S : Type 0} (g : Ghosts S) (register : RegisterRows) (was : State) (back : Returned S)
     (fault : FoundFault) : Type 0 where
   pub version :

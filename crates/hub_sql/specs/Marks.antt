@@ -1,4 +1,4 @@
--- Up to which number all entries of a supplier's mailbox are taken.
+-- Defines the mark of a supplier: a number up to which all entries of its mailbox are taken.
 use Rattle.std.specs.Prelude.{◌≡◌, ◌⊎◌, ℕ, ◌-◌, ◌+◌, ◌≤◌, ◌==◌, nat_le, true, not, ◌&&◌, List, [], ◌∷◌, if◌then◌else◌}
 use Rattle.std.specs.BTreeMap.{BTreeMap, btree_map_len, get}
 use Rattle.std.specs.Cmp.Lexicographic.{slice_cmp}
@@ -14,7 +14,7 @@ use Rattle.hub_tables.specs.declared.change.Change.{Change}
 use Rattle.hub_tables.specs.declared.change.Change.TheVariants.{AddMail, SetMail}
 use Rattle.hub_tables.specs.declared.rows.MailRow.{MailRow}
 
--- it is taken if it is an entry of this supplier with a number from 1 up to this one
+-- if this is an entry of the supplier with a number from 1 up to this one, it is taken
 abbrev pub IsTakenUpTo : List ℕ → ℕ → MailRow → Type 0
 IsTakenUpTo supplier number entry =
     same entry.supplier supplier ≡ true → 1 ≤ entry.number → entry.number ≤ number → is_taken entry ≡ true
@@ -23,7 +23,7 @@ IsTakenUpTo supplier number entry =
 abbrev pub TakenUpTo : Tables → List ℕ → ℕ → Type 0
 TakenUpTo t supplier number = AllByRecursion (IsTakenUpTo supplier number) t.mail
 
--- for each supplier a number; 0 where none is kept
+-- a number for each supplier; 0 if none is kept
 abbrev pub Marks : Type 0
 Marks = BTreeMap (List ℕ) ℕ
 
@@ -34,36 +34,37 @@ mark_of marks supplier = unwrap_or (get (slice_cmp nat_cmp) marks supplier) 0
 pub record TakenUpToMarks (t : Tables) (marks : Marks) : Type 0 where
   pub each : (supplier : List ℕ) → TakenUpTo t supplier (mark_of marks supplier)
 
--- where a list above a number begins, since the entries before are taken
+-- where a list above a number may begin, since the entries before are taken
 abbrev pub list_start : Marks → List ℕ → ℕ → ℕ
 list_start marks supplier number = if nat_le number (mark_of marks supplier) then mark_of marks supplier else number
 
--- no more marks are kept
+-- the greatest number of marks that are kept
 abbrev pub most_marks : ℕ
 most_marks = 1_000
 
--- one supplier's mark is this, and the others stay
+-- one supplier's mark is set to this, and the others stay
 abbrev pub IsSet : Marks → List ℕ → ℕ → Marks → Type 0
 IsSet old supplier mark new =
     (other : List ℕ) → mark_of new other ≡ (if same supplier other then mark else mark_of old other)
 
--- up to which number entries are taken where a list from the mark on shows this: up to the first that it shows, and all
--- of them where it shows none, unless it was asked for none
+-- the number up to which entries are taken if a list from the mark shows these: up to the first of them; if there are
+-- none, all entries, unless the list was to have none
 abbrev pub shown_mark : List MailHead → ℕ → ℕ → ℕ
 shown_mark [] limit mark = if limit == 0 then mark else last_number
 shown_mark (head ∷ heads) limit mark = head.number - 1
 
--- each mark is what it was, or is forgotten
+-- each mark is as it was, or is forgotten
 abbrev pub Forgets : Marks → Marks → Type 0
 Forgets old new = (other : List ℕ) → (mark_of new other ≡ mark_of old other) ⊎ (mark_of new other ≡ 0)
 
--- or it is the supplier's, and this one
+-- each mark is as it was, or is forgotten, or is the supplier's and has this number
 abbrev pub Keeps : Marks → List ℕ → ℕ → Marks → Type 0
 Keeps old supplier mark new =
     (other : List ℕ) → (mark_of new other ≡ mark_of old other) ⊎ ((mark_of new other ≡ 0)
     ⊎ ((same supplier other ≡ true) × (mark_of new other ≡ mark)))
 
--- or it is the supplier's, and what a list for it shows that was asked for from the mark or before it
+-- each mark is as it was, or is forgotten, or is the supplier's and set to what a list shows that began at the mark or
+-- before it
 abbrev pub Notes : Marks → List ℕ → ℕ → List MailHead → ℕ → Marks → Type 0
 Notes old supplier number heads limit new =
     (other : List ℕ) → (mark_of new other ≡ mark_of old other) ⊎ ((mark_of new other ≡ 0)
@@ -80,7 +81,7 @@ abbrev pub mark_with : List ℕ → MailRow → ℕ → ℕ
 mark_with supplier entry mark =
     if same entry.supplier supplier && (not (is_taken entry) && nat_le entry.number mark) then entry.number - 1 else mark
 
--- and after a change
+-- a supplier's mark after a change
 abbrev pub mark_after : List ℕ → Change → ℕ → ℕ
 mark_after supplier (AddMail entry) mark = mark_with supplier entry mark
 mark_after supplier (SetMail entry) mark = mark_with supplier entry mark

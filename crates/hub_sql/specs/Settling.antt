@@ -1,4 +1,4 @@
--- What a store makes of a call on its connection.
+-- Defines how a store reports the result of a call on its connection.
 use Rattle.std.specs.Prelude.{◌≡◌, ◌≢◌, Option, None, Result, Ok, Err, IfOk, IfErr}
 use Rattle.sqlite.specs.Schema.{Schema}
 use Rattle.hub_schema.specs.Schema.{hub_schema}
@@ -7,7 +7,7 @@ use Rattle.hub_store.specs.declared.fault.LastingFault.{LastingFault}
 use Rattle.hub_store.specs.declared.fault.StoreFault.{StoreFault}
 use Rattle.hub_store.specs.declared.fault.StoreFault.TheVariants.{Memory, Disk, Unclean, Version}
 
--- a value is handed on; a fault is for good, but for want of memory where the schema is the hub's, which stays so
+-- A value is passed on. A fault is lasting, except `Memory` while the connection has the hub's schema.
 pub record Settles {X : Type 0} (found : Result X StoreFault) (schema : Schema) (result : Result X StoreFault)
     (fault : Option LastingFault) : Type 0 where
   pub value : IfOk result (λ x. found ≡ Ok x)

@@ -1,4 +1,4 @@
--- A store over a connection, as its clauses see it.
+-- Defines a store over a connection, as its contracts see it.
 use Rattle.std.specs.Prelude.{◌≡◌, ◌⊎◌, ◌≤◌, Bool, false, IsTrue, List, Option, None, Some, refl}
 use Rattle.std.specs.Option.{IfSome}
 use Rattle.std.specs.Coded.{Coded, code_by, coded×, coded_list, coded_option, coded_bool}
@@ -20,9 +20,9 @@ use Rattle.hub_sql.specs.Marks.{Marks, TakenUpToMarks, most_marks}
 
 pub record Stored (S : Type 0) : Type 0 where
   pub held : Held S
-  -- the fault that each call answers from now on
+  -- the fault that each call returns from now on
   pub fault : Option LastingFault
-  -- the connection as opening left it, and then as each commit did
+  -- the connection after opening and after each commit
   pub past : List (Held S × Bool)
 
 abbrev pub stored_code : {S : Type 0} → Coded S → Coded (Stored S)
@@ -32,7 +32,7 @@ stored_code {S} code =
     (coded× (coded_option lasting.the_row.coded) (coded_list (coded× (held_code code) coded_bool))))
     (λ s. (s.held, (s.fault, s.past))) (λ p. record { held = p.0; fault = p.1.0; past = p.1.1 }) (λ _. refl)
 
--- they hold this register
+-- these rows hold this register
 abbrev pub HasRegister : Tables → RegisterRows → Type 0
 HasRegister t register = HoldsRegister t × (register ≡ register_of t)
 
@@ -41,7 +41,7 @@ module _ {S : Type 0} (g : Ghosts S) where
   rows_in None = empty
   rows_in (Some it) = tables_in (state g it.0).now.trees
 
-  -- the rows as the last commit left them, also where the connection is shut since
+  -- the rows after the last commit, even if the connection has been shut since
   abbrev pub content : Stored S → Tables
   content s = rows_in (last_or None s.past)
 
@@ -53,17 +53,17 @@ module _ {S : Type 0} (g : Ghosts S) where
   abbrev pub left : Stored S → Tables → Type 0
   left s t = (t ≡ content s) ⊎ ((trees : Trees) × (state g s.held).may_leave trees × (t ≡ tables_in trees))
 
-  -- a new store over a connection that was in this state: it is not broken, it has these rows, a crash leaves no others,
-  -- and its disk has returned what was written only where that of the connection had
+  -- A new store over a connection that was in this state: it is not broken, it has these rows, a crash leaves no
+  -- others, and its disk has returned what was written only if the connection's had.
   pub record HoldsRows (was : State) (rows : Tables) (s : Stored S) : Type 0 where
     pub whole : s.fault ≡ None
     pub rows_are : honest s → content s ≡ rows
     pub crash : honest s → (t : Tables) → left s t → t ≡ content s
     pub clean : honest s → HasCleanDisk was
 
-  -- what is true of each store: where it is open, also after a fault for good, it has the hub's tables, whose rows are
-  -- the content; while no fault is for good, its schema is the hub's; a register that it keeps is that of the content; and
-  -- so are the numbers that it keeps of suppliers, up to which their entries are taken, of which there are not too many
+  -- What always holds of a store: if it is open, even after a lasting fault, it has the hub's tables, whose rows are
+  -- the content; while it has no lasting fault, its schema is the hub's; a register that it keeps is that of the
+  -- content; and the marks that it keeps of suppliers are right and not too many.
   pub record IsSettled (kept : Option RegisterRows) (marks : Marks) (s : Stored S) : Type 0 where
     pub idle : s.held.in_transaction ≡ false
     pub schema : s.fault ≡ None → HasCleanDisk (state g s.held) → s.held.schema ≡ hub_schema

@@ -1,5 +1,5 @@
--- The versions of the tables: schema 1, which has no register, schema 2, and schema 3, which has the same tables as
--- schema 2.
+-- Defines the versions of the tables: schema 1, which has no register, schema 2, and schema 3, which has the same
+-- tables as schema 2.
 use Rattle.std.specs.Prelude.{◌≡◌, ◌⊎◌, ℕ, List}
 use Rattle.std.specs.List.{AllByRecursion}
 use Rattle.sqlite.specs.Effect.{Database}
@@ -32,11 +32,11 @@ tables_of Third = hub_tables
 abbrev pub AreRising : Trees → List Table → Type 0
 AreRising trees tables = AllByRecursion (λ table. IsShaped shape.Table (trees table.tree)) tables
 
--- in those of this version
+-- the row numbers rise in each table of this version
 abbrev pub AreShaped : Version → Trees → Type 0
 AreShaped version trees = AreRising trees (tables_of version)
 
--- the tables are of this version, and so is their number
+-- both the tables and their number are of this version
 abbrev pub HoldsTables : Version → Database → Type 0
 HoldsTables version db = (db.schema ≡ schema_of version) × HasNumber (number_of version) db.trees
 

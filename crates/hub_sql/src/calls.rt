@@ -1,4 +1,4 @@
-//! What the store answers: each look-up by one of the connection's, and each commit as one transaction.
+//! Implements the calls of the store: each look-up by one of the connection's, and each commit as one transaction.
 ghost use Rattle.std.specs.Prelude.{false};
 ghost use Rattle.std.proofs.Common.{inl, refl};
 ghost use Rattle.std.proofs.lemmas.Bool.{false≢true};

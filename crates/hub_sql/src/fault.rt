@@ -1,21 +1,21 @@
-//! Why a hub was not founded.
+//! Says why founding a hub failed.
 ghost use Rattle.std.specs.Prelude.{◌≡◌, ◌⊎◌};
 ghost use Rattle.hub_sql.specs.Founding.{laying_of};
 
 use hub_store::StoreFault;
 
-/// Why a hub was not founded.
+/// Why founding a hub failed.
 #[derive(Clone, Copy, Debug, PartialEq, Eq)]
 pub enum FoundFault {
-    /// The register does not fit to the rows that are there: the supplier of one is not registered, or a pallet's SSCC is
-    /// under none of its supplier's company prefixes.
+    /// The register does not fit the rows that are there: the supplier of a row is not registered, or a pallet's SSCC
+    /// is under none of its supplier's company prefixes.
     Rows,
-    /// The store did not answer. `Version` where the database has tables, and not those of schema 1.
+    /// A call of the store failed. `Version` means that the database has tables, but not those of schema 1.
     Store(StoreFault),
 }
 
-/// The fault of a founding, or of a number that was not set. It is never a row without the form of its kind, since those
-/// of a register have it.
+/// Returns the fault of a failed founding, or of a number that was not set. It is never `Unclean`, since the rows of a
+/// register have the form of their kind.
 pub(crate) fn laying_fault(fault: StoreFault) -> StoreFault
     ensures exact { result ≡ laying_of fault }
     ensures either { (result ≡ StoreFault.Memory) ⊎ (result ≡ StoreFault.Disk) }

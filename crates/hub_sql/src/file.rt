@@ -1,4 +1,4 @@
-//! Stores of files.
+//! Opens and founds hubs in files.
 ghost use Rattle.std.specs.Prelude.{◌≡◌, true, false, IfOk, IfErr};
 ghost use Rattle.sqlite_std_file.specs.File.{IsFresh};
 ghost use Rattle.sqlite_wal.specs.Files.{image_at};
@@ -19,21 +19,21 @@ use sqlite_disk::{Disk, Start};
 use sqlite_std_file::FileFrom;
 use sqlite_store::FileStore;
 
-/// A new file keeps a sum of each page, by which a byte that has changed is found as the file is opened.
+/// A new file keeps a checksum of each page, so that opening it finds a byte that has changed.
 const NEW_HAS_SUMS: bool = true;
 
-/// What is left where the hub of a file could not be opened.
+/// What is left after a hub in a file could not be opened.
 #[derive(Drop)]
 pub enum LeftOfFile<D: Disk + Drop> {
     /// No file was opened.
     Nothing,
-    /// The files, in which no database could be read. What they held is not lost.
+    /// The files, in which no database could be read. Nothing that they held is lost.
     Files(Leftover<D>),
-    /// A connection over the files, or what was below it, as `adopt` gives it back.
+    /// A connection over the files, or the storage that was below it, as `adopt` returns it.
     Returned(Returned<FileStore<D>>),
 }
 
-// The connection of a file, which is made where there is none.
+// Opens a connection to a file, which is made if it does not exist.
 fn open_file<S: Start>(
     rt: &HostRuntime,
     path: &str,
@@ -55,11 +55,12 @@ fn open_file<S: Start>(
 }
 
 impl<S: Start> SqliteStore<FileStore<FileFrom<S>>> {
-    /// Opens the hub in a file, with a log beside it; one of schema 2 becomes one of schema 3. `Disk` also where another
-    /// program has it open, or where it is no database; `Version` where it has no tables, others than a hub's or
-    /// another number of the schema, also where there was no file, which is made then, and empty; `Unclean` where its rows
-    /// hold no register, in a file that stays of its schema. No committed row is lost with a fault, and what is left comes
-    /// with it. `start` says what a crash may have done to the file.
+    /// Opens the hub in a file, with a log beside it, and raises schema 2 to schema 3. `start` says what a crash may
+    /// have done to the file. If opening fails, no committed row is lost, and what is left comes back with the fault:
+    ///
+    /// `Disk`: the disk failed, another program has the file open, or it is not a database. `Version`: it has no
+    /// tables, tables that are not a hub's, or another number of the schema; a file that did not exist is made, and is
+    /// empty. `Unclean`: its rows hold no register; the file keeps its schema.
     pub fn at_path(
         rt: &HostRuntime,
         path: &str,
@@ -77,10 +78,11 @@ impl<S: Start> SqliteStore<FileStore<FileFrom<S>>> {
         }
     }
 
-    /// Founds a hub in a file, which is made where there is none, as `found` does: in a file of schema 1 beside its rows.
-    /// `Rows` where the register does not fit to these; `Version` where it has other tables or another number of the
-    /// schema; `Disk` also where another program has it open, or where it is no database. No committed row is lost with a
-    /// fault, and what is left comes with it.
+    /// Founds a hub in a file, which is made if it does not exist, as `found` does; in a file of schema 1 beside its
+    /// rows. If founding fails, no committed row is lost, and what is left comes back with the fault:
+    ///
+    /// `Rows`: the register does not fit the rows of schema 1. `Version`: the file has other tables or another number
+    /// of the schema. `Disk`: the disk failed, another program has the file open, or it is not a database.
     pub fn found_at(
         rt: &HostRuntime,
         path: &str,

@@ -1,4 +1,4 @@
-//! Hubs that are founded.
+//! Founds hubs.
 ghost use Rattle.std.specs.Prelude.{◌≡◌, ◌⊎◌, false, None, IfOk, IfErr};
 ghost use Rattle.sqlite.specs.Held.{state};
 ghost use Rattle.sqlite.specs.State.{HasCleanDisk};
@@ -27,7 +27,7 @@ use sqlite::{Alter, Connection};
 use sqlite_trees::memory::MemStore;
 use std::alloc::Global;
 
-// A store with the rows of a register alone, in a database without tables.
+// Makes a store with the rows of a register alone, in a database without tables.
 fn laid<S: Alter + Drop>(
     alloc: Global,
     mut conn: Connection<S>,
@@ -41,9 +41,9 @@ fn laid<S: Alter + Drop>(
     ensures spared { IfErr result (λ e.
         SparesConnection S.Store ⊥ (MayBeBeside empty register.now) (state S.Store conn) e.0) }
 {
-    // The contract of this call says whether a transaction is open.
+    // This contract says whether a transaction is open.
     let _idle = conn.is_autocommit();
-    // The contract of this call says that the register is one.
+    // This contract says that the register is one.
     let _hub = register.hub();
     let Ok(changes) = register_changes(alloc, register) else {
         return Err((conn, StoreFault::Memory));
@@ -54,7 +54,7 @@ fn laid<S: Alter + Drop>(
     }
 }
 
-// A hub is founded in a database without tables.
+// Founds a hub in a database without tables.
 fn founded_bare<S: Alter + Drop>(
     alloc: Global,
     conn: Connection<S>,
@@ -74,11 +74,12 @@ fn founded_bare<S: Alter + Drop>(
 }
 
 impl<S: Alter + Drop> SqliteStore<S> {
-    /// Founds a hub in a connection in which no transaction is open and no statement is limited: its tables with the rows
-    /// of the register, in one transaction. In a database of schema 1 they stand beside the rows that are there, none of
-    /// which changes; `Rows` where the register does not fit to these. `Version` where it has other tables or another
-    /// number of the schema, and only there; the connection that comes back with it is as it was. With any fault no row is
-    /// lost that was committed.
+    /// Founds a hub in a connection in which no transaction is open and no statement is limited: makes its tables with
+    /// the rows of the register, in one transaction. In a database of schema 1 the existing rows stay as they are
+    /// beside them. With any fault no committed row is lost:
+    ///
+    /// `Rows`: the register does not fit the rows of schema 1. `Version`: the database has other tables or another
+    /// number of the schema, and the connection comes back as it was.
     pub fn found(
         alloc: Global,
         conn: Connection<S>,
@@ -97,7 +98,7 @@ impl<S: Alter + Drop> SqliteStore<S> {
         }
     }
 
-    /// The same of a connection that was opened this moment, in whose tables the row numbers rise.
+    /// Like `found`, for a connection that was just opened, in whose tables the row numbers rise.
     pub(crate) fn found_opened(
         alloc: Global,
         conn: Connection<S>,
@@ -120,7 +121,8 @@ impl<S: Alter + Drop> SqliteStore<S> {
 }
 
 impl SqliteStore<MemStore> {
-    /// A store in memory, with the rows of the register alone; or `Memory`, or `Disk`, for which memory has no cause.
+    /// Makes a store in memory, with the rows of the register alone. Fails with `Memory`, or with `Disk`, for which
+    /// memory has no cause.
     pub fn in_memory(
         alloc: Global,
         register: &Register,

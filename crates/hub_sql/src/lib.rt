@@ -1,4 +1,4 @@
-//! The tables of a hub in a database of SQL, in memory or in a file.
+//! Keeps a hub in the tables of an SQL database, in memory or in a file.
 #![tactic(auto)]
 
 mod calls;

@@ -19,7 +19,7 @@ use std::collections::BTreeMap;
 /// The marks of suppliers: the entries of each are taken up to its mark.
 pub(crate) type TakenMarks = BTreeMap<Gln, u64>;
 
-// A register has no more suppliers.
+// The greatest number of suppliers in a register, so enough marks for all.
 const MOST_MARKS: usize = 1_000;
 
 // Returns the mark of a supplier, 0 if none is kept.
@@ -66,7 +66,7 @@ fn keep_mark(marks: &mut TakenMarks, supplier: &Gln, mark: u64) -> Result<(), Me
     set_mark(marks, supplier, mark)
 }
 
-// Returns up to which number a list from `mark` on shows that all entries are taken.
+// Returns the number up to which all entries are taken, as a list from `mark` shows it.
 fn shown_mark(heads: &[MailHead], limit: usize, mark: u64) -> u64
     ensures { result ≡ spec.shown_mark heads.now limit mark }
 {
@@ -77,7 +77,8 @@ fn shown_mark(heads: &[MailHead], limit: usize, mark: u64) -> u64
     }
 }
 
-/// Returns where a list above a number begins: at the supplier's mark if that is higher, since all before is taken.
+/// Returns where a list above a number begins: at the supplier's mark if that is higher, because every entry before it
+/// is taken.
 pub(crate) fn list_start(marks: &TakenMarks, supplier: &Gln, number: u64) -> u64
     ensures { result ≡ spec.list_start marks.now supplier.now number }
 {
@@ -85,8 +86,8 @@ pub(crate) fn list_start(marks: &TakenMarks, supplier: &Gln, number: u64) -> u64
     if number <= mark { mark } else { number }
 }
 
-/// Raises the mark of a supplier to what a list shows, if the list was asked for from the mark or from before it. If memory
-/// is refused, none is kept.
+/// Raises the mark of a supplier to what a list shows, if the list was asked for from the mark or from before it. If
+/// there is no memory for it, no mark is kept.
 pub(crate) fn note_shown(
     marks: &mut TakenMarks,
     supplier: &Gln,

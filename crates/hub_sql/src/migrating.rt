@@ -1,4 +1,4 @@
-//! Stores in databases of schema 1.
+//! Founds hubs in databases of schema 1.
 ghost use Rattle.std.specs.Prelude.{◌≡◌, ◌≢◌, ◌⊎◌, true, false, None, IfOk, IfErr};
 ghost use Rattle.sqlite.specs.Held.{state};
 ghost use Rattle.sqlite.specs.State.{HasCleanDisk};
@@ -28,7 +28,7 @@ use hub_writes::migrate;
 use sqlite::{Alter, Connection};
 use std::alloc::Global;
 
-// The connection, where it still lists the tables of schema 1 and the register fits to their rows.
+// Returns the connection if it still lists the tables of schema 1 and the register fits their rows.
 fn fitting<S: Alter + Drop>(
     mut conn: Connection<S>,
     register: &Register,
@@ -59,14 +59,14 @@ fn fitting<S: Alter + Drop>(
     ensures fails { IfErr result (λ e. IsOfFounding e.1) }
     ensures spared { IfErr result (λ e. SparesConnection S.Store ⊥ Never (state S.Store conn) e.0) }
 {
-    // The contract of this call says whether a transaction is open.
+    // This contract says whether a transaction is open.
     let _was_idle = conn.is_autocommit();
     if !is_old_schema(conn.schema()) {
         return Err((conn, FoundFault::Store(StoreFault::Disk)));
     }
     match fits(&mut conn, register) {
         Ok(true) => {
-            // The contract of this call says whether a transaction is open.
+            // This contract says whether a transaction is open.
             let _idle = conn.is_autocommit();
             Ok(conn)
         }
@@ -75,7 +75,7 @@ fn fitting<S: Alter + Drop>(
     }
 }
 
-// A store with the rows of the register beside those of schema 1, to which it fits.
+// Makes a store with the rows of the register beside those of schema 1, which it fits.
 fn laid_beside<S: Alter + Drop>(
     alloc: Global,
     mut conn: Connection<S>,
@@ -92,9 +92,9 @@ fn laid_beside<S: Alter + Drop>(
     ensures spared { IfErr result (λ e. SparesConnection S.Store ⊥
         (MayBeBeside (traffic_in (state S.Store conn).now.trees) register.now) (state S.Store conn) e.0) }
 {
-    // The contract of this call says whether a transaction is open.
+    // This contract says whether a transaction is open.
     let _idle = conn.is_autocommit();
-    // The contract of this call says that the register is one.
+    // This contract says that the register is one.
     let _hub = register.hub();
     let Ok(changes) = register_changes(alloc, register) else {
         return Err((conn, FoundFault::Store(StoreFault::Memory)));
@@ -105,7 +105,7 @@ fn laid_beside<S: Alter + Drop>(
     }
 }
 
-// The same of a connection that still lists the tables of schema 1, where the register fits.
+// Like `laid_beside`, for a connection that still lists the tables of schema 1, if the register fits.
 fn beside<S: Alter + Drop>(
     alloc: Global,
     conn: Connection<S>,
@@ -140,7 +140,7 @@ fn beside<S: Alter + Drop>(
     }
 }
 
-/// Founds a hub in a database that has tables: where they are those of schema 1 and the register fits to their rows.
+/// Founds a hub in a database that has tables, if they are those of schema 1 and the register fits their rows.
 pub(crate) fn migrated<S: Alter + Drop>(
     alloc: Global,
     conn: Connection<S>,
@@ -168,7 +168,7 @@ pub(crate) fn migrated<S: Alter + Drop>(
     }
 }
 
-/// The same of a connection that was opened this moment, in whose tables the row numbers rise.
+/// Like `migrated`, for a connection that was just opened, in whose tables the row numbers rise.
 pub(crate) fn migrated_opened<S: Alter + Drop>(
     alloc: Global,
     conn: Connection<S>,

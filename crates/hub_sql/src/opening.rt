@@ -1,4 +1,4 @@
-//! Hubs that are opened: connections that may hold tables.
+//! Opens hubs in connections that may hold tables.
 ghost use Rattle.std.specs.Prelude.{◌≡◌, ◌≢◌, ◌⊎◌, false, None, IfOk, IfErr, IsTrue};
 ghost use Rattle.sqlite.specs.Held.{state};
 ghost use Rattle.sqlite.specs.State.{HasCleanDisk};
@@ -24,7 +24,7 @@ use hub_writes::renumber;
 use sqlite::{Alter, Connection};
 use std::alloc::Global;
 
-// The fault of a look-up: it has none of opening.
+// Returns the fault of a look-up; the faults of opening are not among them.
 fn look_fault(fault: StoreFault) -> StoreFault
     ensures not_version { result ≢ StoreFault.Version }
     ensures unclean { result ≡ StoreFault.Unclean → fault ≡ StoreFault.Unclean }
@@ -36,7 +36,7 @@ fn look_fault(fault: StoreFault) -> StoreFault
     }
 }
 
-// The connection and the register of its rows, where it still lists all tables and these hold one.
+// Returns the connection and the register of its rows, if it still lists all tables and these hold one.
 fn with_register<S: Alter + Drop>(
     alloc: Global,
     mut conn: Connection<S>,
@@ -63,14 +63,14 @@ fn with_register<S: Alter + Drop>(
         HasCleanDisk (state S.Store e.0) → HoldsNone (tables_in (state S.Store conn).now.trees)) }
     ensures spared { IfErr result (λ e. SparesConnection S.Store ⊥ Never (state S.Store conn) e.0) }
 {
-    // The contract of this call says whether a transaction is open.
+    // This contract says whether a transaction is open.
     let _was_idle = conn.is_autocommit();
     if !is_hub_schema(conn.schema()) {
         return Err((conn, StoreFault::Disk));
     }
     match register(&mut conn, alloc) {
         Ok(Some(register)) => {
-            // The contract of this call says whether a transaction is open.
+            // This contract says whether a transaction is open.
             let _idle = conn.is_autocommit();
             Ok((conn, register))
         }
@@ -79,7 +79,7 @@ fn with_register<S: Alter + Drop>(
     }
 }
 
-// The store of a connection that has the tables of schema 2, once their number is set.
+// Makes a store of a connection with the tables of schema 2, after setting their number.
 fn renumbered<S: Alter + Drop>(
     alloc: Global,
     mut conn: Connection<S>,
@@ -96,7 +96,7 @@ fn renumbered<S: Alter + Drop>(
     ensures spared { IfErr result (λ e. SparesConnection S.Store ⊥
         (MayBeRenumbered Version.Second (tables_in (state S.Store conn).now.trees)) (state S.Store conn) e.0) }
 {
-    // The contract of this call says whether a transaction is open.
+    // This contract says whether a transaction is open.
     let _was_idle = conn.is_autocommit();
     match renumber(&mut conn) {
         Ok(()) => Ok(SqliteStore::settled(alloc, conn, Some(register))),
@@ -104,7 +104,7 @@ fn renumbered<S: Alter + Drop>(
     }
 }
 
-// The store of a connection that has the tables of schema 2 or 3.
+// Makes a store of a connection with the tables of schema 2 or 3.
 fn raised<S: Alter + Drop>(
     alloc: Global,
     conn: Connection<S>,
@@ -125,7 +125,7 @@ fn raised<S: Alter + Drop>(
     ensures spared { IfErr result (λ e. SparesConnection S.Store ⊥
         (MayBeRenumbered version (tables_in (state S.Store conn).now.trees)) (state S.Store conn) e.0) }
 {
-    // The contract of this call says whether a transaction is open.
+    // This contract says whether a transaction is open.
     let _idle = conn.is_autocommit();
     match version {
         Version::Second => renumbered(alloc, conn, register),
@@ -133,7 +133,7 @@ fn raised<S: Alter + Drop>(
     }
 }
 
-// The store of a connection, where its rows hold a register.
+// Makes a store of a connection if its rows hold a register.
 fn taken<S: Alter + Drop>(
     alloc: Global,
     conn: Connection<S>,
@@ -164,11 +164,12 @@ fn taken<S: Alter + Drop>(
 }
 
 impl<S: Alter + Drop> SqliteStore<S> {
-    /// Takes over a connection in which no transaction is open and no statement is limited, with the hub that is in it.
-    /// Schema 2 becomes schema 3: its number is set, and no other row changes. `Version` where it has no tables, others
-    /// than a hub's or another number of the schema, and only there; the connection that comes back with it is as it was.
-    /// `Unclean` where its rows hold no register, which then stay as they are, with their number; a row of another kind
-    /// without its form shows when it is looked up. With any fault no row is lost that was committed.
+    /// Opens the hub in a connection in which no transaction is open and no statement is limited. Schema 2 becomes
+    /// schema 3: its number is set, and no other row changes. With any fault no committed row is lost:
+    ///
+    /// `Version`: the connection has no tables, tables that are not a hub's, or another number of the schema; it comes
+    /// back as it was. `Unclean`: its rows hold no register; they stay as they are, with their number. A malformed row
+    /// of another kind is found when it is looked up.
     pub fn adopt(
         alloc: Global,
         conn: Connection<S>,
@@ -192,8 +193,8 @@ impl<S: Alter + Drop> SqliteStore<S> {
         }
     }
 
-    /// The same of a connection that was opened this moment, in whose tables the row numbers rise: what is below it is not
-    /// asked, and the file not read again.
+    /// Like `adopt`, for a connection that was just opened, in whose tables the row numbers rise: its storage is not
+    /// checked, and the file is not read again.
     pub(crate) fn adopt_opened(
         alloc: Global,
         conn: Connection<S>,
@@ -215,8 +216,8 @@ impl<S: Alter + Drop> SqliteStore<S> {
         }
     }
 
-    /// Gives the connection back. Where it is not shut it has the hub's tables with the rows of the content, also after
-    /// a fault for good.
+    /// Gives the connection back. Unless it is shut, it has the hub's tables with the rows of the content, even after a
+    /// lasting fault.
     pub fn into_connection(self) -> Connection<S>
         ensures held { result ≡ self.held }
         ensures idle { result.in_transaction ≡ false }

@@ -1,4 +1,4 @@
-//! The register of rows that hold one.
+//! Reads the register that the rows hold.
 ghost use Rattle.std.specs.Prelude.{Some};
 ghost use Rattle.sqlite.specs.Held.{state};
 ghost use Rattle.hub_founding.specs.Founding.{HoldsNone, IsHeldBy};
@@ -9,7 +9,7 @@ use hub_store::StoreFault;
 use sqlite::{Alter, Connection};
 use std::alloc::Global;
 
-/// The register of rows that hold one. Where they hold none any more, what is below has not returned what was written.
+/// Returns the register that the rows hold. If they hold none any more, the storage has not returned what was written.
 pub(crate) fn held_register<S: Alter>(
     conn: &mut Connection<S>,
     alloc: Global,

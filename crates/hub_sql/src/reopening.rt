@@ -1,4 +1,4 @@
-//! Connections whose tables are of one version, and the same opened again.
+//! Checks that the tables of a connection are of one version, and opens it again.
 ghost use Rattle.std.specs.Prelude.{◌≡◌, ◌≢◌, ◌⊎◌, false, IfOk, IfErr};
 ghost use Rattle.sqlite.specs.Held.{state, IsNew};
 ghost use Rattle.sqlite.specs.State.{HasCleanDisk};
@@ -16,7 +16,7 @@ use hub_store::StoreFault;
 use sqlite::{Alter, Connection};
 use std::alloc::Global;
 
-/// The connection, where its tables are of this version, and their number too.
+/// Returns the connection if both its tables and their number are of this version.
 pub(crate) fn of_version<S: Alter + Drop>(
     mut conn: Connection<S>,
     version: Version,
@@ -47,14 +47,14 @@ pub(crate) fn of_version<S: Alter + Drop>(
     ensures unclean { IfErr result (λ e. e.1 ≢ StoreFault.Unclean) }
     ensures spared { IfErr result (λ e. SparesConnection S.Store ⊥ Never (state S.Store conn) e.0) }
 {
-    // The contract of this call says whether a transaction is open.
+    // This contract says whether a transaction is open.
     let _was_idle = conn.is_autocommit();
     if !version.is_of(conn.schema()) {
         return Err((conn, StoreFault::Version));
     }
     match is_numbered(&mut conn, version.number()) {
         Ok(true) => {
-            // The contract of this call says whether a transaction is open.
+            // This contract says whether a transaction is open.
             let _idle = conn.is_autocommit();
             Ok(conn)
         }
@@ -63,7 +63,7 @@ pub(crate) fn of_version<S: Alter + Drop>(
     }
 }
 
-/// The connection and the version of its tables, where they are those of schema 3 or 2.
+/// Returns the connection and the version of its tables, if that is schema 3 or 2.
 pub(crate) fn of_hub<S: Alter + Drop>(
     conn: Connection<S>,
 ) -> Result<(Connection<S>, Version), (Connection<S>, StoreFault)>
@@ -92,7 +92,7 @@ pub(crate) fn of_hub<S: Alter + Drop>(
     ensures unclean { IfErr result (λ e. e.1 ≢ StoreFault.Unclean) }
     ensures spared { IfErr result (λ e. SparesConnection S.Store ⊥ Never (state S.Store conn) e.0) }
 {
-    // The contract of this call says whether a transaction is open.
+    // This contract says whether a transaction is open.
     let _was_idle = conn.is_autocommit();
     if !is_hub_schema(conn.schema()) {
         return Err((conn, StoreFault::Version));
@@ -107,7 +107,7 @@ pub(crate) fn of_hub<S: Alter + Drop>(
     }
 }
 
-/// The connection again, once what is below it has told that it is whole, and that the tables of this version stand there.
+/// Opens the connection again, if its storage reports that it is not broken and that it has the tables of this version.
 pub(crate) fn reopened<S: Alter + Drop>(
     alloc: Global,
     conn: Connection<S>,

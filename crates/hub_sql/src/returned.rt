@@ -1,11 +1,11 @@
-//! What comes back where a store was not opened or founded.
+//! Defines what comes back after a failed opening or founding.
 use sqlite::{Alter, Connection};
 
-/// A connection that is given back with a fault; or what was below it, where the fault came while it was opened anew.
+/// A connection that comes back with a fault, or the storage below it if opening it again failed.
 #[derive(Drop)]
 pub enum Returned<S: Alter> {
     /// The connection. With `Version` it is as it was.
     Connection(Connection<S>),
-    /// What was below it. `Connection::over` opens it again.
+    /// The storage that was below it. `Connection::over` opens it again.
     Store(S),
 }

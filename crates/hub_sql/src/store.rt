@@ -1,4 +1,4 @@
-//! A store over a connection of SQL.
+//! Defines a store over an SQL connection.
 ghost use Rattle.std.specs.Prelude.{◌≡◌, ◌∷◌, [], true, false, None};
 ghost use Rattle.std.specs.Option.{IfSome};
 ghost use Rattle.sqlite.specs.Held.{state};
@@ -20,17 +20,17 @@ use std::alloc::Global;
 use std::collections::BTreeMap;
 use std::marker::Model;
 
-/// The tables of a hub in a database of SQL.
+/// A store that keeps a hub's rows in an SQL database.
 #[derive(Drop)]
 pub struct SqliteStore<S: Alter> {
     pub(crate) conn: Connection<S>,
     pub(crate) alloc: Global,
     pub(crate) fault: Option<LastingFault>,
-    // The register of the rows, from when they were taken over until it is asked for or they change.
+    // The register of the rows, until someone asks for it or the rows change.
     pub(crate) register: Option<Register>,
-    // Up to which number all entries of a mailbox are taken, for suppliers that asked for a list.
+    // The marks of suppliers that asked for a list: all entries up to a mark are taken.
     pub(crate) marks: TakenMarks,
-    // Takes no memory: what the connection was when it was opened, and after each commit, which only clauses read.
+    // The connection as it was after opening and after each commit. Only contracts read it; it takes no memory.
     pub(crate) past: Log<Connection<S>, bool>,
 }
 
@@ -47,7 +47,7 @@ impl<S: Alter> Model for SqliteStore<S> {
         (record { held = s.conn; fault = s.fault; past = s.past.items }) };
 }
 
-/// The fault for good, as each call answers it.
+/// Returns the lasting fault as each call reports it.
 pub(crate) fn again(lasting: LastingFault) -> StoreFault
     ensures { result ≡ fault_of lasting }
 {
@@ -57,8 +57,8 @@ pub(crate) fn again(lasting: LastingFault) -> StoreFault
     }
 }
 
-/// What a call on the connection found, and the fault for good where it left one. Out of memory leaves none, where the
-/// connection still has the hub's tables.
+/// Returns what a call on the connection found, and the lasting fault if the call caused one. `Memory` causes none
+/// while the connection has the hub's tables.
 pub(crate) fn settle<X>(
     found: Result<X, StoreFault>,
     schema: &Schema,
@@ -82,7 +82,7 @@ pub(crate) fn settle<X>(
 }
 
 impl<S: Alter> SqliteStore<S> {
-    // The store of a connection that holds the hub's tables, with the register of its rows where that is known.
+    // Makes the store of a connection that holds the hub's tables, with the register of its rows if that is known.
     pub(crate) fn settled(
         alloc: Global,
         conn: Connection<S>,

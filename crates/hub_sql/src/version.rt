@@ -1,4 +1,4 @@
-//! The versions of the tables.
+//! Defines the versions of the tables.
 ghost use Rattle.std.specs.Prelude.{◌≡◌, ◌↔◌, IsTrue};
 ghost use Rattle.hub_schema.specs.State.{AreTables};
 ghost use Rattle.hub_sql.specs.Version.{schema_of, number_of, tables_of};
@@ -10,16 +10,16 @@ use sqlite_schema::schema::Schema;
 /// A version of the tables.
 #[derive(Clone, Copy, Debug, PartialEq, Eq)]
 pub(crate) enum Version {
-    /// Schema 1, in which no register stands.
+    /// Schema 1, which has no register.
     First,
-    /// Schema 2, in which no receipt stands in the place of another.
+    /// Schema 2, in which no receipt replaces another.
     Second,
     /// Schema 3.
     Third,
 }
 
 impl Version {
-    /// The number in the table `schema`.
+    /// Returns the number in the table `schema`.
     pub(crate) fn number(self) -> u32
         ensures { result ≡ number_of self }
     {
@@ -40,7 +40,7 @@ impl Version {
         }
     }
 
-    /// Whether each table of this version stands there.
+    /// Whether each table of this version exists.
     pub(crate) fn has_tables<S: Alter>(self, store: &S) -> bool
         ensures { IsTrue result ↔ AreTables (S.Store.view store.now).shape (tables_of self) }
     {

@@ -1,4 +1,4 @@
--- Rows of each kind within their limits and just past them, and cells that no row of the code has.
+-- Tries rows of each kind at their limits and just past them, and cells that no row of the code has.
 use Rattle.std.proofs.Common.{◌≡◌, ℕ, true, false, List, [], ◌∷◌, ◌++◌, codes, refl}
 use Rattle.std.specs.List.{list_all, list_any}
 use Rattle.gs1_ids.specs.Digits.{is_key}
@@ -24,7 +24,7 @@ use Rattle.hub_store.specs.Clean.{clean_hub, clean_key, clean_prefix}
 use Rattle.hub_store.specs.Clean.{clean_order, clean_line, clean_advice, clean_pallet, clean_content, clean_receipt}
 use Rattle.hub_store.specs.Clean.{clean_remembered, clean_mail, are_clean}
 
--- Keys that are right, and keys whose check digit is not.
+-- keys with the right check digit, and keys with a wrong one
 
 right_gln : is_gln (codes "4012345500004") ≡ true
 right_gln = refl
@@ -57,7 +57,7 @@ bytes_35 = codes "12345678901234567890123456789012345"
 abbrev bytes_36 : List ℕ
 bytes_36 = codes "123456789012345678901234567890123456"
 
--- how cells are shown that hold no text and no number
+-- cells that hold neither a text nor a number
 abbrev no_text : List ℕ
 no_text = 256 ∷ []
 
@@ -67,7 +67,7 @@ no_number = 18_446_744_073_709_551_616
 text_as_a_key : is_gln no_text ≡ false
 text_as_a_key = refl
 
--- Rows with such keys, whichever they are.
+-- Rows with such keys, whichever the keys are.
 
 module _ (gln no_gln item no_item sscc no_sscc : List ℕ)
     (right_g : is_gln gln ≡ true) (wrong_g : is_gln no_gln ≡ false) (right_i : is_key 14 item ≡ true)
@@ -284,7 +284,7 @@ module _ (gln no_gln item no_item sscc no_sscc : List ℕ)
   tables_clean : list_all are_clean (empty ∷ tables ∷ []) ≡ true
   tables_clean = simp (right_g, right_i, right_s) refl
 
-  -- one row behind a clean one is not, of each kind in turn
+  -- a malformed row after a clean one is found, in each kind
   tables_not_clean :
       list_any are_clean (
       record tables { hubs = hub ∷ record hub { key = [] } ∷ [] }

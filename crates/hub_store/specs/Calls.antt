@@ -1,6 +1,6 @@
--- What calls of a store do. A store is seen by five functions of its value: its content; whether what is below it has
--- been honest, that is has returned what was written; what a crash now may leave; the fault for which it is broken,
--- if any; and whether it is plain, with nothing below it.
+-- Defines what the calls of a store do. Five functions describe a store: its content; whether the storage below it has
+-- been honest, that is, has returned what was written; what a crash now may leave; the fault for which it is broken, if
+-- any; and whether it is plain, with nothing below it.
 use Rattle.std.specs.Prelude.{◌≡◌, ◌≢◌, ◌⊎◌, ◌&&◌, Bool, true, false, IsTrue, List, [], ◌∷◌, Option, None, Some}
 use Rattle.std.specs.Prelude.{Result, Ok, Err, IfOk}
 use Rattle.std.specs.Prelude.{IfErr, OnOk, OnErr}
@@ -20,12 +20,12 @@ use Rattle.hub_store.specs.declared.fault.LastingFault.TheVariants as lasting
 use Rattle.hub_store.specs.declared.fault.StoreFault.{StoreFault}
 use Rattle.hub_store.specs.declared.fault.StoreFault.TheVariants.{Memory, Disk, Unclean, Version}
 
--- what a broken store answers
+-- the fault that a broken store returns
 abbrev pub fault_of : LastingFault → StoreFault
 fault_of lasting.Disk = Disk
 fault_of lasting.Unclean = Unclean
 
--- the fault for which a store is broken, after it answered one
+-- the fault for which a store is broken after it returned this one
 abbrev pub broken_by : Option LastingFault → StoreFault → Option LastingFault
 broken_by before Memory = before
 broken_by before Disk = Some lasting.Disk
@@ -36,8 +36,8 @@ abbrev pub broken_after : {X : Type 0} → Option LastingFault → Result X Stor
 broken_after before (Ok x) = before
 broken_after before (Err fault) = broken_by before fault
 
--- how a call fails: a broken store answers its fault again; out of memory breaks none; `Version` is a fault of
--- opening; and a plain store has no other fault than out of memory
+-- How a call fails: a broken store returns its fault again; `Memory` breaks no store; `Version` is reported by opening
+-- alone; and a plain store has no other fault than `Memory`.
 pub record Fails {X : Type 0} (plain : Bool) (old new : Option LastingFault) (result : Result X StoreFault)
     : Type 0 where
   pub again : IfSome old (λ fault. result ≡ Err (fault_of fault))
@@ -45,8 +45,8 @@ pub record Fails {X : Type 0} (plain : Bool) (old new : Option LastingFault) (re
   pub not_version : IfErr result (λ fault. fault ≢ Version)
   pub only_memory : IsTrue plain → IfErr result (λ fault. fault ≡ Memory)
 
--- a look-up: what it answers, that the content stays, and that a crash may leave no more than before. A store that is
--- not broken answers `Unclean` only where some row does not have the form of its kind.
+-- A look-up: what it returns, that the content stays, and that a crash may leave no more than before. A store that is
+-- not broken returns `Unclean` only if some row does not have the form of its kind.
 pub record Looks {S X : Type 0} (content : S → Tables) (honest : S → Type 0) (left : S → Tables → Type 0)
     (broken : S → Option LastingFault) (old new : S) (answer : X) (result : Result X StoreFault) : Type 0 where
   pub answers : honest new → IfOk result (λ x. x ≡ answer)
@@ -55,9 +55,9 @@ pub record Looks {S X : Type 0} (content : S → Tables) (honest : S → Type 0)
   pub was_honest : honest new → honest old
   pub unclean : honest new → broken old ≡ None → result ≡ Err Unclean → are_clean (content old) ≡ false
 
--- The register is asked for, whatever rows there are: where one is answered the rows hold one, and it is theirs. The
--- content stays, and a crash may leave no more than before. A broken store answers its fault again. It fails as in each
--- call, but that after `Unclean` it may be whole.
+-- A read of the register, whatever rows there are: if one is returned, the rows hold one, and it is theirs. The content
+-- stays, and a crash may leave no more than before. A broken store returns its fault again. It fails like any call,
+-- except that the store may be unbroken after `Unclean`.
 pub record ReadsRegister {S : Type 0} (content : S → Tables) (honest : S → Type 0) (left : S → Tables → Type 0)
     (broken : S → Option LastingFault) (plain : Bool) (old new : S) (result : Result RegisterRows StoreFault)
     : Type 0 where
@@ -68,7 +68,7 @@ pub record ReadsRegister {S : Type 0} (content : S → Tables) (honest : S → T
   pub again : IfSome (broken old) (λ fault. result ≡ Err (fault_of fault))
   pub fails : result ≢ Err Unclean → Fails plain (broken old) (broken new) result
 
--- a row that is set has one in its place
+-- a row that is set replaces an existing one
 abbrev pub has_place : Change → Tables → Bool
 has_place (SetHub row) t = list_any (same_hub row) t.hubs
 has_place (SetKey row) t = list_any (same_key row) t.keys
@@ -77,16 +77,16 @@ has_place (SetPallet row) t = list_any (same_pallet row) t.pallets
 has_place (SetMail row) t = list_any (same_mail row) t.mail
 has_place change t = true
 
--- each at its turn
+-- each does, when its turn comes
 abbrev pub have_places : List Change → Tables → Bool
 have_places [] t = true
 have_places (change ∷ changes) t = has_place change t && have_places changes (apply change t)
 
--- a commit: changes that fit are all made at Ok, and at a fault none is made, whether they fit or not. After Ok a
--- crash leaves the content alone; after a fault it leaves what it did before or, where the changes fit, the content
--- with all of them. A store that is not broken answers `Unclean` only where some row does not have the form of its
--- kind, before the changes or after them, or where they do not fit or set a row that has none in its place. What counts
--- is the outcome of all changes: a row that a later change sets right is no cause.
+-- A commit: at Ok all changes are made if they fit, and after a fault none is, whether they fit or not. After Ok a
+-- crash leaves the new content; after a fault it leaves what it did before or, if the changes fit, the content with all
+-- of them. A store that is not broken returns `Unclean` only if some row does not have the form of its kind, before the
+-- changes or after them, or if they do not fit or set a row that does not exist. The outcome of all changes counts: a
+-- row that a later change puts right is no cause.
 pub record Commits {S X : Type 0} (content : S → Tables) (honest : S → Type 0) (left : S → Tables → Type 0)
     (broken : S → Option LastingFault) (old new : S) (changes : List Change)
     (result : Result X StoreFault) : Type 0 where

@@ -1,5 +1,5 @@
--- Rows of the kinds that a hub keeps: identifiers are right, texts and numbers are within their limits, and a column
--- of cases has the number of one.
+-- Defines the form of each row that a hub keeps: identifiers are right, texts and numbers are within their limits, and
+-- the number in a column of cases is the number of one.
 use Rattle.std.specs.Prelude.{ℕ, ◌+◌, ◌==◌, nat_lt, nat_le, Bool, ◌&&◌, List, length}
 use Rattle.std.specs.Prelude.{if◌then◌else◌}
 use Rattle.std.specs.List.{list_all, list_any}
@@ -34,7 +34,7 @@ use Rattle.hub_store.specs.declared.mail.MailHead.{MailHead}
 abbrev pub is_within : ℕ → ℕ → ℕ → Bool
 is_within low high n = nat_le low n && nat_le n high
 
--- any bytes
+-- each is a byte
 abbrev pub are_bytes : List ℕ → Bool
 are_bytes = list_all (λ byte. nat_lt byte 256)
 
@@ -120,7 +120,7 @@ clean_mail row =
 abbrev pub clean_head : MailHead → Bool
 clean_head head = is_within 1 last_number head.number && (is_kind head.kind && is_number head.document)
 
--- each row is of its kind
+-- each row has the form of its kind
 abbrev pub are_clean : Tables → Bool
 are_clean t =
     list_all clean_hub t.hubs && (list_all clean_key t.keys && (list_all clean_prefix t.prefixes

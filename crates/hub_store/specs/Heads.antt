@@ -1,4 +1,4 @@
--- What a list shows of mailbox entries.
+-- Defines what a list shows of mailbox entries.
 use Rattle.hub_tables.specs.declared.rows.MailRow.{MailRow}
 use Rattle.hub_store.specs.declared.mail.MailHead.{MailHead}
 

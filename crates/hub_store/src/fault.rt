@@ -1,19 +1,19 @@
-//! Why a store did not answer.
+//! Says why a call of a store failed.
 ghost use Rattle.std.specs.Prelude.{◌≡◌};
 ghost use Rattle.hub_store.specs.declared.fault.StoreFault.TheVariants.{Memory};
 
 use edi_base::MemoryFault;
 
-/// Why a store did not answer. After `Disk` and `Unclean` it answers the same until it is opened anew.
+/// Why a call of a store failed. After `Disk` and `Unclean` the store returns the same fault until it is opened again.
 #[derive(Clone, Copy, Debug, PartialEq, Eq)]
 pub enum StoreFault {
-    /// Out of memory. The store stays as it is, and the same call may succeed later.
+    /// Memory ran out. The store stays as it is, and the same call may succeed later.
     Memory,
-    /// A call of the store below failed for another cause.
+    /// A call of the store below failed for another reason.
     Disk,
-    /// A stored row does not have the form of its kind, or changes would make such a row, or do not fit to the rows.
+    /// A stored row does not have the form of its kind; or the changes would make such a row, or do not fit the rows.
     Unclean,
-    /// The stored tables are of an unknown version. Answered by opening alone.
+    /// The stored tables are of an unknown version. Only opening reports it.
     Version,
 }
 
@@ -25,7 +25,7 @@ impl From<MemoryFault> for StoreFault {
     }
 }
 
-/// A fault that each call answers until the store is opened anew.
+/// A fault that each call returns until the store is opened again.
 #[derive(Clone, Copy, Debug, PartialEq, Eq)]
 pub enum LastingFault {
     /// `StoreFault::Disk`.

@@ -1,5 +1,4 @@
-//! What every store of a hub answers: the trait of stores, what a list shows of a mailbox, and why a store did not
-//! answer.
+//! Defines the interface of a hub's store: the trait, what a list shows of a mailbox, and why a call can fail.
 #![tactic(auto)]
 
 mod fault;

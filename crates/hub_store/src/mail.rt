@@ -1,8 +1,8 @@
-//! What a list shows of a mailbox.
+//! Defines what a list shows of a mailbox.
 use edi_base::Items;
 use hub_tables::{Column, MailKind};
 
-/// Of a mailbox entry, what a list shows.
+/// What a list shows of one mailbox entry.
 #[derive(Debug, Drop)]
 pub struct MailHead {
     /// The entry's number in the mailbox, from 1.

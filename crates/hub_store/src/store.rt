@@ -1,4 +1,4 @@
-//! What every store answers.
+//! Defines the trait that every store of a hub implements.
 ghost use Rattle.std.specs.Prelude.{◌≡◌, ◌≢◌, ◌≤◌, IsTrue, IsOk, IfOk, Bool, [], length, map, take, Option};
 ghost use Rattle.hub_tables.specs.Register.{HoldsRegister, register_of};
 ghost use Rattle.hub_tables.specs.State.{knows_order, knows_advice, lines_of, pallet_of, contents_of, receipts_of, entry_at, untaken_after};
@@ -17,39 +17,39 @@ use hub_register::Register;
 use hub_tables::{Change, ContentRow, LineRow, MailRow, PalletRow, ReceiptRow, Side};
 use std::collections::BTreeSet;
 
-/// Where the rows of a hub are kept. Most look-ups are for one supplier: each answers from the rows that this supplier
-/// sees. Those that name a pallet alone answer whosever it is. All answer in the order of the content. Where tables are
-/// sound that is the order of keys, as the calls have it.
+/// Keeps the rows of a hub. Most look-ups are for one supplier and see only the rows of that supplier. Those that name
+/// a pallet alone find it whoever's it is. All return rows in the order of the content; if the tables are sound, that
+/// is the order of keys that each call names.
 ///
 /// Numbers of documents and references are their bytes, as messages write them without release characters. Numbers of
 /// mailbox entries count from 1.
 ///
-/// Faults: a look-up or commit can answer `Memory`, and the content stays. `Disk` comes of a store below alone.
-/// `Unclean` comes where a row does not have the form of its kind, and of a commit also where its changes would make
-/// such a row or do not fit. After `Disk` and `Unclean` each look-up and commit answers that fault. None answers `Version`.
+/// Faults: a look-up or commit can return `Memory`, and the content stays. `Disk` is a fault of the storage below.
+/// `Unclean` means that a row does not have the form of its kind; from a commit also that its changes would make such a
+/// row or do not fit. After `Disk` and `Unclean` each look-up and commit returns that fault. None returns `Version`.
 pub trait Store {
     /// The rows.
     ghost content: { Self → Tables };
 
-    /// That what is below has returned what was written, so far.
+    /// Whether the storage below has returned what was written, so far.
     ghost honest: { Self → Type 0 };
 
     /// What a crash now may leave.
     ghost left: { Self → Tables → Type 0 };
 
-    /// The fault that each call answers from now on.
+    /// The fault that each call returns from now on.
     ghost broken: { Self → Option Lasting };
 
-    /// Whether it is plain: in memory, with no store below it.
+    /// Whether the store is plain: in memory, with no storage below it.
     ghost plain: { Bool };
 
-    /// The fault that each call answers from now on, if there is one.
+    /// Returns the fault that each call returns from now on, if there is one.
     fn fault(&self) -> Option<LastingFault>
         ensures { result ≡ broken self.now };
 
-    /// The register that the rows hold. Whether they hold one is checked where a store is founded or opened. A store may keep
-    /// it from then on; else they are checked here again, as what is below may have changed. Rows that hold none are never
-    /// answered with one; whether later calls answer that fault again is then open.
+    /// Returns the register that the rows hold. Founding and opening check that they hold one. A store may keep it from
+    /// then on; otherwise the rows are checked here again, since the storage below may have changed. If they hold none,
+    /// the call fails; whether later calls return that fault again is then open.
     fn register(&mut self) -> Result<Register, StoreFault>
         ensures looks { (honest self.old → HoldsRegister (content self.old)) →
             Looks content honest left broken self.old self.new (register_of (content self.old)) result }
@@ -57,7 +57,7 @@ pub trait Store {
             Fails plain (broken self.old) (broken self.new) result }
         ensures held { ReadsRegister content honest left broken plain self.old self.new result };
 
-    /// The content that is remembered of a side under two references; a cancellation has no message reference.
+    /// Returns the content remembered for a side under two references; a cancellation has no message reference.
     fn remembered(
         &mut self,
         supplier: &Gln,
@@ -75,13 +75,14 @@ pub trait Store {
             (knows_order (view supplier.now (content self.old)) number.now) result }
         ensures fails { Fails plain (broken self.old) (broken self.new) result };
 
-    /// The lines of an order, by line number.
+    /// Returns the lines of an order, by line number.
     fn lines_of(&mut self, supplier: &Gln, number: &[u8]) -> Result<Items<LineRow>, StoreFault>
         ensures looks { Looks content honest left broken self.old self.new
             (lines_of (view supplier.now (content self.old)) number.now) result }
         ensures fails { Fails plain (broken self.old) (broken self.new) result };
 
-    /// The lines of an order that have one of these line numbers, by number: of each number one or none, where tables are sound.
+    /// Returns the lines of an order with one of these line numbers, by number: for each number one or none, if the
+    /// tables are sound.
     fn lines_at(
         &mut self,
         supplier: &Gln,
@@ -98,26 +99,26 @@ pub trait Store {
             (knows_advice (view supplier.now (content self.old)) number.now) result }
         ensures fails { Fails plain (broken self.old) (broken self.new) result };
 
-    /// The supplier's pallet of an SSCC.
+    /// Returns the supplier's pallet with an SSCC.
     fn pallet(&mut self, supplier: &Gln, sscc: &Sscc) -> Result<Option<PalletRow>, StoreFault>
         ensures looks { Looks content honest left broken self.old self.new
             (pallet_of (view supplier.now (content self.old)) sscc.now) result }
         ensures fails { Fails plain (broken self.old) (broken self.new) result };
 
-    /// The number of the last entry of the supplier's mailbox, 0 where there is none.
+    /// Returns the number of the last entry of the supplier's mailbox, or 0 if there is none.
     fn last_mail(&mut self, supplier: &Gln) -> Result<u64, StoreFault>
         ensures looks { Looks content honest left broken self.old self.new
             (last_mail (view supplier.now (content self.old))) result }
         ensures fails { Fails plain (broken self.old) (broken self.new) result };
 
-    /// The mailbox entry of a number.
+    /// Returns the mailbox entry with a number.
     fn mail_item(&mut self, supplier: &Gln, number: u64) -> Result<Option<MailRow>, StoreFault>
         ensures looks { Looks content honest left broken self.old self.new
             (entry_at (view supplier.now (content self.old)) number) result }
         ensures fails { Fails plain (broken self.old) (broken self.new) result };
 
-    /// What a list shows of the mailbox entries above a number that are not taken, by number: of the first so many of
-    /// them, and of no more whatever is below the store.
+    /// Returns what a list shows of the mailbox entries that are above a number and not taken, by number: of the first
+    /// `limit` of them, and never of more, whatever the storage below holds.
     fn mail_after(
         &mut self,
         supplier: &Gln,
@@ -129,52 +130,52 @@ pub trait Store {
         ensures limit { IfOk result (λ heads. length heads ≤ limit) }
         ensures fails { Fails plain (broken self.old) (broken self.new) result };
 
-    /// The lines of all orders of the supplier, by order number and line number.
+    /// Returns the lines of all orders of the supplier, by order number and line number.
     fn all_lines(&mut self, supplier: &Gln) -> Result<Items<LineRow>, StoreFault>
         ensures looks { Looks content honest left broken self.old self.new
             ((view supplier.now (content self.old)).lines) result }
         ensures fails { Fails plain (broken self.old) (broken self.new) result };
 
-    /// The pallets of the supplier, by SSCC.
+    /// Returns the pallets of the supplier, by SSCC.
     fn all_pallets(&mut self, supplier: &Gln) -> Result<Items<PalletRow>, StoreFault>
         ensures looks { Looks content honest left broken self.old self.new
             ((view supplier.now (content self.old)).pallets) result }
         ensures fails { Fails plain (broken self.old) (broken self.new) result };
 
-    /// The contents of a pallet, by place. None where the pallet is another supplier's.
+    /// Returns the contents of a pallet, by place. There are none if the pallet is another supplier's.
     fn contents_of(&mut self, supplier: &Gln, sscc: &Sscc) -> Result<Items<ContentRow>, StoreFault>
         ensures looks { Looks content honest left broken self.old self.new
             (contents_of (view supplier.now (content self.old)) sscc.now) result }
         ensures fails { Fails plain (broken self.old) (broken self.new) result };
 
-    /// The contents of a pallet of whatever supplier, by place.
+    /// Returns the contents of a pallet of any supplier, by place.
     fn contents_on(&mut self, sscc: &Sscc) -> Result<Items<ContentRow>, StoreFault>
         ensures looks { Looks content honest left broken self.old self.new
             (contents_of (content self.old) sscc.now) result }
         ensures fails { Fails plain (broken self.old) (broken self.new) result };
 
-    /// What was received of a pallet, by item. None where the pallet is another supplier's.
+    /// Returns what was received of a pallet, by item. There is nothing if the pallet is another supplier's.
     fn receipts_of(&mut self, supplier: &Gln, sscc: &Sscc) -> Result<Items<ReceiptRow>, StoreFault>
         ensures looks { Looks content honest left broken self.old self.new
             (receipts_of (view supplier.now (content self.old)) sscc.now) result }
         ensures fails { Fails plain (broken self.old) (broken self.new) result };
 
-    /// What was received of a pallet of whatever supplier, by item.
+    /// Returns what was received of a pallet of any supplier, by item.
     fn receipts_on(&mut self, sscc: &Sscc) -> Result<Items<ReceiptRow>, StoreFault>
         ensures looks { Looks content honest left broken self.old self.new
             (receipts_of (content self.old) sscc.now) result }
         ensures fails { Fails plain (broken self.old) (broken self.new) result };
 
-    /// Whether any supplier has a pallet of this SSCC. A plain store takes no memory for it, and answers.
+    /// Whether any supplier has a pallet with this SSCC. A plain store needs no memory for it, so it never fails.
     fn used(&mut self, sscc: &Sscc) -> Result<bool, StoreFault>
         ensures looks { Looks content honest left broken self.old self.new
             (has_pallet (content self.old) sscc.now) result }
         ensures fails { Fails plain (broken self.old) (broken self.new) result }
         ensures plain { IsTrue plain → IsOk result };
 
-    /// Makes the changes, one after another: all of them, or at a fault none. Changes that do not fit to the rows, as
-    /// a new row under a key that is there or a set row that has none in its place, may be made in part or be refused as
-    /// `Unclean`. After any fault, also `Memory`, a crash may leave all changes, where they fit, though the content is
+    /// Makes the changes in turn: all of them, or none if there is a fault. Changes that do not fit the rows, such as a
+    /// new row under a key that exists or a set row that does not exist, may be made in part or be refused as
+    /// `Unclean`. After any fault, also `Memory`, a crash may leave all changes, if they fit, though the content is
     /// without them.
     fn commit(&mut self, changes: &[Change]) -> Result<(), StoreFault>
         requires { changes.now ≢ [] }
@@ -184,9 +185,9 @@ pub trait Store {
     /// The content is among what a crash now may leave.
     ghost there: { (store : Self) → honest store → left store (content store) };
 
-    /// What is below a plain store is honest at all times, as there is nothing.
+    /// The storage below a plain store is always honest, because there is none.
     ghost plainly: { IsTrue plain → (store : Self) → honest store };
 
-    /// A crash leaves of a plain store its content.
+    /// A crash leaves the content of a plain store as it is.
     ghost kept: { IsTrue plain → (store : Self) (t : Tables) → left store t → t ≡ content store };
 }

@@ -1,4 +1,4 @@
--- What is carried out after look-ups that did nothing.
+-- Proves what an act leaves that follows look-ups, which do nothing.
 use Rattle.std.proofs.Common.{◌≡◌, inl, inr, Result, Ok, Err, sym, subst, ap, ◌∙◌}
 use Rattle.hub_tables.specs.Tables.{Tables}
 use Rattle.hub_store.specs.declared.fault.StoreFault.{StoreFault}

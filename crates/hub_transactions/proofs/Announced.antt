@@ -1,4 +1,5 @@
--- A supplier sees all that is on its pallets; and of one that is announced nothing was received, in sound rows.
+-- Proves that a supplier sees everything on its pallets, and that in sound rows nothing was received of an announced
+-- pallet.
 use Rattle.std.proofs.Common.{◌≡◌, ℕ, Bool, true, false, cond, not, ◌&&◌, ◌||◌, inl, inr, List, [], ◌∷◌, filter, sum_by, refl, sym, ap}
 use Rattle.std.proofs.Common.{◌⊎◌, ◌≤◌, ◌^◌, subst, ◌∙◌, arith}
 use Rattle.std.specs.List.{AllByRecursion, list_any}
@@ -43,7 +44,7 @@ module _ (pallet : PalletRow) (announced : is_announced pallet ≡ true) where
   apart : (other : PalletRow) → same pallet.sscc other.sscc ≡ false → received_one other ≡ false
   apart other differ = ap (λ v. v && not (is_announced other)) (bytes_eq-sym other.sscc pallet.sscc ∙ differ)
 
-  -- no pallet with its SSCC was received
+  -- no received pallet has its SSCC
   none_received : (pallets : List PalletRow) → Single same_sscc pallets → Has pallets pallet → list_any received_one pallets ≡ false
   none_received [] single has = absurd has
   none_received (one ∷ rest) single (inl is) =
@@ -166,7 +167,7 @@ sees_pallet supplier t kept pallet has = record {
   none = announced_unreceived (view supplier t) kept pallet has;
 }
 
--- a pallet of which nothing can be told is so as the supplier sees it
+-- a pallet whose pieces cannot be counted is also such a pallet as the supplier sees it
 pub unclean_seen : (supplier : List ℕ) (t : Tables) (lines : List LineRow)
     → PalletUnclean t lines (view supplier t).pallets
     → PalletUnclean (view supplier t) lines (view supplier t).pallets
@@ -180,7 +181,7 @@ unclean_seen supplier t lines unclean =
           (subst (λ rows. IsUnclean lines (contents_of t unclean.pallet.sscc) rows) both.1 unclean.unclean);
     }
 
--- where some of a pallet's receipts were looked at, what cannot be counted of them cannot be of all
+-- if only some receipts of a pallet were looked up and cannot be counted, neither can all of them
 pub unclean_of_some : (lines : List LineRow) (contents : List ContentRow) (some all : List ReceiptRow)
     → (some ≡ []) ⊎ (some ≡ all)
     → IsUnclean lines contents some

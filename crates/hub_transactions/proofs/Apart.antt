@@ -1,4 +1,5 @@
--- Orders of which an advice names lines by their numbers stand apart from those that are known whole.
+-- Proves that orders of which an advice names single lines can be known by these lines, apart from orders known in
+-- full.
 use Rattle.std.proofs.Common.{◌≡◌, ℕ, ◌==◌, nat_eq, Bool, true, false, not, cond, ◌||◌, inl, inr, Bor, List, [], ◌∷◌, ◌++◌, filter}
 use Rattle.std.proofs.Common.{find, map}
 use Rattle.std.proofs.Common.{Option, Some, None, option_map, is_some, refl, sym, ap, ap₂, subst, ◌∙◌}
@@ -38,7 +39,7 @@ none_pass : {X : Type 0} (p : X → Bool) (xs : List X) → AllByRecursion (λ x
 none_pass p [] none = refl
 none_pass p (x ∷ xs) none = ap (λ v. cond v (x ∷ filter p xs) (filter p xs)) none.0 ∙ none_pass p xs none.1
 
--- of those that fail one test, those that pass another by which they fail it
+-- the elements that pass a test and so fail another are among those that fail the other
 filter_other : {X : Type 0} (p q : X → Bool) (xs : List X) → ((x : X) → q x ≡ true → p x ≡ false)
     → filter q (filter (λ x. not (p x)) xs) ≡ filter q xs
 filter_other p q [] apart = refl
@@ -81,9 +82,9 @@ pub numbers_append : (xs : List (Bor (List ℕ))) (key : Bor (List ℕ))
 numbers_append [] key = refl
 numbers_append (x ∷ xs) key = ap (λ rest. x.now ∷ rest) (numbers_append xs key)
 
--- An order is put with the lines alone that are asked for.
+-- Only the requested lines of an order are added.
 module _ (asks : List ℕ → Option ℕ → Bool) (state : Tables) (order : List ℕ) (numbers : List ℕ) (seen : Tables) where
-  -- the tables with these lines of the order alone
+  -- the tables with only these lines of the order
   abbrev with_these : Tables
   with_these = record seen { lines = lines_at state order numbers ++ filter (λ line. not (same line.number order)) seen.lines }
 
@@ -138,7 +139,7 @@ module _ (asks : List ℕ → Option ℕ → Bool) (state : Tables) (order : Lis
             | inr differ ↦ differ
           ]
 
-  -- they agree with the state still, where no other lines of the order are asked for
+  -- they still agree with the state, if no other lines of the order are asked for
   still_agree : AgreeOnLines asks seen state
       → asks order None ≡ false
       → ((number : ℕ) → asks order (Some number) ≡ true → comes_among nat_eq number numbers ≡ true)
@@ -171,7 +172,7 @@ module _ (asks : List ℕ → Option ℕ → Bool) (state : Tables) (apart : Lis
         | inr differ ↦ differ
       ]
 
-  -- whether the order is there does not hang on lines
+  -- whether the order exists does not depend on lines
   there_too : (t : Tables) → bare t ≡ bare before.seen → knows_order state order ≡ knows_order t order
   there_too t alike = ap (λ (t : Tables). knows_order t order) (sym before.agree.rest ∙ sym alike)
 
@@ -249,7 +250,7 @@ forgets_on number numbers old mid new first rest = record {
     first_of true b e second = refl
     first_of false b e second = absurd (cc)
 
--- without those that stand apart, what is known is what the state has
+-- without the orders known by single lines, what is known is what the state has
 pub kept_whole : (asks : List ℕ → Option ℕ → Bool) (state : Tables) (apart : List (List ℕ)) (old new : Orders)
     → KeepsAsked asks old apart state
     → ForgetsOrders apart old new
@@ -279,7 +280,7 @@ kept_whole asks state apart old new before forgets =
           (before.keeps.adds_up order (was order kept));
     }
 
--- what is known by these lines tells the truth of rows of which the rules say the same
+-- what is known by these lines is right for some rows over which the rules decide the same
 pub asked_told : (named : LinesOfOrders) (used : List ℕ → Bool) (incoming : IncomingMessage) (despatch : Despatch) (state : Tables)
     (apart : List (List ℕ)) (known : Known)
     → KeepsAsked (names_line named) known.orders apart state
@@ -308,7 +309,7 @@ asked_told named used incoming despatch state apart known before all remembered 
   };
 }
 
--- what the state has agrees with it
+-- if no order is known by single lines only, the state itself agrees
 pub none_apart : (asks : List ℕ → Option ℕ → Bool) (state : Tables) (orders : Orders) → KeepsOrders orders state
     → KeepsAsked asks orders [] state
 none_apart asks state orders keeps = record {

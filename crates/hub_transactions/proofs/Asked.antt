@@ -1,4 +1,4 @@
--- What the rules say of a message hangs on no other lines than it asks for.
+-- Proves that the decision on a message depends only on the lines that it asks for.
 use Rattle.std.proofs.Common.{◌≡◌, ℕ, ◌+◌, ◌-◌, nat_lt, ◌==◌, Bool, true, false, not, cond, ◌||◌, List, [], ◌∷◌, ◌++◌, find}
 use Rattle.std.proofs.Common.{Option, Some, None, option_map, refl, sym, ap, ap₂, subst, ◌∙◌}
 use Rattle.std.specs.List.{list_any, AllByRecursion}
@@ -43,7 +43,7 @@ use Rattle.hub_rules.specs.declared.verdict.Verdict.TheVariants.{Accept, Refuse}
 use Rattle.hub_transactions.specs.Orders.{bare, AgreeOnLines}
 use Rattle.hub_transactions.proofs.KeptOrders.{first_none, later_none}
 
--- what is accepted adds no order and no line
+-- an accepted message adds no order and no line
 abbrev pub Tame : Verdict → Type 0
 Tame verdict = (changes : List Change) → verdict ≡ Accept changes → list_any adds_lines changes ≡ false
 
@@ -74,7 +74,7 @@ joined_tame first none (Accept rest) tame = accepts_tame (first ++ rest) (none_i
 
 -- which lines are asked for
 module _ (asks : List ℕ → Option ℕ → Bool) where
-  -- a judge that says the same of such tables, and adds no order and no line
+  -- a check that decides the same over such tables, and adds no order and no line
   pub record Local (judge : Judge) : Type 0 where
     pub says : (a b : Tables) → AgreeOnLines asks a b → judge a ≡ judge b
     pub tame : (a : Tables) → Tame (judge a)
@@ -174,7 +174,7 @@ module _ (asks : List ℕ → Option ℕ → Bool) where
       changes_agree changes (apply change a) (apply change b) (later_none change changes none)
       (change_agrees change a b (first_none change changes none) agree)
 
-  -- Judges put together.
+  -- Checks in sequence.
 
   goes_on_local : (a b : Tables) → AgreeOnLines asks a b → (first : Verdict) → Tame first → (second : Judge) → Local second
       → goes_on first second a ≡ goes_on first second b
@@ -315,7 +315,7 @@ module _ (asks : List ℕ → Option ℕ → Bool) where
             (subst Tame (sym (same_answers a)) (answers.tame a));
       }
 
-  -- a message of a supplier, from its parties on
+  -- a message from a supplier, beginning with its parties
   pub message_local : (retailer : List ℕ) (supplier : Option SupplierRow) (side : Side) (incoming : IncomingMessage)
       (buyer : Option (List ℕ)) (named : List ℕ) (rest : SupplierRow → Judge) → ((s : SupplierRow) → Local (rest s))
       → (a b : Tables) → AgreeOnLines asks a b

@@ -1,4 +1,4 @@
--- An order of which only the lines are known that an answer names by their numbers.
+-- Proves that an order can be known by the lines alone that an answer names by their numbers.
 use Rattle.std.proofs.Common.{◌≡◌, ℕ, ◌==◌, nat_eq, Bool, true, false, cond, ◌&&◌, ◌||◌, inl, inr, List, [], ◌∷◌, ◌++◌, filter, find}
 use Rattle.std.proofs.Common.{Option, Some, None, option_map, refl, sym, ap, ap₂, subst, ◌∙◌, arith}
 use Rattle.std.specs.List.{AllByRecursion, flat_map}
@@ -61,7 +61,7 @@ numbered_other n m (line ∷ lines) apart =
       | inr e ↦ grind (arith, e, ih)
     ]
 
--- of the lines with some numbers, the one of a number is found among all where the number is one of them
+-- a line with a number is found among the lines with these numbers, if its number is one of them
 pub found_among : (n : ℕ) (numbers : List ℕ) (lines : List LineRow)
     → find (λ line. line.line == n) (flat_map (λ m. filter (λ line. line.line == m) lines) numbers)
     ≡ cond (comes_among nat_eq n numbers) (find (λ line. line.line == n) lines) None
@@ -97,7 +97,7 @@ all_numbered P lines (m ∷ numbers) all =
     all_append P (filter (λ line. line.line == m) lines) (flat_map (λ m. filter (λ line. line.line == m) lines) numbers)
     (all_filter P (λ line. line.line == m) lines all) (all_numbered P lines numbers all)
 
--- lines of one order, picked by their numbers, are all of that order
+-- lines of one order, picked by their numbers, are all lines of that order
 pub filter_all : {X : Type 0} (p : X → Bool) (xs : List X) → AllByRecursion (λ x. p x ≡ true) xs → filter p xs ≡ xs
 filter_all p [] all = refl
 filter_all p (x ∷ xs) all = ap (λ v. cond v (x ∷ filter p xs) (filter p xs)) all.0 ∙ ap (λ rest. x ∷ rest) (filter_all p xs all.1)
@@ -109,7 +109,7 @@ passes_filter p (x ∷ xs) =
     [ true ↦ λ e. (e, passes_filter p xs) | false ↦ λ e. passes_filter p xs ] refl
 
 module _ (state : Tables) (order : List ℕ) (numbers : List ℕ) where
-  -- the state with these lines alone
+  -- the state with only these lines
   abbrev only : Tables
   only = record state { lines = lines_at state order numbers }
 
@@ -160,7 +160,7 @@ response_alike retailer supplier incoming response state numbers (Lines said) is
     (λ s. new_response_local (asks state response.order numbers) response said is (all_asked response.order numbers said named))
     (only state response.order numbers) state (agrees state response.order numbers)
 
--- what is known by these lines tells the truth of rows of which the rules say the same
+-- what is known by these lines is right for some rows over which the rules decide the same
 pub named_told : (incoming : IncomingMessage) (response : Response) (state : Tables) (known : Known)
     → Kept state
     → TellsRemembered known Supplier incoming.control incoming.message state

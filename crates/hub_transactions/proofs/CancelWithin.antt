@@ -1,4 +1,4 @@
--- What is read of the body of a cancellation is within its limits.
+-- Proves that what is read of a cancellation is within its limits.
 use Rattle.std.proofs.Common.{◌≡◌, ℕ, ◌^◌, ◌<◌, ◌≤◌, ◌==◌, nat_le, true, false, not, ◌&&◌, List, [], ◌∷◌, length}
 use Rattle.std.proofs.Common.{Option, Some, None, refl, subst, arith}
 use Rattle.std.specs.List.{list_all, slice_split}

@@ -1,4 +1,4 @@
--- How a call fails that could not be told what the rules ask.
+-- Proves how a call fails that could not look up what the rules need.
 use Rattle.std.proofs.Common.{◌≡◌, ◌⊎◌, inl, inr, Bool, Option, Some, None, Result, Ok, Err, refl, sym, subst, ◌∙◌}
 use Rattle.std.specs.Option.{IfSome}
 use Rattle.hub_store.specs.Calls.{Fails, fault_of}
@@ -13,7 +13,7 @@ use Rattle.hub_acts.specs.Acts.{BreaksBy, FailsWith, OfAny}
 use Rattle.hub_transactions.specs.Judged.{UnreadOf, act_of}
 use Rattle.hub_transactions.specs.declared.judged.Judged.{Judged}
 
--- a store that answered is not broken
+-- a store that returned a result is not broken
 pub none_broken : {X : Type 0} (plain : Bool) (old new : Option LastingFault) (x : X) → Fails plain old new (Ok x) → old ≡ None
 none_broken plain None new x fails = refl
 none_broken plain (Some fault) new x fails = let no : Ok x ≡ Err (fault_of fault) = fails.again in absurd (cc)
@@ -44,7 +44,7 @@ module _ {X : Type 0} (plain : Bool) (cause : Type 0) (may : X → Type 0) (old 
   ends_in result fault is none same e =
       subst (λ (r : Result X StoreFault). FailsWith plain cause may old new r) (sym is) (by_cause fault none same e)
 
--- what fails without a cause fails so with any
+-- a call that fails without a cause fails the same way with any
 breaks_by : (cause : Type 0) (old new : Option LastingFault) (fault : StoreFault) → BreaksBy ⊥ old new fault → BreaksBy cause old new fault
 breaks_by cause old new Memory after = after
 breaks_by cause old new Disk after = after
@@ -58,7 +58,7 @@ both_of_any : (old : Option LastingFault) (deliver : Act) (judged : Judged) (tol
 both_of_any None deliver judged told unread tells = tt
 both_of_any (Some fault) deliver judged told unread tells = λ t. unread.same t ∙ (λ i. (tells t i, unread.stays t i))
 
--- what was judged is carried out
+-- the decision is carried out
 pub after_judging : (plain : Bool) (cause other : Type 0) (old middle new : Option LastingFault) (deliver : Act) (judged : Judged)
     (result : Result Decision StoreFault)
     → FailsWith plain other (UnreadOf deliver) old middle (Ok judged)
@@ -81,7 +81,7 @@ after_judging plain cause other old middle new deliver judged (Err fault) first 
       only_memory = λ p. ((then.only_memory p).0, elim (then.only_memory p).1 [ inl e ↦ inl e | inr e ↦ absurd e.1 ]);
     }
 
--- a fault that is told with another cause
+-- a fault with another cause
 breaks_with : (cause other : Type 0) (old new : Option LastingFault) (fault : StoreFault)
     → (cause → other)
     → BreaksBy cause old new fault

@@ -1,4 +1,4 @@
--- What comes of a judge's verdict for whom a message names fits the tables.
+-- Proves that the changes of a verdict fit the tables, whichever supplier the message names.
 use Rattle.std.proofs.Common.{◌≡◌, ℕ, Bool, true, false, List, Option, Some, None, refl, subst, ap, ◌∙◌}
 use Rattle.hub_parties.specs.Rows.{supplier_row}
 use Rattle.hub_parties.specs.declared.row.SupplierRow.{SupplierRow}
@@ -23,7 +23,7 @@ pub verdict_fits : (verdict : Verdict) (t : Tables)
 verdict_fits (Accept changes) t f = f changes refl
 verdict_fits (Refuse code) t f = tt
 
--- of a supplier that is registered by what its rules say, and of nobody
+-- for a registered supplier by its rules, and for an unknown one trivially
 pub named_fits : (suppliers : List SupplierRow) (gln : List ℕ) (t : Tables) (judge : Option SupplierRow → Judge)
     → SoundUnder suppliers t
     → VerdictFits (judge None (view gln t)) t

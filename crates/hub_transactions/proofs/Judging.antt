@@ -1,4 +1,4 @@
--- A look-up that fails, of which nothing can be judged.
+-- Shows that nothing is decided if a look-up fails.
 use Rattle.std.proofs.Common.{◌≡◌, true}
 use Rattle.std.proofs.Common.{Option, None, Result, Err, IfOk}
 use Rattle.std.proofs.Common.{sym, subst}
@@ -12,7 +12,7 @@ use Rattle.hub_transactions.specs.JudgesClean.{JudgedClean, JudgesClean}
 use Rattle.hub_transactions.specs.declared.judged.Judged.{Judged}
 use Rattle.hub_acts.proofs.CleanActs.{never_so}
 
--- a look-up that answers `Unclean` for a cause that there is not
+-- a look-up can fail with `Unclean` only for a cause, and there is none
 module _ {S X : Type 0} (g : Ghosts S) (old new : S)
     (cause : Type 0) (none_such : cause → ⊥) (fault : StoreFault)
     (unclean : g.honest new → g.broken old ≡ None → are_clean (g.content old) ≡ true

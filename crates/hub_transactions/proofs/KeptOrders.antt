@@ -1,4 +1,4 @@
--- Orders that are kept are those of the tables after changes.
+-- Proves that orders kept between messages are those of the tables after the changes.
 use Rattle.std.proofs.Common.{◌≡◌, ℕ, false, ◌||◌, List, [], ◌∷◌, filter, true, refl, sym, ap, subst, ◌∙◌}
 use Rattle.std.specs.List.{list_any}
 use Rattle.hub_tables.specs.Change.{apply, apply_all}
@@ -16,7 +16,7 @@ use Rattle.hub_order_lines.proofs.Follow.{in_turn}
 use Rattle.hub_order_lines.proofs.RowsOfOrder.{set_among_order, set_among_suppliers}
 use Rattle.hub_transactions.specs.Orders.{KeepsOrders}
 
--- neither the first of some changes does, nor the later ones
+-- if no change adds lines, neither does the first one
 pub first_none : (change : Change) (changes : List Change) → list_any adds_lines (change ∷ changes) ≡ false → adds_lines change ≡ false
 first_none change changes none =
     elim (adds_lines change) as (λ v. (v || list_any adds_lines changes) ≡ false → v ≡ false) [ true ↦ λ no. no | false ↦ λ no. refl ] none
@@ -90,7 +90,7 @@ module _ (supplier order : List ℕ) where
       ap (λ orders. list_any (λ row. same row.number order) (filter (λ row. same row.supplier supplier) orders))
       (orders_after changes t none)
 
--- what was kept and followed is kept
+-- orders that are kept and updated are those of the new tables
 pub kept_after : (supplier : List ℕ) (changes : List Change) (t : Tables) (old new : Orders)
     → Follows changes old new
     → KeepsOrders old (view supplier t)
@@ -105,7 +105,7 @@ kept_after supplier changes t old new follows keeps = record {
   adds_up = λ order kept. follows.add_up order kept (keeps.adds_up order (follows.was order kept));
 }
 
--- what is looked up beside what is kept, in the same state
+-- what is looked up besides the kept orders, in the same state
 pub keeps_through : (old middle new : Orders) (state here : Tables)
     → here ≡ state
     → new ≡ middle

@@ -1,4 +1,4 @@
--- What is looked up in the rows of a supplier tells of them what a judge asks.
+-- Proves that the look-ups in a supplier's rows return what the rules ask.
 use Rattle.std.proofs.Common.{◌≡◌, ℕ, ◌+◌, Bool, true, false, cond, inl, inr, List, [], ◌∷◌, length, filter, is_some, Option, Some}
 use Rattle.std.proofs.Common.{None, option_map, refl, sym, subst, ◌∙◌, ap, arith}
 use Rattle.std.specs.List.{AllByRecursion, last_or}
@@ -18,7 +18,7 @@ use Rattle.hub_rules.specs.Sound.{Balanced, Kept, Numbered}
 use Rattle.hub_judges.specs.Known.{TellsDespatched}
 use Rattle.hub_transactions.specs.Orders.{KeepsOrders}
 
--- The number of the last entry is how many there are.
+-- The number of the last entry is the number of entries.
 abbrev number_of : Option MailRow → ℕ
 number_of entry = unwrap_or (option_map (λ entry. entry.number) entry) 0
 
@@ -53,7 +53,7 @@ filter_twice p (x ∷ xs) =
       | inr e ↦ let ih = filter_twice p xs in grind (arith, e, ih)
     ]
 
--- What of a line is despatched is what its row leaves of ordered.
+-- A line's despatched quantity is what its row leaves of the ordered one.
 pub all_despatched : (state : Tables) (facts : List LineFacts)
     → AllByRecursion AddsUp facts
     → AllByRecursion (Balanced state) (rows facts)
@@ -89,7 +89,7 @@ module _ (state : Tables) (number : List ℕ) (is_there : Bool) (given : List Li
         | inr apart ↦ same_as_before order apart ∙ kept
       ]
 
-  -- what was looked up is that of the state
+  -- what was looked up is what the state has
   module _ (there : is_there ≡ knows_order state number) (found : given ≡ lines_of state number) (before : KeepsOrders old state) where
     there_now : (order : List ℕ) → is_kept new order ≡ true → knows_order state order ≡ has_order new order
     there_now order kept =
@@ -137,7 +137,7 @@ module _ (state : Tables) (number : List ℕ) (is_there : Bool) (given : List Li
     pub keeps_one_more : KeepsOrders new state
     keeps_one_more = record { there = there_now; lines = lines_now; adds_up = adds_up_now }
 
--- what holds at Ok gives what follows from it
+-- what holds at Ok implies what follows from it
 pub on_ok : {X E : Type 0} {A B : Type 0} (r : Result X E) → (A → B) → OnOk r A → OnOk r B
 on_ok (Ok x) f a = f a
 on_ok (Err e) f a = tt

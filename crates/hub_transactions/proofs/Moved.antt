@@ -1,4 +1,4 @@
--- An order number that goes from those still to come into a set.
+-- Proves that an order number moves from those still to be read into a set.
 use Rattle.std.proofs.Common.{◌≡◌, ◌||◌, Bool, true, false, refl}
 
 pub or_moved : (is_it before later : Bool) → ((is_it || before) || later) ≡ (before || (is_it || later))

@@ -1,4 +1,4 @@
--- Orders that are looked up one after another.
+-- Proves that the named orders are looked up one after another.
 use Rattle.std.proofs.Common.{◌≡◌, ◌⊎◌, ℕ, Bool, true, false, cond, ◌||◌, inl, inr, List, [], ◌∷◌, filter, refl, sym, ap, ◌∙◌}
 use Rattle.std.specs.List.{list_any}
 use Rattle.std.proofs.Math.Bool.{or-true}
@@ -25,7 +25,7 @@ pub later_among : (order number : List ℕ) (numbers : List (List ℕ))
     → is_among order (number ∷ numbers) ≡ true
 later_among order number numbers among = ap (λ v. same order number || v) among ∙ or-true (same order number)
 
--- a pallet that a supplier sees is there
+-- a pallet that a supplier sees exists
 any_of_kept : {X : Type 0} (p test : X → Bool) (xs : List X) → list_any p (filter test xs) ≡ true → list_any p xs ≡ true
 any_of_kept p test [] h = h
 any_of_kept p test (x ∷ xs) h =

@@ -1,4 +1,4 @@
--- Lines that an advice names, in a set of numbers for each order.
+-- Proves which lines an advice names, as a set of numbers for each order.
 use Rattle.std.proofs.Common.{◌≡◌, ℕ, Bool, true, false, ◌||◌, nat_eq, nat_cmp, Bor, List, [], ◌∷◌, map, Option, Some, None}
 use Rattle.std.proofs.Common.{refl, sym, ap, ◌∙◌, inl, inr, arith}
 use Rattle.std.specs.BTreeMap.{is_at}
@@ -30,7 +30,7 @@ one_more n keys k =
 pub itself : (n : ℕ) → nat_eq n n ≡ true
 itself n = grind (arith, nat_tests)
 
--- a line that is put after others
+-- a line is appended
 pub still_named : (old new : LinesNamed) (number : ℕ)
     → new.by_article ≡ old.by_article
     → new.numbers.keys ≡ insert_key nat_cmp old.numbers.keys number
@@ -44,7 +44,7 @@ still_named old new number article keys (Some other) named =
 abbrev pub at : List ℕ → Bor (List ℕ) → Bool
 at order = is_at (λ key. bytes_cmp order key.now)
 
--- what is named of an order is put in the place of what was, and it is no less
+-- the lines named of an order replace the earlier ones, and no line is lost
 module _ (order : List ℕ) (lines : LinesNamed) (old new : LinesOfOrders)
     (put : lookup (at order) new ≡ Some lines)
     (others : (other : List ℕ) → same other order ≡ false → lookup (at other) new ≡ lookup (at other) old) where
@@ -61,7 +61,7 @@ module _ (order : List ℕ) (lines : LinesNamed) (old new : LinesOfOrders)
         | inr apart ↦ ap (λ found. is_named found number) (others other apart) ∙ named
       ]
 
--- what a map says of all other keys
+-- all other keys of a map keep their values
 pub others_kept : (key : Bor (List ℕ)) (old new : LinesOfOrders)
     → ((other : Bor (List ℕ)) → is_at (by_number key) other ≡ false
     → lookup (is_at (by_number other)) new ≡ lookup (is_at (by_number other)) old)
@@ -69,7 +69,7 @@ pub others_kept : (key : Bor (List ℕ)) (old new : LinesOfOrders)
 others_kept key old new keeps other apart =
     keeps (record key { now = other }) (is_eq-slice_cmp key.now other ∙ bytes_eq-sym key.now other ∙ apart)
 
--- lines that were named are
+-- lines that were named stay named
 pub all_named_later : (old new : LinesOfOrders) (lines : List DespatchLine) → NamesMore old new → NamesLines old lines
     → NamesLines new lines
 all_named_later old new [] more all = tt

@@ -1,4 +1,4 @@
--- What is read of a message, and what comes of it.
+-- Proves what a message does, from what is read of it.
 use Rattle.std.proofs.Common.{◌≡◌, Ok, sym, ap, ◌∙◌}
 use Rattle.hub_tables.specs.Tables.{Tables}
 use Rattle.hub_rules.specs.declared.code.Code.{Code}
@@ -9,13 +9,13 @@ use Rattle.hub_transactions.specs.Judged.{act_of}
 use Rattle.hub_transactions.specs.declared.judged.Judged.{Judged}
 use Rattle.hub_transactions.specs.declared.judged.Judged.TheVariants.{Read}
 
--- what was read is judged
+-- a message that was read is checked
 pub act_of_read : {X : Type 0} (judge : X → Verdict) (read : X) (verdict : Verdict) (t : Tables)
     → verdict ≡ judge read
     → read_act (Ok read) judge t ≡ act verdict t
 act_of_read judge read verdict t e = ap (λ v. act v t) (sym e)
 
--- what was read is refused whatever is known
+-- a message that was read is refused whatever is known
 pub act_refused : {X : Type 0} (judge : X → Verdict) (read : X) (code : Code) (judged : Judged) (t : Tables)
     → judge read ≡ Refuse code
     → judged ≡ Read (Refuse code)

@@ -1,4 +1,4 @@
--- The status report, by its parts.
+-- Proves what the status report is, part by part.
 use Rattle.std.proofs.Common.{◌≡◌, ℕ, zero, suc, inl, inr, List, [], ◌∷◌, ◌++◌, codes, drop, refl}
 use Rattle.std.specs.List.{flat_map}
 use Rattle.hub_tables.specs.Sets.{Has}
@@ -10,7 +10,7 @@ pub report_is : (state : Tables)
 unfolding status_text
 report_is state = refl
 
--- what is first after some of a list is in it
+-- an element after the start of a list is in the list
 pub has_at : {X : Type 0} (xs : List X) (i : ℕ) (x : X) (rest : List X) → drop i xs ≡ x ∷ rest → Has xs x
 has_at [] zero x rest e = cc
 has_at [] (suc i) x rest e = cc

@@ -1,4 +1,4 @@
--- Of sound tables the lines of orders are known, and each content of a pallet names a line.
+-- Proves that in sound tables the lines of orders can be used, and each content of a pallet names a line.
 use Rattle.std.proofs.Common.{◌≡◌, true, ◌&&◌, List, [], ◌∷◌, Some, None, refl}
 use Rattle.std.proofs.Common.{ap₂}
 use Rattle.std.specs.Ordering.{is_lt}
@@ -7,7 +7,7 @@ use Rattle.hub_tables.specs.declared.rows.LineRow.{LineRow}
 use Rattle.hub_order_lines.specs.Book.{place_cmp}
 use Rattle.hub_order_lines.specs.KnownLines.{steps_up}
 
--- rows that rise step up
+-- rising rows rise by line number
 steps_after : (before : LineRow) (rows : List LineRow) → Rises place_cmp (before ∷ rows) → steps_up (Some before) rows ≡ true
 steps_after before [] rise = refl
 steps_after before (row ∷ rows) rise = ap₂ (λ o v. is_lt o && v) rise.0.0 (steps_after row rows rise.1)

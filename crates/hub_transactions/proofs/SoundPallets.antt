@@ -1,4 +1,5 @@
--- Of sound tables each content of a pallet names a line, and of rows of the kinds its pieces together are few.
+-- Proves that in sound tables each content of a pallet names a line, and that the pieces of rows with the form of their
+-- kind add up to little.
 use Rattle.std.proofs.Common.{◌≡◌, ℕ, ◌+◌, ◌*◌, ◌≤◌, ◌<◌, ◌==◌, true, false, not, cond, ◌&&◌, ◌||◌}
 use Rattle.std.proofs.Common.{List, [], ◌∷◌, filter, find, sum_by, option_map, Some, refl, sym, ap, ap₂, ◌∙◌, arith, nat_le}
 use Rattle.std.specs.List.{AllByRecursion, list_any}
@@ -23,7 +24,7 @@ use Rattle.hub_rules.specs.Sound.{knows_line}
 use Rattle.hub_tables.proofs.KeyOrder.{rises_filter}
 use Rattle.hub_acts.specs.HubTexts.Articles.{article_among}
 
--- the line that a content names is there
+-- the line that a content names exists
 there_is : (number : List ℕ) (n : ℕ) (lines : List LineRow)
     → list_any (λ line. same line.number number && (line.line == n)) lines ≡ true
     → is_some (option_map (λ (row : LineRow). row.gtin)

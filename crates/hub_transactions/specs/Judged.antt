@@ -1,4 +1,4 @@
--- What comes of a message.
+-- Defines the decision on a message, and what it does to the tables.
 use Rattle.std.specs.Prelude.{◌≡◌, ⊤, Option, Result, Err, IfOk}
 use Rattle.edi_messages.specs.Fault as message_faults
 use Rattle.edi_messages.specs.declared.fault.MessageFault.{MessageFault}
@@ -17,29 +17,29 @@ use Rattle.hub_acts.specs.Verdicts.{VerdictFits}
 use Rattle.hub_transactions.specs.declared.judged.Judged.{Judged}
 use Rattle.hub_transactions.specs.declared.judged.Judged.TheVariants.{Read, Unread}
 
--- what the rules say of what was read, or the fault for which nothing can be
+-- the act of a decision: the verdict on what was read, or a refusal because the message cannot be read
 abbrev pub act_of : Judged → Act
 act_of (Read verdict) t = act verdict t
 act_of (Unread fault) t = (Refused (message_faults.code_text fault), t)
 
--- where there are changes, they fit the tables
+-- if there are changes, they fit the tables
 abbrev pub JudgedFits : Judged → Tables → Type 0
 JudgedFits (Read verdict) t = VerdictFits verdict t
 JudgedFits (Unread fault) t = ⊤
 
--- it cannot be read, and this is why
+-- the message cannot be read, and the decision says why
 pub record CannotBeRead {X : Type 0} (read : Result X MessageFault) (judged : Judged) : Type 0 where
   pub fault : MessageFault
   pub read_as : read ≡ Err fault
   pub is : judged ≡ Unread fault
 
--- it is what the act tells of whatever tables, and nothing is changed
+-- the decision is what the act does to any tables, and nothing is changed
 pub record UnreadOf (deliver : Act) (judged : Judged) : Type 0 where
   pub same : (t : Tables) → deliver t ≡ act_of judged t
   pub stays : (t : Tables) → (act_of judged t).1 ≡ t
 
--- What comes of a message of the retailer: what the act does, where the rows that the supplier sees are kept; and changes
--- that fit the tables, where these are sound.
+-- The decision on a message of the retailer: it is what the act does, if the rows that the supplier sees can be used;
+-- and its changes fit the tables, if these are sound.
 pub record JudgedOfRetailer {S : Type 0} (g : Ghosts S) (register : RegisterRows)
     (deliver : (Tables → Tables) → Parties → Option SupplierRow → RawMessage × IncomingMessage → Act)
     (sent : RawMessage × IncomingMessage) (old new : S) (result : Result Judged StoreFault) : Type 0 where
@@ -49,7 +49,7 @@ pub record JudgedOfRetailer {S : Type 0} (g : Ghosts S) (register : RegisterRows
   pub fit : g.honest new → SoundUnder register.suppliers (g.content old) → PartiesRise (g.content old) →
       IfOk result (λ judged. JudgedFits judged (g.content old))
 
--- likewise of a message of a supplier
+-- the decision on a message of a supplier, likewise
 pub record JudgedOfSupplier {S : Type 0} (g : Ghosts S) (register : RegisterRows) (supplier : SupplierRow)
     (deliver : (Tables → Tables) → Parties → SupplierRow → RawMessage × IncomingMessage → Act)
     (sent : RawMessage × IncomingMessage) (old new : S) (result : Result Judged StoreFault) : Type 0 where

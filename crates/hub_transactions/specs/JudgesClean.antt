@@ -1,4 +1,4 @@
--- Rows of the kinds that a hub keeps after what is judged of a message.
+-- Defines that the decision on a message keeps the form of all rows.
 use Rattle.std.specs.Prelude.{◌≡◌, ◌≢◌, ⊤, true, Option, None, Result, Err, IfOk}
 use Rattle.hub_tables.specs.Tables.{Tables}
 use Rattle.hub_store.specs.Clean.{are_clean}
@@ -14,8 +14,8 @@ abbrev pub JudgedClean : Judged → Tables → Type 0
 JudgedClean (Read verdict) t = VerdictClean verdict t
 JudgedClean (Unread fault) t = ⊤
 
--- Where all rows are of the kinds, a call that judges answers no `Unclean` of a store that is not broken, and what comes of
--- the message leaves rows of the kinds.
+-- If all rows have the form of their kind, deciding on a message does not fail with `Unclean` over a store that is not
+-- broken, and the message's changes leave rows with their form.
 pub record JudgesClean {S : Type 0} (g : Ghosts S) (old new : S) (result : Result Judged StoreFault) : Type 0 where
   pub never : g.honest new → g.broken old ≡ None → are_clean (g.content old) ≡ true → result ≢ Err Unclean
   pub leaves : g.honest new → are_clean (g.content old) ≡ true → IfOk result (λ judged. JudgedClean judged (g.content old))

@@ -1,4 +1,4 @@
--- The orders that a message names, where nothing can be known of their lines.
+-- Defines when a message names orders whose lines cannot be used.
 use Rattle.std.specs.Prelude.{◌≡◌, ◌⊎◌, ℕ, Bool, true, false, nat_eq, List, [], Ok, Option, Some, None}
 use Rattle.std.specs.List.{AllByRecursion}
 use Rattle.std.specs.Borrow.{Bor}
@@ -25,62 +25,62 @@ use Rattle.hub_store.specs.Lines.{lines_at}
 use Rattle.hub_judges.specs.Known.{names_order}
 use Rattle.hub_transactions.specs.declared.numbering.LinesNamed.{LinesNamed}
 
--- by the bytes of their numbers
+-- by the bytes of their order numbers
 abbrev pub by_number : Bor (List ℕ) → Bor (List ℕ) → Ordering
 by_number a b = bytes_cmp a.now b.now
 
--- of the lines of one of these orders nothing can be known
+-- the lines of one of these orders cannot be used
 pub record SomeUnclean (numbers : List (List ℕ)) (state : Tables) : Type 0 where
   pub order : List ℕ
   pub among : is_among order numbers ≡ true
   pub lines : AreUnclean (lines_of state order)
 
--- of the lines of an order that units name nothing can be known
+-- the units name an order whose lines cannot be used
 pub record NamedUnclean (units : List Unit) (state : Tables) : Type 0 where
   pub order : List ℕ
   pub named : names_order units order ≡ true
   pub lines : AreUnclean (lines_of state order)
 
--- a message is an ORDRSP, and of the lines of its order nothing can be known
+-- the message is an ORDRSP, and the lines of its order cannot be used
 pub record ResponseUnclean (message : RawMessage) (state : Tables) : Type 0 where
   pub response : Response
   pub read : response_of message ≡ Ok response
   pub lines : AreUnclean (lines_of state response.order)
 
--- a message is a DESADV, and of the lines of the orders that it names nothing can be known
+-- the message is a DESADV, and it names an order whose lines cannot be used
 pub record DespatchUnclean (message : RawMessage) (state : Tables) : Type 0 where
   pub despatch : Despatch
   pub read : despatch_of message ≡ Ok despatch
   pub lines : NamedUnclean despatch.units state
 
--- the one or the other
+-- the message is one of these
 abbrev pub MessageUnclean : RawMessage → Tables → Type 0
 MessageUnclean message state = ResponseUnclean message state ⊎ DespatchUnclean message state
 
--- a line is named by one of these numbers; by its article it is not
+-- a line is named by one of these numbers, and not by its article
 abbrev pub has_number : List ℕ → Option ℕ → Bool
 has_number numbers None = false
 has_number numbers (Some number) = comes_among nat_eq number numbers
 
--- each line that is answered is named by one of these numbers
+-- each answered line is named by one of these numbers
 abbrev pub NamesByNumber : List ℕ → Answer → Type 0
 NamesByNumber numbers AllAccepted = ⊥
 NamesByNumber numbers AllRefused = ⊥
 NamesByNumber numbers (Lines said) = AllByRecursion (λ line. has_number numbers line.order_line ≡ true) said
 
--- an order that is answered is known by the lines alone that the answer names, each by its number
+-- an order is known by only those lines that the answer names, each by its number
 pub record NamedLines (response : Response) (state : Tables) (orders : Orders) : Type 0 where
   pub numbers : List ℕ
   pub by_number : NamesByNumber numbers response.answer
   pub known : AddsOrder response.order (knows_order state response.order) (lines_at state response.order numbers) [] orders
 
--- which lines of an order are named: the one of a number, or any by its article
+-- whether a line is named: by its number or, without one, by its article
 abbrev pub is_named : Option LinesNamed → Option ℕ → Bool
 is_named None number = false
 is_named (Some lines) None = lines.by_article
 is_named (Some lines) (Some number) = comes_among nat_eq number lines.numbers.keys
 
--- what is named of each order, by its number
+-- the lines that are named of each order, by order number
 abbrev pub LinesOfOrders : Type 0
 LinesOfOrders = List (Bor (List ℕ) × LinesNamed)
 
@@ -94,6 +94,6 @@ names_line named order number = is_named (lines_named_of named order) number
 abbrev pub NamesLines : LinesOfOrders → List DespatchLine → Type 0
 NamesLines named lines = AllByRecursion (λ line. names_line named line.order line.order_line ≡ true) lines
 
--- all that was named before is still named
+-- every line that was named before is still named
 abbrev pub NamesMore : LinesOfOrders → LinesOfOrders → Type 0
 NamesMore old new = (order : List ℕ) (number : Option ℕ) → names_line old order number ≡ true → names_line new order number ≡ true

@@ -1,4 +1,4 @@
-//! A cancellation.
+//! Handles a cancellation.
 ghost use Rattle.std.specs.Prelude.{◌≡◌};
 ghost use Rattle.hub_order_lines.specs.KnownLines.{AreUnclean};
 ghost use Rattle.hub_tables.specs.State.{lines_of};
@@ -24,7 +24,7 @@ use hub_rules::accepted_changes_fit;
 use hub_store::{Store, StoreFault};
 use std::alloc::Global;
 
-// Carries out what comes of a cancellation, to which this is the reply.
+// Carries out the verdict on a cancellation, and returns its reply.
 fn commit_and_reply<S: Store>(
     store: &mut S,
     verdict: &Verdict,
@@ -43,8 +43,8 @@ fn commit_and_reply<S: Store>(
     Ok(reply)
 }
 
-/// Takes a cancellation of the retailer: judges it, and commits what comes of it as one act. The reply is made before.
-/// At a fault nothing was done.
+/// Handles a cancellation from the retailer: checks it, and commits its changes as one act. The reply is made before
+/// the commit. After a fault nothing is done.
 pub fn take_cancel<S: Store>(
     alloc: Global,
     register: &Register,

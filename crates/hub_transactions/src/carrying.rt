@@ -1,4 +1,4 @@
-//! What comes of a message is carried out.
+//! Carries out the decision on a message.
 ghost use Rattle.std.specs.Prelude.{◌≡◌, IfOk};
 ghost use Rattle.hub_tables.specs.Tables.{Tables};
 ghost use Rattle.hub_acts.specs.HubLaw.Told.{told};
@@ -13,7 +13,7 @@ use hub_acts::texts::Decision;
 use hub_acts::{carry_out, told_of_verdict};
 use hub_store::{Store, StoreFault};
 
-/// What is told of a message.
+/// Returns the decision that the reply reports.
 pub(crate) fn told_of_judged(judged: &Judged) -> Decision
     ensures { (t : Tables) → (act_of judged.now t).0 ≡ told_of result }
 {
@@ -23,7 +23,7 @@ pub(crate) fn told_of_judged(judged: &Judged) -> Decision
     }
 }
 
-/// Carries out what comes of a message.
+/// Carries out the decision on a message, and returns what the reply reports.
 pub(crate) fn carry_out_judged<S: Store>(
     store: &mut S,
     judged: &Judged,

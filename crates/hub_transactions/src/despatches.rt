@@ -1,4 +1,4 @@
-//! What is known of a supplier's rows when a despatch advice is judged.
+//! Looks up what the rules need to know for a despatch advice.
 ghost use Rattle.std.specs.Prelude.{◌≡◌, ◌≢◌, ℕ, true, false, None, Err, List, ◌∷◌, ◌++◌, [], map, IsTrue, IfOk, OnOk};
 ghost use Rattle.edi_base.specs.Seen.{is_among};
 ghost use Rattle.hub_tables.specs.State.{knows_order, lines_of};
@@ -28,8 +28,8 @@ use hub_tables::Side;
 use std::alloc::Global;
 use std::collections::BTreeSet;
 
-// Looks up an order and those of its lines that have one of these numbers, by two look-ups, and puts it after others. False,
-// and nothing is put, where the rows do not pass.
+// Looks up an order and the lines with these numbers, in two look-ups, and adds them to the known orders. Returns
+// false, and adds nothing, if the rows cannot be used.
 fn put_by_number<S: Store>(
     alloc: Global,
     store: &mut S,
@@ -57,7 +57,7 @@ fn put_by_number<S: Store>(
     Ok(put)
 }
 
-// Puts an order's number after others.
+// Appends an order's number.
 fn put_apart<'a>(apart: &mut Items<&'a [u8]>, order: &'a [u8]) -> Result<(), MemoryFault>
     ensures { OnOk result (apart.new ≡ apart.old ++ order.entry ∷ []) }
 {
@@ -65,8 +65,8 @@ fn put_apart<'a>(apart: &mut Items<&'a [u8]>, order: &'a [u8]) -> Result<(), Mem
     Ok(())
 }
 
-// Looks up an order that is not yet known. If all its lines are named by their numbers, it reads these alone and notes the order
-// in `apart`; else it reads all lines, as it does where the rows of these do not pass.
+// Looks up an order that is not yet known. If all its lines are named by their numbers, reads only these and notes the
+// order in `apart`; otherwise, or if these rows cannot be used, reads all lines.
 fn know_order<'a, S: Store>(
     alloc: Global,
     store: &mut S,
@@ -105,7 +105,7 @@ fn know_order<'a, S: Store>(
     keep_order(alloc, store, supplier, order, orders)
 }
 
-// Looks up each of the orders, and puts them after others.
+// Looks up each of the orders that is not yet known.
 fn know_orders<'a, S: Store>(
     alloc: Global,
     store: &mut S,
@@ -146,7 +146,7 @@ pub(crate) fn forget_orders(orders: &mut KnownOrders, numbers: &[&[u8]])
     }
 }
 
-// Makes it quick to find the lines of a unit that are named by their articles.
+// Builds an index for the lines of a unit that are named by their articles.
 fn index_unit(alloc: Global, unit: &Unit, orders: &mut KnownOrders) -> Result<(), MemoryFault>
     ensures { orders.new ≡ orders.old }
 {
@@ -158,7 +158,7 @@ fn index_unit(alloc: Global, unit: &Unit, orders: &mut KnownOrders) -> Result<()
     Ok(())
 }
 
-// The same of each unit.
+// Builds an index for the lines of each unit.
 fn index_units(alloc: Global, units: &[Unit], orders: &mut KnownOrders) -> Result<(), MemoryFault>
     ensures { orders.new ≡ orders.old }
 {
@@ -168,7 +168,7 @@ fn index_units(alloc: Global, units: &[Unit], orders: &mut KnownOrders) -> Resul
     Ok(())
 }
 
-// Puts whether something is so after others.
+// Appends an answer.
 fn put_answer(answers: &mut Items<bool>, answer: bool) -> Result<(), MemoryFault>
     ensures { OnOk result (answers.new ≡ answers.old ++ answer ∷ []) }
 {
@@ -176,7 +176,7 @@ fn put_answer(answers: &mut Items<bool>, answer: bool) -> Result<(), MemoryFault
     Ok(())
 }
 
-// Whether the SSCC of each unit is used.
+// Looks up whether the SSCC of each unit is in use.
 fn used_of<S: Store>(
     alloc: Global,
     store: &mut S,
@@ -198,10 +198,10 @@ fn used_of<S: Store>(
     Ok(used)
 }
 
-/// What is known for a DESADV, by two look-ups; and, if nothing is remembered and its number is not known, by one for each
-/// unit and two for each order that it names and that is not kept (four where the lines that it names by number do not pass).
-/// The second part lists the orders that are known by these lines alone. Where the lines of an order do not rise by line
-/// number, or more of one is open, refused and cancelled than is ordered, it is unknown: `Unclean`.
+/// Looks up what the rules need for a DESADV, in two look-ups; and, if nothing is remembered and its number is new, in
+/// one more for each unit and two for each named order that is not kept (four if the lines named by number cannot be
+/// used). The second part of the result lists the orders that are known by such lines only. `Unclean`: an order's lines
+/// do not rise by line number, or more of one is open, refused and cancelled than is ordered.
 pub(crate) fn known_for_despatch<'a, S: Store>(
     alloc: Global,
     store: &mut S,

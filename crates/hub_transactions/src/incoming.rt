@@ -1,4 +1,4 @@
-//! What the rules ask of a message, beside what is read of it.
+//! Describes the circumstances of a message that the rules look at.
 ghost use Rattle.std.specs.Prelude.{◌≡◌, IfOk};
 ghost use Rattle.hub_acts.specs.HubLaw.Messages.{incoming};
 
@@ -8,7 +8,7 @@ use edi_tokens::body_text;
 use hub_judges::IncomingMessage;
 use std::alloc::Global;
 
-/// A message of an interchange that comes at a moment, as the rules see it.
+/// Returns a message of an interchange that arrives at a moment, as the rules see it.
 pub(crate) fn incoming_of(
     alloc: Global,
     moment: Moment,

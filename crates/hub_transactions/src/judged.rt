@@ -1,4 +1,4 @@
-//! What comes of a message: it is read, what is known of it is looked up, and it is judged.
+//! Decides on a message: reads it, looks up what the rules need, and applies them.
 ghost use Rattle.std.specs.Prelude.{◌≡◌, ◌≢◌, true, None, Err, IfOk, OnOk};
 ghost use Rattle.edi_orders.specs.Order.{order_of};
 ghost use Rattle.edi_orders.specs.Response.{response_of};
@@ -42,16 +42,16 @@ use hub_tables::Side;
 use std::alloc::Global;
 use std::mem;
 
-/// What comes of a message.
+/// The decision on a message.
 #[derive(Debug, Drop)]
 pub(crate) enum Judged {
-    /// It was read, and this is what the rules say.
+    /// It was read, and this is the verdict of the rules.
     Read(Verdict),
     /// It cannot be read.
     Unread(MessageFault),
 }
 
-// Refuses a message of a supplier that the rules refuse whatever is known. One look-up asks whether the store answers.
+// Refuses a supplier's message that the rules refuse whatever is known. One look-up checks that the store still works.
 fn refuse<S: Store>(
     store: &mut S,
     supplier: &Gln,
@@ -70,7 +70,7 @@ fn refuse<S: Store>(
     Ok(Judged::Read(Verdict::Refuse(code)))
 }
 
-// An ORDERS of the retailer.
+// Decides on an ORDERS of the retailer.
 fn judged_order<S: Store>(
     alloc: Global,
     register: &Register,
@@ -100,7 +100,7 @@ fn judged_order<S: Store>(
     Ok(Judged::Read(verdict))
 }
 
-// A RECADV of the retailer.
+// Decides on a RECADV of the retailer.
 fn judged_receipt<S: Store>(
     alloc: Global,
     register: &Register,
@@ -131,7 +131,7 @@ fn judged_receipt<S: Store>(
     Ok(Judged::Read(verdict))
 }
 
-// An ORDRSP of a supplier, of which these orders are kept.
+// Decides on an ORDRSP of a supplier; `orders` are those kept from earlier messages.
 fn judged_response<S: Store>(
     alloc: Global,
     register: &Register,
@@ -184,7 +184,7 @@ fn judged_response<S: Store>(
     Ok(Judged::Read(verdict))
 }
 
-// A DESADV of a supplier, of which these orders are kept.
+// Decides on a DESADV of a supplier; `orders` are those kept from earlier messages.
 fn judged_despatch<S: Store>(
     alloc: Global,
     register: &Register,
@@ -233,7 +233,7 @@ fn judged_despatch<S: Store>(
     Ok(Judged::Read(verdict))
 }
 
-/// What comes of a message of the retailer: an ORDERS or a RECADV, for the supplier that it names.
+/// Decides on a message of the retailer: an ORDERS or a RECADV, for the supplier that it names.
 pub(crate) fn judged_of_retailer<S: Store>(
     alloc: Global,
     register: &Register,
@@ -259,8 +259,8 @@ pub(crate) fn judged_of_retailer<S: Store>(
     }
 }
 
-/// What comes of a message of a supplier: an ORDRSP or a DESADV. The orders that are kept are looked up in no more, and those
-/// that it names are put after them; at a fault they may be forgotten.
+/// Decides on a message of a supplier: an ORDRSP or a DESADV. Orders that are kept are not looked up again, and those
+/// that the message names are kept too; after a fault they may be forgotten.
 pub(crate) fn judged_of_supplier<S: Store>(
     alloc: Global,
     register: &Register,

@@ -1,4 +1,4 @@
-//! The orders that are kept from one message of an upload to the next.
+//! Keeps orders from one message of an upload to the next.
 ghost use Rattle.std.specs.Prelude.{◌≡◌, ℕ, List};
 ghost use Rattle.hub_tables.specs.Change.{apply_all};
 ghost use Rattle.hub_tables.specs.Tables.{Tables, view};
@@ -10,10 +10,10 @@ use hub_judges::Verdict;
 use hub_order_lines::KnownOrders;
 use hub_tables::Change;
 
-// With more lines than so many, the orders that are kept are forgotten before the next message.
+// If more lines than this are kept, they are forgotten before the next message.
 const MOST_KEPT_LINES: usize = 400_000;
 
-// The changes that come of a message.
+// Returns the changes that a decision makes.
 fn changes_of(judged: &Judged) -> &[Change]
     ensures { (t : Tables) → (act_of judged.now t).1 ≡ apply_all result.now t }
 {
@@ -23,7 +23,7 @@ fn changes_of(judged: &Judged) -> &[Change]
     }
 }
 
-/// Follows what came of a message that was carried out: the orders that are kept are those of the tables after it.
+/// Updates the kept orders after a message was carried out: they are those of the tables after it.
 pub(crate) fn follow_message(judged: &Judged, orders: &mut KnownOrders)
     ensures { (supplier : List ℕ) (t : Tables) →
         KeepsOrders orders.old (view supplier t) →

@@ -1,4 +1,4 @@
-//! What is known of a supplier's rows when a message or a cancellation is judged.
+//! Looks up what the rules need to know of a supplier's rows for a message or a cancellation.
 ghost use Rattle.std.specs.Prelude.{◌≡◌, ◌≢◌, ◌⊎◌, ℕ, List, [], ◌∷◌, ◌++◌, map, true, false, None, Err, IfOk, IfErr, OnOk};
 ghost use Rattle.hub_tables.specs.State.{knows_order, lines_of, pallet_of};
 ghost use Rattle.hub_tables.specs.Tables.{view};
@@ -26,7 +26,7 @@ use hub_store::{Store, StoreFault};
 use hub_tables::{LineRow, PalletRow, Side};
 use std::alloc::Global;
 
-/// What is known for an ORDERS, by three look-ups.
+/// Looks up what the rules need for an ORDERS, in three look-ups.
 #[tactic(auto, using(crate::proofs::LookUps::mails_known))]
 pub(crate) fn known_for_order<S: Store>(
     alloc: Global,
@@ -59,7 +59,7 @@ pub(crate) fn known_for_order<S: Store>(
     })
 }
 
-// Puts what was looked up of an order after others. Where its lines do not pass it is unknown: `Unclean`.
+// Adds an order with the lines that were looked up. `Unclean` if its lines cannot be used.
 fn put_order(
     alloc: Global,
     order: &[u8],
@@ -78,9 +78,8 @@ fn put_order(
     }
 }
 
-/// Looks up an order and its lines, by two look-ups, and puts them after others; where the order is among these, nothing is
-/// looked up. Where lines do not rise by line number, or more of one is open, refused and cancelled than is ordered, it is
-/// unknown: `Unclean`.
+/// Looks up an order and its lines, in two look-ups, unless it is already known. `Unclean`: its lines do not rise by
+/// line number, or more of one is open, refused and cancelled than is ordered.
 pub(crate) fn keep_order<S: Store>(
     alloc: Global,
     store: &mut S,
@@ -113,8 +112,8 @@ pub(crate) fn keep_order<S: Store>(
     put_order(alloc, order, is_there, rows, orders)
 }
 
-// What is known of an order and its lines beside what is remembered and the orders that are kept; `Unclean` as `keep_order`
-// says.
+// Returns what is known of an order and its lines, besides what is remembered and the kept orders. `Unclean` as in
+// `keep_order`.
 fn known_of_order<S: Store>(
     alloc: Global,
     store: &mut S,
@@ -151,7 +150,7 @@ fn known_of_order<S: Store>(
     })
 }
 
-/// What is known of a supplier's message: what is remembered, whether its number is known, and orders.
+/// Returns what is known for a supplier's message: what is remembered, whether its number is known, and orders.
 pub(crate) fn known_with(
     alloc: Global,
     remembered: Option<Items<u8>>,
@@ -172,7 +171,7 @@ pub(crate) fn known_with(
     }
 }
 
-// Whether a line is answered by its article alone.
+// Whether a line is named only by its article.
 fn names_an_article(answer: &Answer) -> bool {
     match answer {
         Answer::AllAccepted | Answer::AllRefused => false,
@@ -180,8 +179,9 @@ fn names_an_article(answer: &Answer) -> bool {
     }
 }
 
-// The order that an ORDRSP answers, by two look-ups: whether it is there, and the lines alone that are named by their numbers. None
-// where it is kept, a line is named by its article, the whole order is answered, or the rows do not pass.
+// Looks up the order that an ORDRSP answers, in two look-ups: whether it exists, and only the lines named by their
+// numbers. Returns `None` if the order is kept, a line is named by its article, the whole order is answered, or the
+// rows cannot be used.
 fn named_lines<S: Store>(
     alloc: Global,
     store: &mut S,
@@ -214,9 +214,10 @@ fn named_lines<S: Store>(
     }
 }
 
-/// What is known for an ORDRSP, by one look-up, and two more where nothing is remembered and its order is not kept; and the orders
-/// that are kept, where the order is known by the lines alone that it names by their numbers. `Unclean` where the order's lines do
-/// not rise by line number, or more of one is open, refused and cancelled than is ordered.
+/// Looks up what the rules need for an ORDRSP, in one look-up, and two more if nothing is remembered and its order is
+/// not kept. Also returns the orders kept before, if the order is known only by the lines that are named by their
+/// numbers. `Unclean`: the order's lines do not rise by line number, or more of one is open, refused and cancelled than
+/// is ordered.
 pub(crate) fn known_for_response<S: Store>(
     alloc: Global,
     store: &mut S,
@@ -258,7 +259,7 @@ pub(crate) fn known_for_response<S: Store>(
     Ok((known, None))
 }
 
-/// What is known for a cancellation, by three look-ups; `Unclean` as for an ORDRSP.
+/// Looks up what the rules need for a cancellation, in three look-ups. `Unclean` as for an ORDRSP.
 pub(crate) fn known_for_cancel<S: Store>(
     alloc: Global,
     store: &mut S,
@@ -285,7 +286,7 @@ pub(crate) fn known_for_cancel<S: Store>(
     Ok(known)
 }
 
-// Puts a pallet, or that there is none, after others.
+// Appends a pallet, or that there is none.
 fn put_pallet(
     pallets: &mut Items<Option<PalletRow>>,
     pallet: Option<PalletRow>,
@@ -296,7 +297,7 @@ fn put_pallet(
     Ok(())
 }
 
-// The pallet of each unit that was received.
+// Looks up the pallet of each received unit.
 fn pallets_of<S: Store>(
     alloc: Global,
     store: &mut S,
@@ -320,7 +321,7 @@ fn pallets_of<S: Store>(
     Ok(pallets)
 }
 
-/// What is known for a RECADV, by two look-ups and one for each unit.
+/// Looks up what the rules need for a RECADV, in two look-ups and one for each unit.
 #[tactic(auto, using(crate::proofs::LookUps::mails_known))]
 pub(crate) fn known_for_receipt<S: Store>(
     alloc: Global,

@@ -1,4 +1,4 @@
-//! Laws of acts, each the contract of a function without a body.
+//! States laws of acts, each as the contract of a function without a body.
 ghost use Rattle.std.specs.Prelude.{◌≡◌, true, ℕ, List};
 ghost use Rattle.edi_envelope.specs.declared.interchange.RawMessage.{RawMessage};
 ghost use Rattle.edi_goods.specs.declared.despatch.Unit.{Unit};
@@ -17,14 +17,15 @@ ghost use Rattle.hub_transactions.specs.Status.{StatusUnclean, TooMuchReceived};
 use hub_acts::texts::status_is_given_what_it_asks;
 use hub_judges::judges_are_given_what_they_ask;
 
-/// What is read of the body of a cancellation is within the limits of what it says.
+/// What is read of a cancellation is within the limits of its parts.
 pub fn cancellations_read_are_within_limits()
     ensures { (body : List ℕ) (cancel : Cancel) → cancel_of body ≡ Some cancel → WithinCancel cancel }
 {}
 
-/// Of sound tables, what a supplier's message or cancellation and its status ask of the rows that it sees can be known:
-/// the lines of one order, or of the orders that an advice names, step up and are covered by what is ordered; and
-/// where all rows are of the kinds, a status is kept back only where what was received of a pallet is past 64 bits.
+/// In sound tables, everything that a supplier's message, a cancellation and a status look up in the supplier's rows
+/// can be used: the lines of an order, or of the orders that an advice names, rise by line number and are covered by
+/// what is ordered. And if all rows have the form of their kind, the only status that cannot be written is one with a
+/// pallet whose received pieces exceed 64 bits.
 pub fn lines_of_sound_tables_are_known()
     ensures order { (suppliers : List SupplierRow) (gln order : List ℕ) (t : Tables) →
         Sound suppliers t → AreUnclean (lines_of (view gln t) order) → ⊥ }

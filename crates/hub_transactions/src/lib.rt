@@ -1,5 +1,5 @@
-//! What one message or cancellation does over a store, and the status of a supplier: what of it is known is looked up,
-//! it is judged, and what comes of it is committed as one act.
+//! Handles one message or cancellation over a store: looks up what the rules need, decides, and commits the changes as
+//! one act. Also writes the status of a supplier.
 #![tactic(auto)]
 
 mod cancel;

@@ -1,4 +1,4 @@
-//! One message of an interchange.
+//! Handles one message of an interchange.
 ghost use Rattle.std.specs.Prelude.{◌≡◌, OnOk};
 ghost use Rattle.hub_tables.specs.Tables.{Tables, view};
 ghost use Rattle.hub_rules.specs.Laws.{SoundUnder, PartiesRise};
@@ -26,8 +26,8 @@ use hub_register::Register;
 use hub_store::{Store, StoreFault};
 use std::alloc::Global;
 
-// Carries out what comes of a message, and puts its line after the others. Room for it and for the line `stopped` is taken
-// before anything is done.
+// Carries out the decision on a message, and appends its line to the reply. Room for it and for the line `stopped` is
+// taken before anything is done.
 fn commit_and_tell<S: Store>(
     alloc: Global,
     store: &mut S,
@@ -52,9 +52,9 @@ fn commit_and_tell<S: Store>(
     Ok(told)
 }
 
-/// Takes a message of the retailer: reads and judges it, commits what comes of it as one act, and puts its line after
-/// the others of the reply. At a fault nothing was done, and no line is there. Where the reply had room for the
-/// line `stopped`, it has so after it.
+/// Handles a message of the retailer: reads it, decides, commits its changes as one act, and appends its line to the
+/// reply. After a fault nothing is done, and no line is appended. If the reply had room for the line `stopped` before,
+/// it still has.
 pub fn take_retailers_message<S: Store>(
     alloc: Global,
     register: &Register,
@@ -82,9 +82,9 @@ pub fn take_retailers_message<S: Store>(
     commit_and_tell(alloc, store, message, &judged, reply)
 }
 
-/// Takes a message of a supplier, as `take_retailers_message` does one of the retailer. Orders of the supplier that were looked
-/// up for messages before it are kept: each is looked up once, and follows what is committed. None at first is what
-/// `KnownOrders::new` gives; at a fault they may be forgotten.
+/// Handles a message of a supplier, as `take_retailers_message` does one of the retailer. `orders` keeps the supplier's
+/// orders that earlier messages looked up, so each is looked up once; it follows what is committed. Begin with
+/// `KnownOrders::new`; after a fault the orders may be forgotten.
 pub fn take_suppliers_message<S: Store>(
     alloc: Global,
     register: &Register,

@@ -1,4 +1,4 @@
-//! The orders that a despatch advice names.
+//! Finds the orders that a despatch advice names.
 ghost use Rattle.std.specs.Prelude.{◌≡◌, ℕ, ◌||◌, List, map, IfOk, OnOk};
 ghost use Rattle.std.specs.List.{list_any};
 ghost use Rattle.std.specs.BTreeSet.{IsOrdered};
@@ -12,7 +12,7 @@ use edi_goods::{DespatchLine, Unit};
 use std::alloc::Global;
 use std::collections::BTreeSet;
 
-// Puts the orders that the lines of a unit name into a set.
+// Adds the orders that the lines of a unit name to a set.
 fn put_orders<'a>(
     lines: &'a [DespatchLine],
     orders: &mut BTreeSet<&'a [u8]>,
@@ -29,7 +29,7 @@ fn put_orders<'a>(
     Ok(())
 }
 
-/// The orders that the lines of an advice name, each once, in the order of their numbers' bytes.
+/// Returns the orders that the lines of an advice name, each once, in the order of their numbers' bytes.
 pub(crate) fn orders_named<'a>(
     alloc: Global,
     units: &'a [Unit],

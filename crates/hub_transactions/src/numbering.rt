@@ -1,4 +1,4 @@
-//! The lines of orders that a message of a supplier names by their numbers.
+//! Finds the order lines that a supplier's message names by their numbers.
 ghost use Rattle.std.specs.Prelude.{◌≡◌, ℕ, true, Option, Some, IfOk, OnOk};
 ghost use Rattle.std.specs.List.{AllByRecursion};
 ghost use Rattle.std.specs.Option.{IfSome};
@@ -10,7 +10,7 @@ use edi_orders::{Answer, AnswerLine};
 use std::alloc::Global;
 use std::collections::{BTreeMap, BTreeSet};
 
-// The numbers of the lines that are answered, each once. None where one is named by its article.
+// Returns the numbers of the answered lines, each once, or `None` if one is named by its article.
 fn numbers_of(alloc: Global, said: &[AnswerLine]) -> Result<Option<BTreeSet<u32>>, MemoryFault>
     ensures { IfOk result (λ named. IfSome named (λ numbers.
         AllByRecursion (λ line. has_number numbers.keys line.order_line ≡ true) said.now)) }
@@ -25,7 +25,8 @@ fn numbers_of(alloc: Global, said: &[AnswerLine]) -> Result<Option<BTreeSet<u32>
     Ok(Some(numbers))
 }
 
-/// The numbers by which an ORDRSP names lines, each once. None where it names one by its article, or answers the whole order.
+/// Returns the numbers by which an ORDRSP names lines, each once, or `None` if it names one by its article or answers
+/// the whole order.
 pub(crate) fn numbers_named(
     alloc: Global,
     answer: &Answer,
@@ -38,7 +39,7 @@ pub(crate) fn numbers_named(
     }
 }
 
-/// The lines of an order that an advice names: those of these numbers, and perhaps some by their articles.
+/// The lines of an order that an advice names: those with these numbers, and perhaps some by their articles.
 #[derive(Debug, Drop)]
 pub(crate) struct LinesNamed {
     by_article: bool,
@@ -46,7 +47,7 @@ pub(crate) struct LinesNamed {
 }
 
 impl LinesNamed {
-    // No line.
+    // Returns no lines.
     fn new(alloc: Global) -> LinesNamed {
         LinesNamed {
             by_article: false,
@@ -54,7 +55,7 @@ impl LinesNamed {
         }
     }
 
-    // Puts a line after others: the one of a number, or where none is given one that is named by its article.
+    // Adds a line by its number or, without one, by its article.
     fn add(&mut self, line: Option<u32>) -> Result<(), MemoryFault>
         ensures added { OnOk result (is_named (Some self.new) line ≡ true) }
         ensures others { OnOk result ((other : Option ℕ) →
@@ -70,10 +71,10 @@ impl LinesNamed {
     }
 }
 
-/// The lines that an advice names of each order.
+/// The lines of each order that an advice names.
 pub(crate) type LinesOfOrders<'a> = BTreeMap<&'a [u8], LinesNamed>;
 
-// Puts a line of an advice after others.
+// Adds a line of an advice.
 fn put_line<'a>(
     alloc: Global,
     line: &'a DespatchLine,
@@ -92,7 +93,7 @@ fn put_line<'a>(
     Ok(())
 }
 
-// Puts the lines of a unit after others.
+// Adds the lines of a unit.
 fn put_lines<'a>(
     alloc: Global,
     lines: &'a [DespatchLine],
@@ -107,7 +108,7 @@ fn put_lines<'a>(
     Ok(())
 }
 
-/// The lines that the units of an advice name.
+/// Returns the lines that the units of an advice name.
 pub(crate) fn lines_named<'a>(
     alloc: Global,
     units: &'a [Unit],
@@ -121,7 +122,7 @@ pub(crate) fn lines_named<'a>(
     Ok(named)
 }
 
-/// The numbers by which an advice names the lines of an order. None where it names one by its article.
+/// Returns the numbers by which an advice names the lines of an order, or `None` if it names one by its article.
 pub(crate) fn numbers_alone<'n>(
     named: &'n LinesOfOrders<'_>,
     order: &[u8],

@@ -1,4 +1,4 @@
-//! The status report of a supplier.
+//! Writes the status report of a supplier.
 ghost use Rattle.std.specs.Prelude.{◌≡◌, ◌≢◌, ◌⊎◌, ◌++◌, [], true, None, Err, IfOk, IfErr, OnOk};
 ghost use Rattle.std.specs.List.{flat_map};
 ghost use Rattle.hub_parties.specs.KeyOrder.{Rises};
@@ -25,7 +25,7 @@ use hub_store::{Store, StoreFault};
 use hub_tables::{Arrival, ContentRow, LineRow, PalletRow, ReceiptRow};
 use std::alloc::Global;
 
-// A text with the lines of a pallet behind it.
+// Appends the lines of a pallet to a text.
 fn with_text(
     alloc: Global,
     lines: &[LineRow],
@@ -49,7 +49,7 @@ fn with_text(
     }
 }
 
-// What was received of a pallet. Of one that is announced nothing was, and nothing is looked up.
+// Looks up what was received of a pallet. An announced pallet needs no look-up, because nothing was received of it.
 fn received_of<S: Store>(
     alloc: Global,
     store: &mut S,
@@ -72,7 +72,7 @@ fn received_of<S: Store>(
     Ok(received)
 }
 
-// A text with the lines of pallets behind it, with what is looked up of each.
+// Looks up each pallet, and appends its lines to a text.
 fn with_pallets<S: Store>(
     alloc: Global,
     store: &mut S,
@@ -102,8 +102,8 @@ fn with_pallets<S: Store>(
     Ok(whole)
 }
 
-/// The status report of a supplier: its lines, then its pallets, by two look-ups, one for each pallet and one more for each that
-/// was received. Where rows do not rise by order number and line number, or a content names no line, there is none: `Unclean`.
+/// Writes the status report of a supplier: its lines, then its pallets, in two look-ups, one for each pallet and one
+/// more for each received one. `Unclean`: rows do not rise by order number and line number, or a content names no line.
 pub fn status_report<S: Store>(
     alloc: Global,
     store: &mut S,

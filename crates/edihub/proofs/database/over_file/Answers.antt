@@ -1,7 +1,7 @@
 use Rattle.std.proofs.Common.{◌≡◌, Result, Ok, Err, IfOk, MatchResult, IsErrAnd, subst}
 use Rattle.edihub.proofs.database.over_file.Goals as goal
 
--- what is true of a value is true of it behind a mapped error
+-- what holds of a value still holds after an error was mapped
 behind : {X E D : Type 0} (P : X → Type 0) (Q : E → D → Type 0) (given : Result X E) (mapped : Result X D) (x : X) → IfOk given P
     → MatchResult given (λ y. mapped ≡ Ok y) (λ e. IsErrAnd mapped (Q e)) → mapped ≡ Ok x → P x
 behind P Q (Ok y) mapped x holds cases is = let same : y ≡ x = cc in subst P same holds

@@ -6,7 +6,7 @@ use Rattle.hub_store.specs.Clean.{are_clean}
 use Rattle.hub_clean.proofs.Verdicts.{row_there}
 use Rattle.hub_acts.proofs.join.let_in.Goals as goal
 
--- it goes as it came
+-- it leaves as it came
 pub leave-requires : goal.leave-requires
 leave-requires g c =
     let register = c.args.register.now in

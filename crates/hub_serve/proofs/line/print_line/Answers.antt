@@ -7,7 +7,7 @@ use Rattle.hub_serve.specs.Line.{end_of, line_of}
 use Rattle.hub_serve.specs.declared.line.Ending.{Ending}
 use Rattle.hub_serve.proofs.line.print_line.Goals as goal
 
--- the text of a line, from its front on
+-- the text of a line, from its beginning
 whole : (number : ℕ) (ending : Ending)
     → (codes "connection " ++ (decimal number ++ codes " ")) ++ end_of ending ≡ line_of number ending
 whole number ending = ap (λ (t : List ℕ). codes "connection " ++ t) (append_assoc (decimal number) (codes " ") (end_of ending))

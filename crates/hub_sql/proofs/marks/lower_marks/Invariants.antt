@@ -3,7 +3,7 @@ use Rattle.std.specs.BTreeMap.{btree_map_len}
 use Rattle.hub_sql.specs.Marks.{mark_after_all, mark_of}
 use Rattle.hub_sql.proofs.marks.lower_marks.Given as goal
 
--- the rest of the changes lowers the marks so far to those that all of them do
+-- the remaining changes lower the marks so far to those that all changes lead to
 abbrev pub invariant-loop-change : goal.invariant-loop-change
 invariant-loop-change l = record {
   few : btree_map_len l.marks ≤ btree_map_len l.fn.marks;

@@ -7,7 +7,7 @@ use Rattle.hub_transactions.specs.Named.{names_line}
 use Rattle.hub_transactions.specs.Orders.{KeepsAsked}
 use Rattle.hub_transactions.proofs.despatches.know_orders.Given as goal
 
--- each order that is named is known, or is to come
+-- each named order is known, or still to be looked up
 abbrev pub invariant-loop-number : goal.invariant-loop-number
 invariant-loop-number g l = record {
   stays : Stays g.S.Store l.fn.store l.store;

@@ -18,7 +18,7 @@ use Rattle.hub_transactions.proofs.despatches.known_for_despatch.Goals.{After-in
 use Rattle.hub_transactions.proofs.despatches.known_for_despatch.Goals.{then-is_some-via-then-is_some}
 use Rattle.hub_transactions.proofs.despatches.known_for_despatch.Goals.{then-is_some-via-else-is_some+then-number_known}
 
--- what is known then of the orders that are named
+-- what is then known of the named orders
 asked : (g : given.Over) (c : After-index_units g)
     → g.S.Store.honest c.know_orders.new.store
     → KeepsOrders c.args.orders (view c.args.supplier.now (g.S.Store.content c.args.store.now))

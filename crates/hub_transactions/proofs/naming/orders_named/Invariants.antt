@@ -5,7 +5,7 @@ use Rattle.hub_transactions.specs.Named.{by_number}
 use Rattle.hub_judges.specs.Known.{names_order}
 use Rattle.hub_transactions.proofs.naming.orders_named.Given as goal
 
--- an order is one of those in the set, or of those that the units that are left name
+-- an order is in the set, or the remaining units name it
 abbrev pub invariant-loop-unit : goal.invariant-loop-unit
 invariant-loop-unit l = record {
   orders : (order : List ℕ)

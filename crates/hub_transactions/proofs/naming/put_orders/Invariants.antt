@@ -6,7 +6,7 @@ use Rattle.hub_transactions.specs.Named.{by_number}
 use Rattle.hub_tables.specs.Rows.{same}
 use Rattle.hub_transactions.proofs.naming.put_orders.Given as goal
 
--- an order is one of those in the set, or of those that the lines that are left name
+-- an order is in the set, or the remaining lines name it
 abbrev pub invariant-loop-line : goal.invariant-loop-line
 invariant-loop-line l = record {
   orders : (order : List ℕ) →

@@ -3,7 +3,7 @@ use Rattle.std.specs.List.{AllByRecursion}
 use Rattle.hub_transactions.specs.Named.{LinesOfOrders, NamesLines, NamesMore}
 use Rattle.hub_transactions.proofs.numbering.lines_named.Given as goal
 
--- where what is named later has the units so far and those that are left, it has all
+-- if the units so far and the remaining ones are named in the end, all units are
 abbrev pub invariant-loop-unit : goal.invariant-loop-unit
 invariant-loop-unit l = (later : LinesOfOrders) → NamesMore l.named.entries later
     → AllByRecursion (λ unit. NamesLines later unit.lines) (drop l.unit-index l.units)

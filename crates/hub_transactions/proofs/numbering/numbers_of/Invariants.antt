@@ -4,7 +4,7 @@ use Rattle.edi_base.specs.Seen.{comes_among}
 use Rattle.hub_transactions.specs.Named.{has_number}
 use Rattle.hub_transactions.proofs.numbering.numbers_of.Given as goal
 
--- where the lines that are left are named by numbers that have those so far, all are
+-- if the remaining lines are named by numbers that include those so far, all lines are
 abbrev pub invariant-loop-line : goal.invariant-loop-line
 invariant-loop-line l = (later : List ℕ)
     → ((number : ℕ) → comes_among nat_eq number l.numbers.keys ≡ true → comes_among nat_eq number later ≡ true)

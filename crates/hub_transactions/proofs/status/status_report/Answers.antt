@@ -36,7 +36,7 @@ returns-clause-reply g c = λ honest kept.
     let third_text = c.in_ok-extend_from_slice.ensures.items ∙ ap (λ xs. xs ++ codes "end\n") second_text in
     c.done_reply.ensures ∙ ap done (c.from_vec-body.ensures ∙ third_text ∙ sym (report_is state))
 
--- a pallet of which nothing can be told, as the supplier sees it
+-- a pallet whose pieces cannot be counted, as the supplier sees it
 unclean_of : (g : given.Over) (c : In_err-text g)
     → g.S.Store.honest c.with_pallets.new.store
     → PalletUnclean (g.S.Store.content c.all_pallets.new.self) c.as_slice-lines.result.now c.as_slice-pallets.result.now

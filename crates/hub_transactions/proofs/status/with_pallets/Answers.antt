@@ -39,7 +39,7 @@ loop-pallet-preserved g c =
           ∙ before.text first state same sees;
     }
 
--- the pallet at which it stops
+-- the pallet at which the report stops
 unclean_pallet : (g : given.Over) (c : In_err-whole g)
     → IsUnclean c.args.lines.now c.as_slice-contents.result.now c.as_slice-receipts.result.now
     → g.S.Store.honest c.received_of.new.store

@@ -11,7 +11,7 @@ use Rattle.hub_core.proofs.Steps.{replied, asked_with}
 use Rattle.hub_core.proofs.Stopping.{stopped_at_once}
 use Rattle.hub_core.proofs.hub.Hub.reply_to.Goals as goal
 
--- no memory even for the word
+-- there is no memory even for the word
 pub returns-in_default : goal.returns-in_default
 returns-in_default g c =
     let input = input_of c.args.moment c.args.caller.now c.args.key.now c.args.request.now in

@@ -11,7 +11,7 @@ use Rattle.hub_core.proofs.Steps.{replied, asked_with}
 use Rattle.hub_core.proofs.Stopping.{stopped_at_once}
 use Rattle.hub_core.proofs.hub.Hub.step_opened.Goals as goal
 
--- What the hub's parts leave is what the hub does.
+-- What the hub does is what its parts do.
 
 pub returns-in_default-clause-stepped : goal.returns-in_default-clause-stepped
 returns-in_default-clause-stepped g c bytes opens =
