@@ -122,7 +122,7 @@ module _ (t : Tables) (clean : are_clean t ≡ true) (hub : SoundHub t) where
       any_true false = refl
 
   pub shows_none : (kind : RowKind) (key : Key) → ShowsUnsound t kind key → ⊥
-  shows_none Hub key it = it hub.register
+  shows_none Hub key it = it.0 hub.register
   shows_none Pallet key it = absurd (let holds = rooted_fits it.0 it.1 in let fails = it.2 in cc)
   shows_none Line key (inl it) = absurd (let holds = ordered_line it.0 it.1 in let fails = it.2 in cc)
   shows_none Line key (inr it) =

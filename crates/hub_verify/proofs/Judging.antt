@@ -1,5 +1,5 @@
 -- What is told of the register, and of all.
-use Rattle.std.proofs.Common.{◌≡◌, true, false, List, Option, None, Some, Ok, refl, sym, subst}
+use Rattle.std.proofs.Common.{◌≡◌, true, false, List, [], Option, None, Some, Ok, refl, sym, subst}
 use Rattle.std.specs.List.{AllByRecursion, list_all}
 use Rattle.hub_founding.specs.Fits.{fits_pallet}
 use Rattle.hub_founding.specs.Founding.{IsHeldBy}
@@ -22,11 +22,12 @@ use Rattle.hub_verify.specs.declared.verdict.Verdict.TheVariants.{Sound, Unclean
 use Rattle.hub_verify.proofs.Telling.{follows, then}
 
 module _ {S : Type 0} (content : S → Tables) (honest : S → Type 0) where
-  pub no_register_told : (old mid : S) (held : Option RegisterRows) → held ≡ None → (found : Finding) → found.kind ≡ kinds.Hub
+  pub no_register_told : (old mid : S) (held : Option RegisterRows) → held ≡ None → (found : Finding)
+      → (found.kind ≡ kinds.Hub) × (found.key ≡ [])
       → Tells content honest IsRegistered old mid (Ok held) → Tells content honest (ToldUnsound PartiesFit) old mid (Ok (Some found))
   no_register_told old mid held none found hub =
       follows content honest IsRegistered (ToldUnsound PartiesFit) old mid held (Some found)
-      (λ t h. subst (λ kind. ShowsUnsound t kind found.key) (sym hub) (subst (IsHeldBy t) none h))
+      (λ t h. subst (λ kind. ShowsUnsound t kind found.key) (sym hub.0) (subst (IsHeldBy t) none h, hub.1))
 
   pub parties_told : (old mid new : S) (held : Option RegisterRows) (register : RegisterRows) → held ≡ Some register
       → (found : Option Finding)

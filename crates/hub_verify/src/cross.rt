@@ -1,5 +1,5 @@
 //! Looks for a row that lacks what it names.
-ghost use Rattle.std.specs.Prelude.{◌≡◌, true, not, find, IfOk, option_copied};
+ghost use Rattle.std.specs.Prelude.{◌≡◌, [], true, not, find, IfOk, option_copied};
 ghost use Rattle.std.specs.List.{list_all};
 ghost use Rattle.gs1_ids.specs.Sscc.{under_some};
 ghost use Rattle.hub_founding.specs.Fits.{fits_pallet};
@@ -249,7 +249,7 @@ fn unrooted_pallet<S: AllRows>(
 
 // Says that no register is held.
 fn no_register(alloc: Global) -> Finding
-    ensures { result.kind ≡ kinds.Hub }
+    ensures { (result.kind ≡ kinds.Hub) × (result.key ≡ []) }
 {
     Finding {
         kind: RowKind::Hub,
