@@ -86,10 +86,14 @@ unequal Less = refl
 unequal Equal = refl
 unequal Greater = refl
 
+pub cell_differs : (v : Value) (n : ℕ) → n < 2 ^ 64 → IsOf kind.Integer v
+    → is_true (binary (Compare Ne Binary) v (Int (pos n))) ≡ not (number_in v == n)
+cell_differs v n low it =
+    cell_test Ne v n it ∙ unequal (int_cmp it.0 (pos n)) ∙ ap not
+    (same_natural it.0 n low ∙ ap (λ m. m == n) (sym (ap number_in it.1)))
+
 pub cell_untaken : (v : Value) → IsOf kind.Integer v → is_true (binary (Compare Ne Binary) v (Int (pos 1))) ≡ not (number_in v == 1)
-cell_untaken v it =
-    cell_test Ne v 1 it ∙ unequal (int_cmp it.0 (pos 1)) ∙ ap not
-    (same_natural it.0 1 (omega arith) ∙ ap (λ n. n == 1) (sym (ap number_in it.1)))
+cell_untaken v it = cell_differs v 1 (omega arith) it
 
 natural_rank : (a b : ℕ) → int_cmp (pos a) (pos b) ≡ nat_cmp (natural (pos a)) (natural (pos b))
 natural_rank a b = elim (cases_Bool (nat_lt a (2 ^ 64))) [

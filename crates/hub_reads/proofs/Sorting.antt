@@ -34,7 +34,7 @@ has_contains (y ∷ ys) x h = elim h [
       (suc c.0, omega (arith, c.1), c.2)
 ]
 
-permuted_has : {X : Type 0} (xs ys : List X) → IsPermutation xs ys → (x : X) → Has xs x → Has ys x
+pub permuted_has : {X : Type 0} (xs ys : List X) → IsPermutation xs ys → (x : X) → Has xs x → Has ys x
 permuted_has xs ys p x h = let c = Contains-permutation xs ys x p (has_contains xs x h) in contains_has ys x c.0 c.1 c.2
 
 -- Inserting moves rows.

@@ -15,7 +15,7 @@ use sqlite::{Alter, Connection, Row};
 use std::alloc::Global;
 
 /// Returns the rows of an answer.
-pub(crate) fn ask<S: Alter>(
+pub fn ask<S: Alter>(
     conn: &mut Connection<S>,
     text: &str,
     params: &[ValueRef<'_>],
@@ -32,7 +32,7 @@ pub(crate) fn ask<S: Alter>(
 }
 
 /// Whether the answer has a row.
-pub(crate) fn has_row<S: Alter>(
+pub fn has_row<S: Alter>(
     conn: &mut Connection<S>,
     text: &str,
     params: &[ValueRef<'_>],

@@ -3,24 +3,27 @@
 ghost use Rattle.std.specs.Prelude.{◌≡◌, ◌⊎◌, Bool, false, IsTrue, IfOk, IfErr, IfSome, Err, map, slice_get};
 ghost use Rattle.std.specs.List.{list_all};
 ghost use Rattle.hub_store.specs.Clean.{clean_line, clean_pallet, clean_content, clean_receipt, clean_mail, clean_head};
-ghost use Rattle.hub_store.specs.Clean.{clean_hub, clean_key, clean_prefix};
+ghost use Rattle.hub_store.specs.Clean.{clean_hub, clean_key, clean_prefix, clean_order, clean_advice, clean_remembered};
 ghost use Rattle.hub_reads.specs.Shown.{shown_line, shown_pallet, shown_content, shown_receipt, shown_mail, shown_head};
-ghost use Rattle.hub_reads.specs.Shown.{shown_hub, shown_key, shown_prefix};
+ghost use Rattle.hub_reads.specs.Shown.{shown_hub, shown_key, shown_prefix, shown_order, shown_advice, shown_remembered};
 ghost use Rattle.sqlite_value.specs.Order.{Row as Values};
 
 use crate::values::{
-    bytes_at, case_at, decimal_at, document_at, gln_again, gln_at, gtin_at, key_at, moment_at,
-    prefix_at, sscc_at, within_at,
+    bytes_at, case_at, decimal_at, document_at, gln_again, gln_at, gtin_at, key_at, message_at,
+    moment_at, prefix_at, reference_at, sscc_at, within_at,
 };
 use edi_base::{GREATEST, Items};
 use edi_envelope::LAST_MAIL_NUMBER;
 use hub_store::{MailHead, StoreFault};
-use hub_tables::{ContentRow, HubRow, KeyRow, LineRow, MailRow, PalletRow, PrefixRow, ReceiptRow};
+use hub_tables::{
+    AdviceRow, ContentRow, HubRow, KeyRow, LineRow, MailRow, OrderRow, PalletRow, PrefixRow,
+    ReceiptRow, RememberedRow,
+};
 use sqlite::Row;
 use std::alloc::Global;
 
 /// A row of one kind, as a query shows it.
-pub(crate) trait Shown: Drop {
+pub trait Shown: Drop {
     /// The row that the cells stand for.
     ghost shown: { Values → Self };
 
@@ -75,6 +78,32 @@ impl Shown for PrefixRow {
         let prefix = prefix_at(row, 0)?;
         let supplier = gln_at(row, 1)?;
         Ok(PrefixRow { prefix, supplier })
+    }
+}
+
+impl Shown for OrderRow {
+    ghost shown = { shown_order };
+
+    ghost clean = { clean_order };
+
+    #[tactic(auto, using(crate::proofs::Unclean::first_fails, crate::proofs::Unclean::later_fails))]
+    fn of_row(row: &Row, before: Option<&Self>) -> Result<Self, StoreFault> {
+        let supplier = gln_again(row, 0, before.map(|order| &order.supplier))?;
+        let number = document_at(row, 1)?;
+        Ok(OrderRow { supplier, number })
+    }
+}
+
+impl Shown for AdviceRow {
+    ghost shown = { shown_advice };
+
+    ghost clean = { clean_advice };
+
+    #[tactic(auto, using(crate::proofs::Unclean::first_fails, crate::proofs::Unclean::later_fails))]
+    fn of_row(row: &Row, before: Option<&Self>) -> Result<Self, StoreFault> {
+        let supplier = gln_again(row, 0, before.map(|advice| &advice.supplier))?;
+        let number = document_at(row, 1)?;
+        Ok(AdviceRow { supplier, number })
     }
 }
 
@@ -168,6 +197,28 @@ impl Shown for ReceiptRow {
             accepted: accepted as u32,
             returned: returned as u32,
             destroyed: destroyed as u32,
+        })
+    }
+}
+
+impl Shown for RememberedRow {
+    ghost shown = { shown_remembered };
+
+    ghost clean = { clean_remembered };
+
+    #[tactic(auto, using(crate::proofs::Unclean::first_fails, crate::proofs::Unclean::later_fails))]
+    fn of_row(row: &Row, before: Option<&Self>) -> Result<Self, StoreFault> {
+        let supplier = gln_again(row, 0, before.map(|message| &message.supplier))?;
+        let side = case_at(row, 1)?;
+        let control = reference_at(row, 2)?;
+        let message = message_at(row, 3, &side)?;
+        let content = bytes_at(row, 4)?;
+        Ok(RememberedRow {
+            supplier,
+            side,
+            control,
+            message,
+            content,
         })
     }
 }

@@ -1,14 +1,17 @@
 //! Reads the cells of a row as values of the hub.
 ghost use Rattle.std.specs.List.{list_any};
-ghost use Rattle.std.specs.Prelude.{◌≡◌, ◌==◌, ◌≢◌, ◌⊎◌, ◌≤◌, ◌^◌, ◌∷◌, [], false, Err, nat_le, IfOk, IfErr, IsTrue};
+ghost use Rattle.std.specs.Prelude.{◌≡◌, ◌==◌, ◌≢◌, ◌⊎◌, ◌≤◌, ◌^◌, ◌∷◌, [], false, not, Err, nat_le, IfOk, IfErr, IsTrue};
 ghost use Rattle.edi_segments.specs.Service.{is_decimal};
+ghost use Rattle.edi_envelope.specs.Limits.{is_reference};
 ghost use Rattle.edi_moment.specs.Moment.{last_moment};
 ghost use Rattle.gs1_ids.specs.Digits.{is_key};
 ghost use Rattle.gs1_ids.specs.Gln.{is_gln};
 ghost use Rattle.gs1_ids.specs.Prefix.{is_prefix};
 ghost use Rattle.hub_parties.specs.Key.{is_party_key};
-ghost use Rattle.hub_store.specs.Clean.{is_within, is_number, are_bytes};
+ghost use Rattle.hub_store.specs.Clean.{is_within, is_message, is_number, are_bytes};
 ghost use Rattle.hub_schema.specs.Cells.{bytes_in, number_in};
+ghost use Rattle.hub_tables.specs.Cases.{side_letter};
+ghost use Rattle.hub_tables.specs.declared.cases.Side.TheVariants as sides;
 ghost use Rattle.sqlite_value.specs.Order.{column};
 
 use edi_base::{Items, all_printable, has_length};
@@ -16,7 +19,7 @@ use edi_envelope::Moment;
 use gs1_ids::{Gln, Gtin, Prefix, Sscc};
 use hub_parties::Key;
 use hub_store::StoreFault;
-use hub_tables::{Case, Column};
+use hub_tables::{Case, Column, Side};
 use sqlite::types::ValueRef;
 use sqlite::{Error, ErrorCode, Row};
 
@@ -39,8 +42,8 @@ fn items_of(bytes: Vec<u8>) -> Items<u8>
     Items::from_vec(bytes)
 }
 
-// Returns the bytes of a cell without copying them.
-fn blob_at(row: &Row, at: usize) -> Result<&[u8], StoreFault>
+/// Returns the bytes of a cell without copying them.
+pub fn blob_at(row: &Row, at: usize) -> Result<&[u8], StoreFault>
     ensures ok { IfOk result (λ bytes. bytes.now ≡ bytes_in (column row.now at)) }
     ensures unclean { IfErr result (λ fault.
         (fault ≡ StoreFault.Unclean) × (bytes_in (column row.now at) ≡ 256 ∷ [])) }
@@ -65,7 +68,7 @@ pub(crate) fn bytes_at(row: &Row, at: usize) -> Result<Items<u8>, StoreFault>
 }
 
 /// Reads the number of a cell.
-pub(crate) fn number_at(row: &Row, at: usize) -> Result<u64, StoreFault>
+pub fn number_at(row: &Row, at: usize) -> Result<u64, StoreFault>
     ensures ok { IfOk result (λ number. number ≡ number_in (column row.now at)) }
     ensures unclean { result ≡ Err StoreFault.Unclean → 2 ^ 64 ≤ number_in (column row.now at) }
     ensures fails { IfErr result (λ fault. (fault ≡ StoreFault.Memory) ⊎ (fault ≡ StoreFault.Unclean)) }
@@ -103,6 +106,45 @@ pub(crate) fn document_at(row: &Row, at: usize) -> Result<Items<u8>, StoreFault>
         return Err(StoreFault::Unclean);
     }
     Ok(number)
+}
+
+/// Reads a reference: 1 to 14 bytes of 0x20 to 0x7E.
+pub(crate) fn reference_at(row: &Row, at: usize) -> Result<Items<u8>, StoreFault>
+    ensures ok { IfOk result (λ reference. reference ≡ bytes_in (column row.now at)) }
+    ensures right { IfOk result (λ reference. IsTrue (is_reference reference)) }
+    ensures unclean { result ≡ Err StoreFault.Unclean → is_reference (bytes_in (column row.now at)) ≡ false }
+    ensures fails { IfErr result (λ fault. (fault ≡ StoreFault.Memory) ⊎ (fault ≡ StoreFault.Unclean)) }
+{
+    let reference = bytes_at(row, at)?;
+    if !has_length(1, 14, reference.as_slice()) || !all_printable(reference.as_slice()) {
+        return Err(StoreFault::Unclean);
+    }
+    Ok(reference)
+}
+
+// Whether a side has a message reference: a cancellation has none.
+fn has_message(side: &Column<Side>) -> bool
+    ensures { result ≡ not (side.now == side_letter sides.Cancellation) }
+{
+    side.code() != Side::Cancellation.code()
+}
+
+/// Reads the message reference of a side; a cancellation has none, so its cell is empty.
+pub(crate) fn message_at(row: &Row, at: usize, side: &Column<Side>) -> Result<Items<u8>, StoreFault>
+    ensures ok { IfOk result (λ message. message ≡ bytes_in (column row.now at)) }
+    ensures right { IfOk result (λ message. IsTrue (is_message side.now message)) }
+    ensures unclean { result ≡ Err StoreFault.Unclean →
+        is_message side.now (bytes_in (column row.now at)) ≡ false }
+    ensures fails { IfErr result (λ fault. (fault ≡ StoreFault.Memory) ⊎ (fault ≡ StoreFault.Unclean)) }
+{
+    if has_message(side) {
+        return reference_at(row, at);
+    }
+    let message = bytes_at(row, at)?;
+    if !message.as_slice().is_empty() {
+        return Err(StoreFault::Unclean);
+    }
+    Ok(message)
 }
 
 /// Reads a GLN.
