@@ -1,0 +1,3 @@
+pub mod Every
+pub mod Key
+pub mod Rows
