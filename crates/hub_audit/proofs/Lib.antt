@@ -5,3 +5,5 @@ pub mod Parties
 pub mod Traffic
 pub mod Receiving
 pub mod Held
+pub mod Auditing
+pub mod Lines

@@ -1,12 +1,16 @@
 //! Reads all rows of a database file, decides whether they are a sound start, and says so in lines. Changes no row.
 #![tactic(auto)]
 
+mod audit;
 mod calls;
 mod every;
 mod key;
 mod kinds;
 mod received;
 mod register;
+mod report;
 mod rows;
 
+pub use audit::{Audit, check_database};
+pub use report::{report_status, report_text};
 pub use rows::HubRows;

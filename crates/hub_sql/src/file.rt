@@ -33,8 +33,8 @@ pub enum LeftOfFile<D: Disk + Drop> {
     Returned(Returned<FileStore<D>>),
 }
 
-// Opens a connection to a file, which is made if it does not exist.
-fn open_file<S: Start>(
+/// Opens a connection to a file, which is made if it does not exist.
+pub fn open_file<S: Start>(
     rt: &HostRuntime,
     path: &str,
     start: S,

@@ -16,6 +16,8 @@ mod store;
 mod version;
 
 pub use fault::FoundFault;
-pub use file::LeftOfFile;
+pub use file::{LeftOfFile, open_file};
+pub use reopening::{of_hub, of_version};
 pub use returned::Returned;
 pub use store::SqliteStore;
+pub use version::Version;

@@ -17,7 +17,7 @@ use sqlite::{Alter, Connection};
 use std::alloc::Global;
 
 /// Returns the connection if both its tables and their number are of this version.
-pub(crate) fn of_version<S: Alter + Drop>(
+pub fn of_version<S: Alter + Drop>(
     mut conn: Connection<S>,
     version: Version,
 ) -> Result<Connection<S>, (Connection<S>, StoreFault)>
@@ -64,7 +64,7 @@ pub(crate) fn of_version<S: Alter + Drop>(
 }
 
 /// Returns the connection and the version of its tables, if that is schema 3 or 2.
-pub(crate) fn of_hub<S: Alter + Drop>(
+pub fn of_hub<S: Alter + Drop>(
     conn: Connection<S>,
 ) -> Result<(Connection<S>, Version), (Connection<S>, StoreFault)>
     requires idle { conn.in_transaction ≡ false }

@@ -9,7 +9,7 @@ use sqlite_schema::schema::Schema;
 
 /// A version of the tables.
 #[derive(Clone, Copy, Debug, PartialEq, Eq)]
-pub(crate) enum Version {
+pub enum Version {
     /// Schema 1, which has no register.
     First,
     /// Schema 2, in which no receipt replaces another.

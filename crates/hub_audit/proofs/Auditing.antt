@@ -1,0 +1,41 @@
+-- What is found of a database, as it is known of an earlier state of the connection.
+use Rattle.std.proofs.Common.{◌≡◌, Result, Ok, Err, IfOk, subst}
+use Rattle.sqlite.specs.Effect.{Database}
+use Rattle.sqlite.specs.State.{State, HasCleanDisk}
+use Rattle.hub_schema.specs.Rows.{tables_in}
+use Rattle.hub_sql.specs.Opening.{IsAsBefore}
+use Rattle.hub_sql.specs.Version.{HoldsTables}
+use Rattle.hub_sql.specs.declared.version.Version.{Version}
+use Rattle.hub_sql.specs.declared.version.Version.TheVariants.{Third}
+use Rattle.hub_store.specs.declared.fault.StoreFault.{StoreFault}
+use Rattle.hub_audit.specs.Audit.{IsAudit, Audits}
+use Rattle.hub_audit.specs.declared.audit.Audit.{Audit}
+use Rattle.hub_audit.specs.declared.audit.Audit.TheVariants.{Sound, Unclean, Unsound, Earlier}
+
+-- rows of schema 3
+of_third : (db : Database) (audit : Audit) → HoldsTables Third db → IsAudit (tables_in db.trees) audit → Audits db audit
+of_third db (Sound counts) holds it = (holds, it)
+of_third db (Unclean found) holds it = (holds, it)
+of_third db (Unsound found) holds it = (holds, it)
+of_third db (Earlier number) holds it = absurd it
+
+module _ {C : Type 0} (P : C → Type 0) (was now : State) where
+  pub third_audited : (version : Version) → version ≡ Third
+      → (HasCleanDisk now → HoldsTables version was.now × IsAsBefore was now)
+      → (result : Result (Audit × C) StoreFault)
+      → IfOk result (λ found. P found.1 → HasCleanDisk now × IsAudit (tables_in now.now.trees) found.0)
+      → IfOk result (λ found. P found.1 → Audits was.now found.0)
+  third_audited version third holds (Ok found) h =
+      λ clean.
+      let it = h clean in
+      let same = holds it.0 in
+      of_third was.now found.0 (subst (λ v. HoldsTables v was.now) third same.0)
+      (subst (λ (db : Database). IsAudit (tables_in db.trees) found.0) same.1.shown it.1)
+  third_audited version third holds (Err fault) h = tt
+
+  pub earlier_audited : (HasCleanDisk now → IsAsBefore was now) → (result : Result (Audit × C) StoreFault)
+      → IfOk result (λ found. P found.1 → HasCleanDisk now × Audits now.now found.0)
+      → IfOk result (λ found. P found.1 → Audits was.now found.0)
+  earlier_audited before (Ok found) h =
+      λ clean. let it = h clean in subst (λ (db : Database). Audits db found.0) (before it.0).shown it.1
+  earlier_audited before (Err fault) h = tt
