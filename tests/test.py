@@ -16,13 +16,13 @@ import tempfile
 from concurrent.futures import ThreadPoolExecutor
 
 from tests import codes, layout, schema, untried
-from tests.cases import connections, corrections, hub_commands, hub_files, hub_rules, joins, limits, older_files, without_hub
+from tests.cases import connections, corrections, hub_commands, hub_files, hub_rules, joins, limits, older_files, verify, without_hub
 from tests.harness import processor_time
 from tests.harness.case import SECONDS
 from tests.harness.tree import ROOT
 from tests.trials import changed_keys, disturbed_commands, documents, failing_openings, files_brought_over, folder_feeding, held_file
 from tests.trials import journal, kept_orders, lines_of_status_3, random_runs, refused_in_scripts, served_limits, serving, stopped_machine
-from tests.trials import stopped_program, units
+from tests.trials import stopped_program, units, verified_files
 
 
 def built(crate):
@@ -33,7 +33,7 @@ def built(crate):
 # each program, and its cases
 PROGRAMS = [
     (built("edirelay"), without_hub.RELAY_ALONE),
-    (built("edihub"), without_hub.CASES + hub_commands.COMMANDS + older_files.MIGRATIONS + limits.LIMITS),
+    (built("edihub"), without_hub.CASES + hub_commands.COMMANDS + older_files.MIGRATIONS + verify.VERIFIED + limits.LIMITS),
     (
         built("trial_script"),
         hub_rules.HUBS + hub_rules.OVER_SQL + hub_files.FILES + connections.CONNECTIONS + joins.JOINS + corrections.CORRECTIONS,
@@ -45,6 +45,7 @@ OF_EDIHUB = (
     disturbed_commands,
     failing_openings,
     files_brought_over,
+    verified_files,
     lines_of_status_3,
     documents,
     serving,

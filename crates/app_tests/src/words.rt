@@ -14,7 +14,7 @@ struct Row {
     told: &'static str,
 }
 
-static ROWS: [Row; 39] = [
+static ROWS: [Row; 41] = [
     Row {
         words: "edihub check --register r.toml",
         told: "check r.toml",
@@ -175,6 +175,14 @@ static ROWS: [Row; 39] = [
         told: "status 2",
     },
     Row {
+        words: "edihub verify --db h",
+        told: "verify h",
+    },
+    Row {
+        words: "edihub verify --db h --key k",
+        told: "status 2",
+    },
+    Row {
         words: "edihub",
         told: "status 2",
     },
@@ -266,6 +274,7 @@ fn words_told(alloc: Global, words: &Words<'_>) -> Result<String, AllocError> {
         Words::Show => String::from_str(alloc, "show"),
         Words::Init(words) => format!(in alloc; "init {} {}", words.register, words.db),
         Words::Rekey(words) => rekey_told(alloc, words),
+        Words::Verify(words) => format!(in alloc; "verify {}", words.db),
         Words::Hub(words) => hub_words_told(alloc, words),
         Words::Serve(words) => format!(in alloc;
             "serve {} {} {}",

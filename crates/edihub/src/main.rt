@@ -10,6 +10,7 @@ mod keys;
 mod register;
 mod serve;
 mod tasks;
+mod verify;
 
 use clap::Error;
 use database::{Work, over_a_hub};
@@ -26,6 +27,7 @@ use register::register_text;
 use std::fmt::Display;
 use std::process::ExitCode;
 use std::{env, io};
+use verify::verify_database;
 
 // Prints a line on standard error. If that fails, the exit status alone reports the fault.
 pub(crate) fn tell<T: Display + Drop>(rt: &HostRuntime, line: T, status: u8) -> u8 {
@@ -90,6 +92,7 @@ fn run(rt: &HostRuntime, given: &[String]) -> u8 {
         ),
         Ok(Words::Init(words)) => init(rt, &words),
         Ok(Words::Rekey(words)) => change_key(rt, &words),
+        Ok(Words::Verify(words)) => verify_database(rt, &words),
         Ok(Words::Hub(words)) => with_the_hub(rt, given, words),
         Ok(Words::Serve(words)) => over_a_hub(rt, Work::Serve(words)),
         Err(fault) => tell_refused(rt, &fault),

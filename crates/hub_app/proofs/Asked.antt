@@ -10,7 +10,7 @@ use Rattle.hub_app.specs.declared.words.WordsFault.TheVariants.{Memory}
 use Rattle.hub_app.specs.Program.{edihub}
 use Rattle.hub_app.specs.declared.words.HubWords.{HubWords}
 use Rattle.hub_app.specs.declared.words.Words.{Words}
-use Rattle.hub_app.specs.declared.words.Words.TheVariants.{Check, Relay, Show, Init, Rekey, Hub, Serve}
+use Rattle.hub_app.specs.declared.words.Words.TheVariants.{Check, Relay, Show, Init, Rekey, Verify, Hub, Serve}
 use Rattle.hub_app.specs.Options.{Finds}
 use Rattle.hub_app.specs.Words.{Asks, AreHubWords, IsOverHub, Names, Refuses, Say}
 use Rattle.hub_app.proofs.Simple.{simple}
@@ -25,14 +25,16 @@ no_hub command rows none (Relay w) h = h
 no_hub command rows none Show h = h
 no_hub command rows none (Init w) h = h
 no_hub command rows none (Rekey w) h = h
+no_hub command rows none (Verify w) h = h
 no_hub command rows none (Serve w) h = h
 
--- a command that is none of the other six is one over a hub
+-- a command that is none of the other seven is one over a hub
 module _ (command : Text) (rows : List Row) (no_check : command ≡ codes "check" → ⊥)
     (no_relay : command ≡ codes "relay" → ⊥)
     (no_show : command ≡ codes "show" → ⊥)
     (no_init : command ≡ codes "init" → ⊥)
     (no_rekey : command ≡ codes "rekey" → ⊥)
+    (no_verify : command ≡ codes "verify" → ⊥)
     (no_serve : command ≡ codes "serve" → ⊥) where
   pub is_over_hub : (words : Words) → Asks command rows words → IsOverHub command rows words
   is_over_hub (Hub hub) h = h
@@ -41,6 +43,7 @@ module _ (command : Text) (rows : List Row) (no_check : command ≡ codes "check
   is_over_hub Show h = no_show h
   is_over_hub (Init w) h = no_init h.0
   is_over_hub (Rekey w) h = no_rekey h.0
+  is_over_hub (Verify w) h = no_verify h.0
   is_over_hub (Serve w) h = no_serve h.0
 
   pub is_asked : (words : Words) → IsOverHub command rows words → Asks command rows words
@@ -50,6 +53,7 @@ module _ (command : Text) (rows : List Row) (no_check : command ≡ codes "check
   is_asked Show h = absurd h
   is_asked (Init w) h = absurd h
   is_asked (Rekey w) h = absurd h
+  is_asked (Verify w) h = absurd h
   is_asked (Serve w) h = absurd h
 
   pub finds_asked : (found : Option Words) → Finds (IsOverHub command rows) found → Finds (Asks command rows) found

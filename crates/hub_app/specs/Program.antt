@@ -73,6 +73,9 @@ abbrev pub rekey : Shape
 rekey = with_options (codes "rekey") (
     wanted (codes "db") ∷ offered (codes "supplier") ∷ flagged (codes "retailer") ∷ wanted (codes "new-key-file") ∷ [])
 
+abbrev pub verify : Shape
+verify = with_options (codes "verify") (wanted (codes "db") ∷ [])
+
 abbrev pub import : Shape
 import = over_a_hub (codes "import") (wanted (codes "folder") ∷ [])
 
@@ -103,7 +106,7 @@ bare = record {
 abbrev pub edihub : App
 edihub = record {
   top = record bare.top { is_leaf = false };
-  subs = check ∷ relay ∷ show ∷ init ∷ join ∷ rekey ∷ import ∷ status ∷ mail ∷ cancel ∷ serve ∷ [];
+  subs = check ∷ relay ∷ show ∷ init ∷ join ∷ rekey ∷ verify ∷ import ∷ status ∷ mail ∷ cancel ∷ serve ∷ [];
 }
 
 -- a command of this shape, with no subcommand and no option for all levels

@@ -16,7 +16,7 @@ use Rattle.hub_app.specs.declared.words.KeyWord.TheVariants as word
 use Rattle.hub_app.specs.declared.words.RekeyWords.{RekeyWords}
 use Rattle.hub_app.specs.declared.words.ServeWords.{ServeWords}
 use Rattle.hub_app.specs.declared.words.Words.{Words}
-use Rattle.hub_app.specs.declared.words.Words.TheVariants.{Check, Relay, Show, Init, Rekey, Hub, Serve}
+use Rattle.hub_app.specs.declared.words.Words.TheVariants.{Check, Relay, Show, Init, Rekey, Verify, Hub, Serve}
 use Rattle.hub_app.specs.declared.words.WordsFault.{WordsFault}
 use Rattle.hub_app.specs.declared.words.WordsFault.TheVariants.{Told, Memory}
 use Rattle.edi_relay.specs.declared.relay.RelayWords.{RelayWords}
@@ -201,6 +201,7 @@ Asks command rows (Relay words) = (command ≡ codes "relay") × IsRelay rows wo
 Asks command rows Show = command ≡ codes "show"
 Asks command rows (Init words) = (command ≡ codes "init") × IsInit rows words
 Asks command rows (Rekey words) = (command ≡ codes "rekey") × IsRekey rows words
+Asks command rows (Verify words) = (command ≡ codes "verify") × (first_of (codes "db") rows ≡ Some words.db.now)
 Asks command rows (Hub words) = IsTask command rows words.task × AreHubWords rows words
 Asks command rows (Serve words) = (command ≡ codes "serve") × IsServe rows words
 

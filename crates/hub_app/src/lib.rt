@@ -7,6 +7,6 @@ mod words;
 
 pub use edi_relay::{RelayFault, RelayWords, relay_run, relay_text};
 pub use words::{
-    CheckWords, HubTask, HubWords, InitWords, JoinByFile, KeyWord, RekeyWords, ServeWords, Words,
-    WordsFault, file_key_refused, read_words,
+    CheckWords, HubTask, HubWords, InitWords, JoinByFile, KeyWord, RekeyWords, ServeWords,
+    VerifyWords, Words, WordsFault, file_key_refused, read_words,
 };

@@ -3,7 +3,7 @@
 ghost use Rattle.std.specs.Prelude.{◌≡◌, [], false, IfOk};
 ghost use Rattle.clap.specs.Words.{App, Shape, app_of, rule_of, with_subcommand};
 ghost use Rattle.hub_app.specs.Program.{wanted, offered, flagged, rule_of_choice, with_choices, with_options, over_a_hub, IsCommand};
-ghost use Rattle.hub_app.specs.Program.{bare, check, relay, show, init, join, rekey, import, status, mail, cancel, serve, edihub};
+ghost use Rattle.hub_app.specs.Program.{bare, check, relay, show, init, join, rekey, verify, import, status, mail, cancel, serve, edihub};
 
 use clap::{Arg, ArgAction, Command};
 use std::alloc::{AllocError, Global};
@@ -351,6 +351,58 @@ fn rekey_command<'a>(alloc: Global) -> Result<Command<'a>, AllocError>
     )
 }
 
+const VERIFY: &str = "Checks whether all rows of a database are a sound start";
+
+const VERIFY_HELP: &str =
+    "It reads every row, changes nothing and asks for no key. Stop the hub before, or verify a copy:
+
+  edihub verify --db hub.db
+
+If each row has the form of its kind, and all of them fit together as the hub leaves them, it prints 'ok' and
+what it counted:
+
+  ok
+  suppliers 2
+  orders 3
+  order lines 9
+  open lines 4
+  pallets 5
+  received pallets 2
+  mailbox entries 7
+  entries not taken 1
+  remembered messages 12
+  file size 122880
+  schema 3
+
+Otherwise it prints one line with a row that shows what is wrong, by its table and its key:
+
+  unclean line 4012345500004 128576 1  the row does not have the form of its kind
+  unsound pallet 340123450000000016    the row does not fit the others
+  unsound hub                          the rows hold no register
+
+In a key, each byte that is not a visible character is written as % and two hexadecimal digits, and % itself
+as %25. An empty text is %, and %? is in the place of what is not of the column's kind. A database of an earlier
+version is left as it is: 'schema 1' or 'schema 2'.
+
+Exit status: 0 sound; 1 unclean, unsound or of an earlier version; 2 usage error; \
+3 a file or the database failed, or out of memory";
+
+static VERIFY_OPTIONS: [Choice; 1] = [Choice::Wanted(
+    "db",
+    "FILE",
+    "The hub's database, which 'init' made",
+)];
+
+fn verify_command<'a>(alloc: Global) -> Result<Command<'a>, AllocError>
+    ensures { IfOk result (IsCommand verify) }
+{
+    choosing(
+        named(alloc, "verify", VERIFY, VERIFY_HELP),
+        alloc,
+        &VERIFY_OPTIONS,
+    )
+}
+
 const IMPORT: &str = "Uploads the interchanges in a folder, and prints what becomes of each";
 
 const IMPORT_HELP: &str =
@@ -600,6 +652,7 @@ pub(crate) fn program<'a>(alloc: Global) -> Result<Command<'a>, AllocError>
     let program = commanding(program, init_command(alloc));
     let program = commanding(program, join_command(alloc));
     let program = commanding(program, rekey_command(alloc));
+    let program = commanding(program, verify_command(alloc));
     let program = commanding(program, import_command(alloc));
     let program = commanding(program, status_command(alloc));
     let program = commanding(program, mail_command(alloc));

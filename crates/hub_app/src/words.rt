@@ -134,6 +134,13 @@ pub struct RekeyWords<'a> {
     pub key_file: &'a str,
 }
 
+/// What `verify` is asked for.
+#[derive(Debug, Drop)]
+pub struct VerifyWords<'a> {
+    /// The path of the database's file.
+    pub db: &'a str,
+}
+
 /// What the words ask for: a command with its options.
 #[derive(Debug, Drop)]
 pub enum Words<'a> {
@@ -142,6 +149,7 @@ pub enum Words<'a> {
     Show,
     Init(InitWords<'a>),
     Rekey(RekeyWords<'a>),
+    Verify(VerifyWords<'a>),
     Hub(HubWords<'a>),
     Serve(ServeWords<'a>),
 }
@@ -536,6 +544,10 @@ fn command_words<'a>(
         },
         "rekey" => match rekey_words(options) {
             Some(words) => Ok(Some(Words::Rekey(words))),
+            None => Ok(None),
+        },
+        "verify" => match text(options, "db") {
+            Some(db) => Ok(Some(Words::Verify(VerifyWords { db }))),
             None => Ok(None),
         },
         "serve" => match serve_words(options) {

@@ -9,5 +9,5 @@ returns-in_default-clause-found c =
     let rows = rows_of (found_of c.args.options.now) in
     IfOk-weaker c.over_a_hub.result _ _
     (finds_asked command rows c.in_default.not-check c.in_default.not-relay c.in_default.not-show
-    c.in_default.not-init c.in_default.not-rekey c.in_default.not-serve)
+    c.in_default.not-init c.in_default.not-rekey c.in_default.not-verify c.in_default.not-serve)
     c.over_a_hub.ensures.found

@@ -1,0 +1,51 @@
+//! Checking whether a database is a sound start.
+use crate::database::is_missing;
+use crate::fault::BeginFault;
+use crate::tasks::written;
+use crate::tell;
+use edi_base::exit::FAILED;
+use edi_base::{OfWrite, write_bytes};
+use hub_app::VerifyWords;
+use hub_audit::{Audit, check_database, report_status, report_text};
+use hub_sql::open_file;
+use hub_store::StoreFault;
+use sqlite_disk::{Start, Unknown};
+use std::fs;
+
+// Reads all that is in the database file. No file is made, and no row is changed.
+fn audit_file<S: Start>(rt: &HostRuntime, path: &str, start: S) -> Result<Audit, StoreFault> {
+    if is_missing(rt, path) {
+        return Err(StoreFault::Version);
+    }
+    let conn = open_file(rt, path, start).map_err(|(fault, _left)| fault)?;
+    let (audit, _conn) = check_database(rt.alloc(), conn)?;
+    Ok(audit)
+}
+
+// Bytes that a file has.
+fn size_of(rt: &HostRuntime, path: &str) -> Result<u64, BeginFault> {
+    match fs::metadata(rt, path) {
+        Ok(found) => Ok(found.len()),
+        Err(_error) => Err(BeginFault::File),
+    }
+}
+
+// Checks the database that the words name, and prints what was found.
+fn print_audit(rt: &HostRuntime, words: &VerifyWords<'_>) -> Result<u8, BeginFault> {
+    let audit = audit_file(rt, words.db, Unknown)?;
+    let size = size_of(rt, words.db)?;
+    let Ok(text) = report_text(rt.alloc(), &audit, size) else {
+        return Err(BeginFault::Memory);
+    };
+    let mut out = OfWrite::new(rt.stdout());
+    let _ = write_bytes(text.as_slice(), &mut out);
+    written(&out, report_status(&audit))
+}
+
+/// Checks the database file that the words name, and returns the exit status.
+pub(crate) fn verify_database(rt: &HostRuntime, words: &VerifyWords<'_>) -> u8 {
+    match print_audit(rt, words) {
+        Ok(status) => status,
+        Err(fault) => tell(rt, fault, FAILED),
+    }
+}
