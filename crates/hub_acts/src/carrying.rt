@@ -73,21 +73,17 @@ fn make<S: Store>(store: &mut S, changes: &[Change]) -> Result<(), StoreFault>
     store.commit(changes)
 }
 
-/// Carries out a verdict, and returns the decision that reports it.
-pub fn carry_out<S: Store>(store: &mut S, verdict: &Verdict) -> Result<Decision, StoreFault>
+/// Carries out a verdict: commits the changes that it accepts, if there are any.
+pub fn carry_out<S: Store>(store: &mut S, verdict: &Verdict) -> Result<(), StoreFault>
     ensures carried { VerdictFits verdict.now (S.content store.old) →
-        Carried S.Store store.old store.new (act verdict.now) told_of result }
-    ensures told { IfOk result (λ seen. told verdict.now ≡ told_of seen) }
+        Carried S.Store store.old store.new (act verdict.now) (λ _. told verdict.now) result }
     ensures fails { FailsOver S.Store NoCause any_answer store.old store.new result }
     ensures unharmed { Unharmed S.Store store.old store.new result }
     ensures clean { VerdictFits verdict.now (S.content store.old) → VerdictClean verdict.now (S.content store.old) →
         StaysClean S.Store store.old store.new result }
 {
     match verdict {
-        Verdict::Refuse(code) => Ok(Decision::Refused(*code)),
-        Verdict::Accept(changes) => {
-            make(store, changes.as_slice())?;
-            Ok(told_of_changes(changes.as_slice()))
-        }
+        Verdict::Refuse(_) => Ok(()),
+        Verdict::Accept(changes) => make(store, changes.as_slice()),
     }
 }

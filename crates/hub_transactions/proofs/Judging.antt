@@ -1,10 +1,8 @@
 -- Shows that nothing is decided if a look-up fails.
 use Rattle.std.proofs.Common.{◌≡◌, true}
-use Rattle.std.proofs.Common.{Option, None, Result, Err, IfOk}
+use Rattle.std.proofs.Common.{None, Result, Err, IfOk}
 use Rattle.std.proofs.Common.{sym, subst}
-use Rattle.hub_tables.specs.Tables.{Tables}
 use Rattle.hub_store.specs.Clean.{are_clean}
-use Rattle.hub_store.specs.declared.fault.LastingFault.{LastingFault}
 use Rattle.hub_store.specs.declared.fault.StoreFault.{StoreFault}
 use Rattle.hub_store.specs.declared.fault.StoreFault.TheVariants.{Unclean}
 use Rattle.hub_store.specs.declared.store.Store.{Ghosts}

@@ -12,7 +12,7 @@ use Rattle.hub_rules.specs.Laws.{SoundUnder, Registered, PartiesRise}
 use Rattle.hub_rules.specs.Sound.{Kept}
 use Rattle.hub_rules.specs.declared.incoming.IncomingMessage.{IncomingMessage}
 use Rattle.hub_acts.specs.HubLaw.Messages.{named}
-use Rattle.hub_acts.specs.HubLaw.Told.{Refused, Act, act}
+use Rattle.hub_acts.specs.HubLaw.Told.{Told, Refused, Act, act, told}
 use Rattle.hub_acts.specs.Verdicts.{VerdictFits}
 use Rattle.hub_transactions.specs.declared.judged.Judged.{Judged}
 use Rattle.hub_transactions.specs.declared.judged.Judged.TheVariants.{Read, Unread}
@@ -21,6 +21,11 @@ use Rattle.hub_transactions.specs.declared.judged.Judged.TheVariants.{Read, Unre
 abbrev pub act_of : Judged → Act
 act_of (Read verdict) t = act verdict t
 act_of (Unread fault) t = (Refused (message_faults.code_text fault), t)
+
+-- what the reply reports of a decision
+abbrev pub told_judged : Judged → Told
+told_judged (Read verdict) = told verdict
+told_judged (Unread fault) = Refused (message_faults.code_text fault)
 
 -- if there are changes, they fit the tables
 abbrev pub JudgedFits : Judged → Tables → Type 0

@@ -1,8 +1,7 @@
 -- Defines that the decision on a message keeps the form of all rows.
-use Rattle.std.specs.Prelude.{◌≡◌, ◌≢◌, ⊤, true, Option, None, Result, Err, IfOk}
+use Rattle.std.specs.Prelude.{◌≡◌, ◌≢◌, ⊤, true, None, Result, Err, IfOk}
 use Rattle.hub_tables.specs.Tables.{Tables}
 use Rattle.hub_store.specs.Clean.{are_clean}
-use Rattle.hub_store.specs.declared.fault.LastingFault.{LastingFault}
 use Rattle.hub_store.specs.declared.fault.StoreFault.{StoreFault}
 use Rattle.hub_store.specs.declared.fault.StoreFault.TheVariants.{Unclean}
 use Rattle.hub_store.specs.declared.store.Store.{Ghosts}

@@ -6,6 +6,7 @@ pub use Rattle.hub_order_lines.specs as HubOrderLines
 pub use Rattle.hub_acts.specs.HubTexts
 pub mod Judged
 pub mod JudgesClean
+pub mod Knowing
 pub mod Messages
 pub mod Named
 pub mod Status

@@ -6,14 +6,13 @@ ghost use Rattle.hub_tables.specs.Tables.{view, has_pallet};
 ghost use Rattle.hub_store.specs.Clean.{are_clean};
 ghost use Rattle.hub_store.specs.Lines.{lines_at};
 ghost use Rattle.hub_store.specs.declared.fault.StoreFault.TheVariants.{Unclean};
-ghost use Rattle.hub_rules.specs.Rules.{judge_despatch};
-ghost use Rattle.hub_judges.specs.Known.{TellsForDespatch};
 ghost use Rattle.hub_acts.specs.Acts.{FailsOver, NoCause, Stays, any_answer, no_answer};
 ghost use Rattle.hub_order_lines.specs.Book.{Orders};
 ghost use Rattle.hub_order_lines.specs.KnownLines.{AreUnclean};
 ghost use Rattle.hub_order_lines.specs.KnownOrders.{is_kept, AddsOrder};
-ghost use Rattle.hub_transactions.specs.Named.{names_line, NamedUnclean, SomeUnclean};
-ghost use Rattle.hub_transactions.specs.Orders.{ForgetsOrders, KeepsAsked, KeepsOrders, TellsAlike};
+ghost use Rattle.hub_transactions.specs.Named.{NamedUnclean, SomeUnclean};
+ghost use Rattle.hub_transactions.specs.Knowing.{KeepsNamed, KnowsForDespatch};
+ghost use Rattle.hub_transactions.specs.Orders.{ForgetsOrders, KeepsOrders};
 
 use crate::knowing::{keep_order, known_with};
 use crate::naming::orders_named;
@@ -77,10 +76,8 @@ fn know_order<'a, S: Store>(
     apart: &mut Items<&'a [u8]>,
 ) -> Result<(), StoreFault>
     ensures known { S.honest store.new →
-        KeepsAsked (names_line named.now.entries) orders.old (map (λ number. number.now) apart.old)
-        (view supplier.now (S.content store.old)) →
-        OnOk result (KeepsAsked (names_line named.now.entries) orders.new (map (λ number. number.now) apart.new)
-        (view supplier.now (S.content store.old))) }
+        KeepsNamed named.now.entries orders.old apart.old supplier.now (S.content store.old) →
+        OnOk result (KeepsNamed named.now.entries orders.new apart.new supplier.now (S.content store.old)) }
     ensures also { OnOk result (is_kept orders.new order.now ≡ true) }
     ensures still { OnOk result ((other : List ℕ) →
         is_kept orders.old other ≡ true → is_kept orders.new other ≡ true) }
@@ -116,10 +113,8 @@ fn know_orders<'a, S: Store>(
     apart: &mut Items<&'a [u8]>,
 ) -> Result<(), StoreFault>
     ensures known { S.honest store.new →
-        KeepsAsked (names_line named.now.entries) orders.old (map (λ number. number.now) apart.old)
-        (view supplier.now (S.content store.old)) →
-        OnOk result (KeepsAsked (names_line named.now.entries) orders.new (map (λ number. number.now) apart.new)
-        (view supplier.now (S.content store.old))) }
+        KeepsNamed named.now.entries orders.old apart.old supplier.now (S.content store.old) →
+        OnOk result (KeepsNamed named.now.entries orders.new apart.new supplier.now (S.content store.old)) }
     ensures all { OnOk result ((order : List ℕ) →
         is_among order (map (λ number. number.now) numbers.now.keys) ≡ true → is_kept orders.new order ≡ true) }
     ensures unclean { S.honest store.new → S.broken store.old ≡ None →
@@ -211,10 +206,7 @@ pub(crate) fn known_for_despatch<'a, S: Store>(
     mut orders: KnownOrders,
 ) -> Result<(Known, Items<&'a [u8]>), StoreFault>
     ensures told { S.honest store.new → KeepsOrders orders (view supplier.now (S.content store.old)) →
-        IfOk result (λ told. TellsAlike
-        (TellsForDespatch told.0 (has_pallet (S.content store.old)) incoming.now despatch.now)
-        (λ retailer row. judge_despatch retailer row (has_pallet (S.content store.old)) incoming.now despatch.now)
-        (view supplier.now (S.content store.old))) }
+        IfOk result (λ told. KnowsForDespatch incoming.now despatch.now supplier.now (S.content store.old) told.0) }
     ensures kept { S.honest store.new → KeepsOrders orders (view supplier.now (S.content store.old)) →
         IfOk result (λ told. (kept : Orders) →
         ForgetsOrders (map (λ number. number.now) told.1) told.0.orders kept →

@@ -7,13 +7,12 @@ ghost use Rattle.hub_store.specs.declared.fault.StoreFault.TheVariants.{Memory, 
 ghost use Rattle.hub_order_lines.specs.KnownLines.{AreUnclean};
 ghost use Rattle.hub_order_lines.specs.KnownOrders.{is_kept, AddsOrder};
 ghost use Rattle.std.specs.Option.{IfSome, unwrap_or};
-ghost use Rattle.hub_rules.specs.Rules.{judge_response};
 ghost use Rattle.hub_rules.specs.Sound.{Kept};
-ghost use Rattle.hub_judges.specs.Known.{TellsDespatched, TellsForCancel, TellsForOrder, TellsForReceipt, TellsForResponse, TellsLines};
-ghost use Rattle.hub_judges.specs.Known.{TellsOrder};
+ghost use Rattle.hub_judges.specs.Known.{TellsForCancel, TellsForOrder, TellsForReceipt};
 ghost use Rattle.hub_acts.specs.Acts.{FailsOver, NoCause, Stays, any_answer, no_answer};
+ghost use Rattle.hub_transactions.specs.Knowing.{KnowsForResponse, KnowsOrder};
 ghost use Rattle.hub_transactions.specs.Named.{NamedLines};
-ghost use Rattle.hub_transactions.specs.Orders.{KeepsOrders, TellsAlike};
+ghost use Rattle.hub_transactions.specs.Orders.{KeepsOrders};
 
 use crate::numbering::numbers_named;
 use edi_base::{Items, MemoryFault};
@@ -123,10 +122,7 @@ fn known_of_order<S: Store>(
     mut orders: KnownOrders,
 ) -> Result<Known, StoreFault>
     ensures told { S.honest store.new → KeepsOrders orders (view supplier.now (S.content store.old)) →
-        IfOk result (λ known. TellsOrder known (view supplier.now (S.content store.old)) order.now
-        × TellsLines (view supplier.now (S.content store.old)) known.orders order.now
-        × (Kept (view supplier.now (S.content store.old)) →
-        TellsDespatched (view supplier.now (S.content store.old)) known.orders order.now)) }
+        IfOk result (λ known. KnowsOrder known (view supplier.now (S.content store.old)) order.now) }
     ensures kept { S.honest store.new → KeepsOrders orders (view supplier.now (S.content store.old)) →
         IfOk result (λ known. KeepsOrders known.orders (view supplier.now (S.content store.old))) }
     ensures remembered { IfOk result (λ known. known.remembered ≡ remembered) }
@@ -228,9 +224,7 @@ pub(crate) fn known_for_response<S: Store>(
 ) -> Result<(Known, Option<KnownOrders>), StoreFault>
     ensures told { S.honest store.new → Kept (view supplier.now (S.content store.old)) →
         KeepsOrders orders (view supplier.now (S.content store.old)) →
-        IfOk result (λ told. TellsAlike (TellsForResponse told.0 incoming.now response.now)
-        (λ retailer row. judge_response retailer row incoming.now response.now)
-        (view supplier.now (S.content store.old))) }
+        IfOk result (λ told. KnowsForResponse incoming.now response.now supplier.now (S.content store.old) told.0) }
     ensures kept { S.honest store.new → KeepsOrders orders (view supplier.now (S.content store.old)) →
         IfOk result (λ told. KeepsOrders (unwrap_or told.1 told.0.orders) (view supplier.now (S.content store.old))) }
     ensures unclean { S.honest store.new → S.broken store.old ≡ None →

@@ -28,7 +28,7 @@ use std::alloc::Global;
 
 // Carries out the decision on a message, and appends its line to the reply. Room for it and for the line `stopped` is
 // taken before anything is done.
-fn commit_and_tell<S: Store>(
+fn commit_and_report<S: Store>(
     alloc: Global,
     store: &mut S,
     message: &RawMessage,
@@ -45,9 +45,10 @@ fn commit_and_tell<S: Store>(
         StaysClean S.Store store.old store.new result }
     ensures reply { AddsLine message.now reply.old reply.new result }
 {
-    let line = message_line(alloc, message, told_of_judged(judged))?;
+    let told = told_of_judged(judged);
+    let line = message_line(alloc, message, told)?;
     reply.try_reserve(line.len() + STOPPED.len())?;
-    let told = carry_out_judged(store, judged)?;
+    carry_out_judged(store, judged)?;
     reply.extend_from_slice(line.as_slice()).unwrap();
     Ok(told)
 }
@@ -79,7 +80,7 @@ pub fn take_retailers_message<S: Store>(
 {
     let came = incoming_of(alloc, moment, interchange, message)?;
     let judged = judged_of_retailer(alloc, register, store, message, came)?;
-    commit_and_tell(alloc, store, message, &judged, reply)
+    commit_and_report(alloc, store, message, &judged, reply)
 }
 
 /// Handles a message of a supplier, as `take_retailers_message` does one of the retailer. `orders` keeps the supplier's
@@ -113,7 +114,7 @@ pub fn take_suppliers_message<S: Store>(
 {
     let came = incoming_of(alloc, moment, interchange, message)?;
     let judged = judged_of_supplier(alloc, register, supplier, store, message, came, orders)?;
-    let told = commit_and_tell(alloc, store, message, &judged, reply);
+    let told = commit_and_report(alloc, store, message, &judged, reply);
     follow_message(&judged, orders);
     told
 }

@@ -31,7 +31,8 @@ returns-in-Some-clause-told g c = λ honest sound kept.
     let stays = c.remembered.ensures.looks.content_stays first in
     let answers = c.in_ok-remembered.ensures.looks.answers first in
     let as_it_was = c.known_with-in-Some.ensures.remembered in
-    let remembered : TellsRemembered c.known_with-in-Some.result Supplier c.args.incoming.now.control c.args.incoming.now.message state = cc in
+    let incoming = c.args.incoming.now in
+    let remembered : TellsRemembered c.known_with-in-Some.result Supplier incoming.control incoming.message state = cc in
     let named = subst (λ o. IfSome o (NamedLines response (view supplier (g.S.Store.content c.remembered.new.self)))) c.in-Some.is
     (c.in_ok-named.ensures.named honest) in
     named_told c.args.incoming.now response state c.known_with-in-Some.result sound remembered

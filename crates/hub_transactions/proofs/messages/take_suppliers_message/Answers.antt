@@ -22,15 +22,15 @@ returns-clause-carried g c = λ old here rise.
     let came = incoming c.args.moment c.args.interchange.now message in
     let t = g.S.Store.content c.args.store.now in
     after_looking g.S.Store c.args.store.now
-    c.judged_of_supplier.new.store c.commit_and_tell-told.new.store
+    c.judged_of_supplier.new.store c.commit_and_report-told.new.store
     (deliver_suppliers (view s.gln) (parties_of register) s (message, came))
     (act_of c.in_ok-judged.judged) told_of (JudgedFits c.in_ok-judged.judged)
-    c.in_ok-judged.ensures.stays c.commit_and_tell-told.ensures.unharmed.was_honest
+    c.in_ok-judged.ensures.stays c.commit_and_report-told.ensures.unharmed.was_honest
     (λ honest.
     ap (λ one. deliver_suppliers (view s.gln) (parties_of register) s (message, one) t) (sym c.in_ok-came.ensures)
     ∙ (c.in_ok-judged.ensures.judged old).told honest (here.sound.kept s.gln))
     (λ honest. (c.in_ok-judged.ensures.judged old).fit honest here rise)
-    c.commit_and_tell-told.result c.commit_and_tell-told.ensures.carried
+    c.commit_and_report-told.result c.commit_and_report-told.ensures.carried
 
 pub returns-clause-fails : goal.returns-clause-fails
 returns-clause-fails g c =
@@ -42,26 +42,26 @@ returns-clause-fails g c =
     let middle = g.S.Store.broken c.judged_of_supplier.new.store in
     let judged = c.in_ok-judged.judged in
     let unclean : Type 0 = MessageUnclean message (view s.gln (g.S.Store.content c.args.store.now)) in
-    after_judging g.S.Store.plain (g.S.Store.honest c.commit_and_tell-told.new.store → unclean)
+    after_judging g.S.Store.plain (g.S.Store.honest c.commit_and_report-told.new.store → unclean)
     (g.S.Store.honest c.judged_of_supplier.new.store → unclean)
-    old middle (g.S.Store.broken c.commit_and_tell-told.new.store)
-    (deliver_suppliers (view s.gln) (parties_of register) s (message, came)) judged c.commit_and_tell-told.result
+    old middle (g.S.Store.broken c.commit_and_report-told.new.store)
+    (deliver_suppliers (view s.gln) (parties_of register) s (message, came)) judged c.commit_and_report-told.result
     (subst (λ (one : IncomingMessage). FailsWith g.S.Store.plain (g.S.Store.honest c.judged_of_supplier.new.store → unclean)
     (UnreadOf (deliver_suppliers (view s.gln) (parties_of register) s (message, one))) old middle (Ok judged))
     c.in_ok-came.ensures c.in_ok-judged.ensures.fails)
-    c.commit_and_tell-told.ensures.fails
+    c.commit_and_report-told.ensures.fails
 
 pub returns-clause-clean : goal.returns-clause-clean
 returns-clause-clean g c = λ old here rise within.
     let message = c.args.message.now in
     clean_after_looking g.S.Store c.args.store.now
-    c.judged_of_supplier.new.store c.commit_and_tell-told.new.store
-    c.in_ok-judged.ensures.stays c.commit_and_tell-told.ensures.unharmed.was_honest c.in_ok-judged.ensures.fails.after
+    c.judged_of_supplier.new.store c.commit_and_report-told.new.store
+    c.in_ok-judged.ensures.stays c.commit_and_report-told.ensures.unharmed.was_honest c.in_ok-judged.ensures.fails.after
     (JudgedFits c.in_ok-judged.judged) (JudgedClean c.in_ok-judged.judged)
     (λ honest. (c.in_ok-judged.ensures.judged old).fit honest here rise)
     (λ honest clean. (c.in_ok-judged.ensures.clean old here
     (subst (WithinMessage message) (sym c.in_ok-came.ensures) within)).leaves honest clean)
-    c.commit_and_tell-told.result c.commit_and_tell-told.ensures.clean
+    c.commit_and_report-told.result c.commit_and_report-told.ensures.clean
 
 pub returns-in_err-judged-clause-clean : goal.returns-in_err-judged-clause-clean
 returns-in_err-judged-clause-clean g c = λ old here rise within.
