@@ -19,7 +19,7 @@ use Rattle.hub_law.specs.Stops.{opened_for}
 use Rattle.hub_law.specs.Told.{Act}
 use Rattle.hub_requests.specs.declared.reply.Reply.{Reply}
 use Rattle.hub_transactions.specs.Acts.{Stays, Carried, Unharmed, as_told}
-use Rattle.hub_core.specs.Steps.{Does, OneMore, Answered, Asked, acts_of}
+use Rattle.hub_core.specs.Steps.{Does, OneMore, Answered, AnsweredOrUndone, acts_of}
 
 module _ {S : Type 0} (g : Ghosts S) (old new : S) (count : ℕ)
     (does : Does) where
@@ -37,7 +37,7 @@ module _ {S : Type 0} (g : Ghosts S) (old new : S) (count : ℕ)
   pub by_look : (result : Result Reply StoreFault) (reply : Reply)
       → Stays g old new
       → (g.honest new → IfOk result (λ given. given ≡ reply))
-      → does Whole (g.content old) ≡ (reply, g.content old) → Asked g old new count does result
+      → does Whole (g.content old) ≡ (reply, g.content old) → AnsweredOrUndone g old new count does result
   by_look (Ok given) reply stays says is =
       record {
         answered = λ h. still h stays given (is ∙ ap (λ reply. (reply, g.content old)) (sym (says h)));
@@ -51,7 +51,7 @@ module _ {S : Type 0} (g : Ghosts S) (old new : S) (count : ℕ)
   pub by_act : (act : Tables → Reply × Tables) (result : Result Reply StoreFault) → count ≡ 1 → ((t : Tables) → does Whole t ≡ act t)
       → Carried g old new act as_told result
       → Unharmed g old new result
-      → Asked g old new count does result
+      → AnsweredOrUndone g old new count does result
   by_act act (Ok reply) one is carried unharmed = record {
     answered = λ h. record {
       mark = Whole;
@@ -83,7 +83,7 @@ module _ {S : Type 0} (g : Ghosts S)
     (deliver : RawMessage × IncomingMessage → Act) (moment : ℕ) where
   abbrev pub AskedOf : S → S → Opened → Reply → Type 0
   AskedOf old new opened reply =
-      Asked g old new (acts_of (opened_for deliver opened))
+      AnsweredOrUndone g old new (acts_of (opened_for deliver opened))
       (λ mark t. uploaded deliver moment mark opened t) (Ok reply)
 
   pub upload_refused : (store : S) (opened : Opened) (code : List ℕ) (reply : Reply)

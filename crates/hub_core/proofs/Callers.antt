@@ -21,7 +21,7 @@ use Rattle.hub_requests.specs.declared.request.Request.TheVariants.{Upload}
 use Rattle.hub_transactions.specs.Acts.{Carried, Unharmed}
 use Rattle.hub_transactions.proofs.LookUps.{none_kept}
 use Rattle.hub_core.specs.Callers.{delivered, addressed_by, KeepsFor, MayDeliver, IsCaller, acts_by, request_of}
-use Rattle.hub_core.specs.Steps.{Does, Asked, SoundWith, acts_of}
+use Rattle.hub_core.specs.Steps.{Does, AnsweredOrUndone, SoundWith, acts_of}
 use Rattle.hub_core.specs.declared.caller.Caller.{Caller}
 use Rattle.hub_core.specs.declared.caller.Caller.TheVariants.{Retailer, Supplier}
 
@@ -48,16 +48,16 @@ pub opened_asked : {S : Type 0} (g : Ghosts S) (old new : S)
     (register : RegisterRows) (caller : Caller) (moment : ℕ) (bytes : List ℕ) (upload : Opened) (result : Result Reply StoreFault)
     → interchange_in bytes ≡ upload
     → (MayDeliver register caller (g.content old)
-    → Asked g old new (acts_of (opened_for (delivered register caller) (addressed_by register caller upload)))
+    → AnsweredOrUndone g old new (acts_of (opened_for (delivered register caller) (addressed_by register caller upload)))
     (λ mark t. uploaded (delivered register caller) moment mark (addressed_by register caller upload) t) result)
     → MayDeliver register caller (g.content old)
-    → Asked g old new (acts_by register caller (Upload bytes)) (request_of register caller moment (Upload bytes)) result
+    → AnsweredOrUndone g old new (acts_by register caller (Upload bytes)) (request_of register caller moment (Upload bytes)) result
 opened_asked g old new register Retailer moment bytes upload result is asked may =
-    subst (λ (opened : Opened). Asked g old new
+    subst (λ (opened : Opened). AnsweredOrUndone g old new
     (acts_of (opened_for (delivered register Retailer) (addressed_by register Retailer opened)))
     (λ mark t. uploaded (delivered register Retailer) moment mark (addressed_by register Retailer opened) t) result) (sym is) (asked may)
 opened_asked g old new register (Supplier s) moment bytes upload result is asked may =
-    subst (λ (opened : Opened). Asked g old new
+    subst (λ (opened : Opened). AnsweredOrUndone g old new
     (acts_of (opened_for (delivered register (Supplier s)) (addressed_by register (Supplier s) opened)))
     (λ mark t. uploaded (delivered register (Supplier s)) moment mark (addressed_by register (Supplier s) opened) t) result) (sym is)
     (asked may)
@@ -109,14 +109,14 @@ module _ (register : RegisterRows) (input : Input) where
       (caller : Caller) (result : Result Reply StoreFault)
       → Known caller
       → (MayDeliver register caller (g.content old)
-      → Asked g old new (acts_by register caller input.request)
+      → AnsweredOrUndone g old new (acts_by register caller input.request)
       (request_of register caller input.moment input.request) result)
       → SoundWith register (g.content old)
-      → Asked g old new (acts_of (upload_of register input))
+      → AnsweredOrUndone g old new (acts_of (upload_of register input))
       (λ mark t. step_under register t input mark) result
   asked_as g old new caller result known asked hub =
-      subst (λ (does : Does). Asked g old new (acts_of (upload_of register input)) does result)
+      subst (λ (does : Does). AnsweredOrUndone g old new (acts_of (upload_of register input)) does result)
       (λ i mark t. step_is caller known mark t i)
       (subst
-      (λ count. Asked g old new count (request_of register caller input.moment input.request) result)
+      (λ count. AnsweredOrUndone g old new count (request_of register caller input.moment input.request) result)
       (acts_are caller known) (asked (may (g.content old) caller known hub)))

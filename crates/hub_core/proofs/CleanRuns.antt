@@ -10,7 +10,7 @@ use Rattle.hub_law.specs.Machine.{Inputs}
 use Rattle.hub_law.specs.Mark.{Mark}
 use Rattle.hub_transactions.specs.Clean.{WithinInput}
 use Rattle.hub_transactions.proofs.CleanSteps.{step_clean, run_clean}
-use Rattle.hub_core.specs.Steps.{Stepped, Ran}
+use Rattle.hub_core.specs.Steps.{Stepped, RunAndCrash}
 
 pub stepped_clean : (t after : Tables) (before left : Tables → Type 0) (input : Input) (reply : Reply)
     → Stepped t after before left input reply
@@ -28,7 +28,7 @@ each_marked [] all = tt
 each_marked (x ∷ marked) all = (all.0, each_marked marked all.1)
 
 pub ran_clean : (t after : Tables) (before left : Tables → Type 0) (inputs : List Input) (replies : List Reply)
-    → Ran t after before left inputs replies
+    → RunAndCrash t after before left inputs replies
     → SoundHub t
     → are_clean t ≡ true
     → AllByRecursion WithinInput inputs

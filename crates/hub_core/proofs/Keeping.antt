@@ -25,7 +25,7 @@ use Rattle.hub_law.proofs.Retailers.{messages_stay, cancelled_stays}
 use Rattle.hub_law.proofs.Steps.{supplier_alike}
 use Rattle.hub_transactions.specs.Joins.{KeepsRows}
 use Rattle.hub_transactions.proofs.Joins.{keeps_all, keeps_moved}
-use Rattle.hub_core.specs.Steps.{Does, Asked, IsNoJoin, JoinAnswered, SoundWith, Stepped}
+use Rattle.hub_core.specs.Steps.{Does, AnsweredOrUndone, IsNoJoin, JoinAnswered, SoundWith, Stepped}
 
 module _ (t : Tables) (here : SoundHub t) where
   abbrev R : RegisterRows
@@ -93,7 +93,7 @@ join_or_none (requests.Join row) = inl (row, refl)
 pub content_kept : {S : Type 0} (g : Ghosts S) (old new : S) (count : ℕ)
     (does : Does) (result : Result Reply StoreFault)
     → ((mark : Mark) (t : Tables) → (does mark t).1 ≡ t)
-    → Asked g old new count does result
+    → AnsweredOrUndone g old new count does result
     → g.honest new
     → g.content new ≡ g.content old
 content_kept g old new count does (Ok reply) idle asked h =

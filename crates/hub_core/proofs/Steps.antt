@@ -2,9 +2,8 @@
 use Rattle.std.proofs.Common.{◌≡◌, ◌≢◌, ◌↔◌, inl, inr, ℕ, zero, suc, ◌+◌, drop, List, [], ◌∷◌}
 use Rattle.std.proofs.Common.{◌++◌, length, map, Option, refl, sym, ap, subst}
 use Rattle.std.proofs.Common.{◌∙◌, append_assoc}
-use Rattle.std.specs.Prelude.{slice_get, Result, Ok, Err, IfOk, OnErr, IsErr}
+use Rattle.std.specs.Prelude.{slice_get, Result, Ok, Err, IfOk, OnErr}
 use Rattle.std.specs.List.{AllByRecursion}
-use Rattle.std.proofs.lemmas.Bool.{false≢true}
 use Rattle.std.specs.Option.{unwrap_or}
 use Rattle.hub_parties.specs.Rows.{RegisterRows}
 use Rattle.hub_tables.specs.Register.{register_of, parties_in}
@@ -21,14 +20,15 @@ use Rattle.hub_requests.specs.declared.reply.Outcome.TheVariants.{Stopped}
 use Rattle.hub_requests.specs.declared.reply.Reply.{Reply}
 use Rattle.hub_requests.specs.declared.request.Input.{Input}
 use Rattle.hub_core.specs.Laws.{OfTheMachine}
-use Rattle.hub_core.specs.Steps.{OneMore, Leaves, LeavesOf, Answered, Asked, Stepped, RunAlone, StoppedSince, RunLeaves, StopsTold}
-use Rattle.hub_core.specs.Steps.{Does, Ran, SoundWith, acts_of}
+use Rattle.hub_core.specs.Steps.{OneMore, CrashLeaves, LeavesOf, Answered, AnsweredOrUndone, Stepped, RunAlone}
+use Rattle.hub_core.specs.Steps.{StoppedSince, RunLeaves, StopsTold}
+use Rattle.hub_core.specs.Steps.{Does, RunAndCrash, SoundWith, acts_of}
 
 -- two requests that do the same to these tables are answered the same
 module _ (count : ℕ) (does same : Does) (t : Tables) (agree : (mark : Mark) → does mark t ≡ same mark t) where
   pub leaves_as : (mark : Mark) (after : Tables) (before : Tables → Type 0) (u : Tables)
-      → Leaves count does t mark after before u
-      → Leaves count same t mark after before u
+      → CrashLeaves count does t mark after before u
+      → CrashLeaves count same t mark after before u
   leaves_as mark after before u (inl e) = inl e
   leaves_as mark after before u (inr (inl e)) = inr (inl e)
   leaves_as mark after before u (inr (inr more)) = inr (inr (record {
@@ -40,8 +40,8 @@ module _ (count : ℕ) (does same : Does) (t : Tables) (agree : (mark : Mark) �
 pub asked_same : {S : Type 0} (g : Ghosts S) (old new : S) (count : ℕ)
     (does same : Does) (result : Result Reply StoreFault)
     → ((mark : Mark) → does mark (g.content old) ≡ same mark (g.content old))
-    → Asked g old new count does result
-    → Asked g old new count same result
+    → AnsweredOrUndone g old new count does result
+    → AnsweredOrUndone g old new count same result
 asked_same g old new count does same (Ok answer) agree asked = record {
   answered = λ h. let a = asked.answered h in record {
     mark = a.mark;
@@ -69,14 +69,15 @@ asked_same g old new count does same (Err fault) agree asked = record {
 pub asked_with : {S : Type 0} (g : Ghosts S) (old new : S)
     (register : RegisterRows) (input : Input) (result : Result Reply StoreFault)
     → SoundWith register (g.content old)
-    → Asked g old new (acts_of (upload_of register input)) (λ mark t. step_under register t input mark) result
-    → Asked g old new (acts_of (upload_of (register_of (g.content old)) input)) (λ mark t. shared_step t input mark) result
+    → AnsweredOrUndone g old new (acts_of (upload_of register input)) (λ mark t. step_under register t input mark) result
+    → AnsweredOrUndone g old new (acts_of (upload_of (register_of (g.content old)) input)) (λ mark t. shared_step t input mark) result
 asked_with g old new register input result here asked =
-    subst (λ (r : RegisterRows). Asked g old new
+    subst (λ (r : RegisterRows). AnsweredOrUndone g old new
     (acts_of (upload_of r input)) (λ mark t. shared_step t input mark) result)
     here.held
     (asked_same g old new (acts_of (upload_of register input)) (λ mark t. step_under register t input mark)
-    (λ mark t. shared_step t input mark) result (λ mark. ap (λ (r : RegisterRows). step_under r (g.content old) input mark) here.held) asked)
+    (λ mark t. shared_step t input mark) result
+    (λ mark. ap (λ (r : RegisterRows). step_under r (g.content old) input mark) here.held) asked)
 
 module _ (laws : OfTheMachine) where
   -- what a crash leaves after an input is sound
@@ -124,7 +125,7 @@ module _ (laws : OfTheMachine) where
       → OnErr answered (given ≡ reply Stopped body)
       → g.honest new
       → SoundHub (g.content old)
-      → Asked g old new (acts_of (upload_of (register_of (g.content old)) input))
+      → AnsweredOrUndone g old new (acts_of (upload_of (register_of (g.content old)) input))
       (λ mark t. shared_step t input mark) answered
       → Stepped (g.content old) (g.content new) (g.left old) (g.left new) input given
   replied g old new input (Ok answer) body given says ok err h hub asked =
@@ -160,11 +161,6 @@ all_at P xs i x all is = (subst (AllByRecursion P) is (all_drop i xs all)).0
     all_drop zero xs all = all
     all_drop (suc i) [] all = tt
     all_drop (suc i) (x ∷ xs) all = all_drop i xs all.1
-
--- what holds after a fault, when a call failed
-pub where_err : {X E P : Type 0} (r : Result X E) → IsErr r → OnErr r P → P
-where_err (Ok x) e p = absurd (false≢true e)
-where_err (Err fault) e p = p
 
 -- a run with one more input
 run_more : (t : Tables) (inputs : Inputs) (input : Input) (mark : Mark)
@@ -206,7 +202,7 @@ module _ (laws : OfTheMachine) where
             ∙ laws.status gln t earlier later input hub other asks;
       }
 
-  pub ran_none : (t : Tables) (left : Tables → Type 0) → SoundHub t → Ran t t left left [] []
+  pub ran_none : (t : Tables) (left : Tables → Type 0) → SoundHub t → RunAndCrash t t left left [] []
   ran_none t left hub = record {
     run = record {
       marked = [];
@@ -264,8 +260,8 @@ module _ (laws : OfTheMachine) where
   pub ran_more :
       (t middle after : Tables) (before left then : Tables → Type 0) (inputs : List Input) (x : Input) (replies : List Reply)
       (reply : Reply)
-      → SoundHub t → Ran t middle before left inputs replies → Stepped middle after left then x reply
-      → Ran t after before then (inputs ++ x ∷ []) (replies ++ reply ∷ [])
+      → SoundHub t → RunAndCrash t middle before left inputs replies → Stepped middle after left then x reply
+      → RunAndCrash t after before then (inputs ++ x ∷ []) (replies ++ reply ∷ [])
   ran_more t middle after before left then inputs x replies reply hub before_it s =
       let r = before_it.run in
       let is : shared_run t (r.marked ++ (x, s.mark) ∷ []) ≡ (replies ++ reply ∷ [], after) =

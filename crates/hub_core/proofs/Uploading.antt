@@ -20,7 +20,7 @@ use Rattle.hub_law.proofs.Acting.{parties_on, parties_same, register_same, suppl
 use Rattle.hub_law.proofs.Going.{holds_on}
 use Rattle.hub_requests.specs.declared.reply.Reply.{Reply}
 use Rattle.hub_core.specs.Callers.{delivered, MayDeliver}
-use Rattle.hub_core.specs.Steps.{Asked, SoundWith}
+use Rattle.hub_core.specs.Steps.{AnsweredOrUndone, SoundWith}
 use Rattle.hub_core.specs.declared.caller.Caller.{Caller}
 use Rattle.hub_core.specs.declared.caller.Caller.TheVariants.{Retailer, Supplier}
 use Rattle.hub_core.proofs.Callers.{parties_rise}
@@ -101,7 +101,7 @@ pub opened_sound : {S : Type 0} (g : Ghosts S) (old new : S)
     → ActsStay → (register : RegisterRows) (caller : Caller) (moment : ℕ) (upload : Opened) (count : ℕ)
     (result : Result Reply StoreFault)
     → MayDeliver register caller (g.content old)
-    → Asked g old new count (λ mark t. uploaded (delivered register caller) moment mark upload t) result
+    → AnsweredOrUndone g old new count (λ mark t. uploaded (delivered register caller) moment mark upload t) result
     → g.honest new → SoundWith register (g.content old) → SoundWith register (g.content new)
 opened_sound g old new laws register caller moment upload count (Ok reply) may asked clean here =
     let answered = asked.answered clean in

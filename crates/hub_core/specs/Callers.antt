@@ -17,7 +17,7 @@ use Rattle.hub_law.specs.Told.{Act}
 use Rattle.hub_requests.specs.declared.reply.Reply.{Reply}
 use Rattle.hub_requests.specs.declared.request.Request.{Request}
 use Rattle.hub_transactions.specs.Orders.{KeepsOrders}
-use Rattle.hub_core.specs.Steps.{Asked, Does, acts_of}
+use Rattle.hub_core.specs.Steps.{AnsweredOrUndone, Does, acts_of}
 use Rattle.hub_core.specs.declared.caller.Caller.{Caller}
 use Rattle.hub_core.specs.declared.caller.Caller.TheVariants.{Retailer, Supplier}
 
@@ -59,7 +59,7 @@ does_opened register caller moment opened mark t = uploaded (delivered register 
 -- the upload was tried over a store, with one act for each of its messages
 abbrev pub OpenedAsked : {S : Type 0} → Ghosts S → RegisterRows → Caller → ℕ → Opened → S → S → Result Reply StoreFault → Type 0
 OpenedAsked g register caller moment opened old new result =
-    Asked g old new (acts_of (opened_for (delivered register caller) opened)) (does_opened register caller moment opened) result
+    AnsweredOrUndone g old new (acts_of (opened_for (delivered register caller) opened)) (does_opened register caller moment opened) result
 
 -- the number of acts of a request
 abbrev pub acts_by : RegisterRows → Caller → Request → ℕ

@@ -13,7 +13,7 @@ use Rattle.hub_requests.specs.declared.request.Request.TheVariants.{Join}
 use Rattle.hub_transactions.specs.Clean.{WithinInput}
 use Rattle.hub_transactions.specs.Joins.{KeepsRows}
 use Rattle.hub_core.specs.Broken.{Breaks, RunBreaks, does_input}
-use Rattle.hub_core.specs.Steps.{Asked, IsNoJoin, JoinAnswered, Ran, SoundWith, Stepped, acts_of}
+use Rattle.hub_core.specs.Steps.{AnsweredOrUndone, IsNoJoin, JoinAnswered, RunAndCrash, SoundWith, Stepped, acts_of}
 
 -- if the input is a join, the register accepts the supplier exactly if the reply says so
 abbrev pub JoinsBy : RegisterRows → RegisterRows → Input → Reply → Type 0
@@ -25,11 +25,12 @@ module _ {S : Type 0} (g : Ghosts S) where
   SteppedOver old new input reply = Stepped (g.content old) (g.content new) (g.left old) (g.left new) input reply
 
   abbrev pub RanOver : S → S → List Input → List Reply → Type 0
-  RanOver old new inputs replies = Ran (g.content old) (g.content new) (g.left old) (g.left new) inputs replies
+  RanOver old new inputs replies = RunAndCrash (g.content old) (g.content new) (g.left old) (g.left new) inputs replies
 
   -- an input was tried under a register
   abbrev pub InputAsked : RegisterRows → Input → S → S → Result Reply StoreFault → Type 0
-  InputAsked register input old new result = Asked g old new (acts_of (upload_of register input)) (does_input register input) result
+  InputAsked register input old new result =
+      AnsweredOrUndone g old new (acts_of (upload_of register input)) (does_input register input) result
 
   -- from a sound start, an input is a step, and inputs one after another are a run
   abbrev pub StepsFrom : RegisterRows × S → RegisterRows × S → Input → Reply → Type 0

@@ -8,7 +8,7 @@ use Rattle.hub_store.specs.declared.store.Store.{Ghosts}
 
 -- The register in a store's rows was read: what was returned, and how the store was left, if its rows hold a register
 -- and if they do not.
-pub record Reads {S : Type 0} (g : Ghosts S) (old new : S) (result : Result RegisterRows StoreFault) : Type 0 where
+pub record MakesHub {S : Type 0} (g : Ghosts S) (old new : S) (result : Result RegisterRows StoreFault) : Type 0 where
   pub looks : (g.honest old → HoldsRegister (g.content old)) →
       Looks g.content g.honest g.left g.broken old new (register_of (g.content old)) result
   pub fails : (g.honest old → HoldsRegister (g.content old)) → Fails g.plain (g.broken old) (g.broken new) result

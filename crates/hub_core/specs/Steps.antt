@@ -55,14 +55,14 @@ pub record OneMore (count : ℕ) (does : Does) (t : Tables) (mark : Mark) (u : T
 -- What a crash leaves after a request with this number of acts: the tables after the acts that are done; if they
 -- changed nothing, what it could leave before; or the tables after one more whole act, at which the request was
 -- stopped.
-abbrev pub Leaves : ℕ → Does → Tables → Mark → Tables → (Tables → Type 0) → Tables → Type 0
-Leaves count does t mark after before u = (u ≡ after) ⊎ (((after ≡ t) × before u) ⊎ OneMore count does t mark u)
+abbrev pub CrashLeaves : ℕ → Does → Tables → Mark → Tables → (Tables → Type 0) → Tables → Type 0
+CrashLeaves count does t mark after before u = (u ≡ after) ⊎ (((after ≡ t) × before u) ⊎ OneMore count does t mark u)
 
 -- a request was answered, as a whole or up to where it was stopped
 pub record Answered {S : Type 0} (g : Ghosts S) (old new : S) (count : ℕ) (does : Does) (reply : Reply) : Type 0 where
   pub mark : Mark
   pub is : does mark (g.content old) ≡ (reply, g.content new)
-  pub leaves : (u : Tables) → g.left new u → Leaves count does (g.content old) mark (g.content new) (g.left old) u
+  pub leaves : (u : Tables) → g.left new u → CrashLeaves count does (g.content old) mark (g.content new) (g.left old) u
 
 -- a request did nothing: a crash leaves what it could leave before, or the tables after the request's one act
 pub record Undone {S : Type 0} (g : Ghosts S) (old new : S) (count : ℕ) (does : Does) : Type 0 where
@@ -70,7 +70,7 @@ pub record Undone {S : Type 0} (g : Ghosts S) (old new : S) (count : ℕ) (does 
   pub leaves : (u : Tables) → g.left new u → g.left old u ⊎ OneMore count does (g.content old) StoppedBare u
 
 -- A request over a store: at Ok it is answered, and after a fault nothing is done.
-pub record Asked {S : Type 0} (g : Ghosts S) (old new : S) (count : ℕ) (does : Does) (result : Result Reply StoreFault)
+pub record AnsweredOrUndone {S : Type 0} (g : Ghosts S) (old new : S) (count : ℕ) (does : Does) (result : Result Reply StoreFault)
     : Type 0 where
   pub answered : g.honest new → IfOk result (λ reply. Answered g old new count does reply)
   pub undone : g.honest new → OnErr result (Undone g old new count does)
@@ -89,7 +89,7 @@ pub record SeenAlone (gln : List ℕ) (t after : Tables) (input : Input) (mark :
 
 -- what a crash leaves after an input
 abbrev pub LeavesOf : Tables → Input → Mark → Tables → (Tables → Type 0) → Tables → Type 0
-LeavesOf t input = Leaves (acts_of (upload_of (register_of t) input)) (λ mark t. shared_step t input mark) t
+LeavesOf t input = CrashLeaves (acts_of (upload_of (register_of t) input)) (λ mark t. shared_step t input mark) t
 
 -- on every order line, the ordered quantity is the sum of the open, refused, cancelled and despatched ones
 abbrev pub LinesBalance : Tables → Type 0
@@ -156,7 +156,7 @@ pub record RunBy (t after : Tables) (inputs : List Input) (replies : List Reply)
   pub alone : (gln : List ℕ) → IsOther gln t → RunAlone gln t after marked replies
 
 -- A run over a store: a crash leaves the acts that are done, or one more, and a sound start if there was one.
-pub record Ran (t after : Tables) (before left : Tables → Type 0) (inputs : List Input) (replies : List Reply)
+pub record RunAndCrash (t after : Tables) (before left : Tables → Type 0) (inputs : List Input) (replies : List Reply)
     : Type 0 where
   pub run : RunBy t after inputs replies
   pub leaves : (u : Tables) → left u → RunLeaves t run.marked after before u

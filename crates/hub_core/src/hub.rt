@@ -14,7 +14,7 @@ ghost use Rattle.hub_transactions.specs.Joins.{KeepsRows};
 ghost use Rattle.hub_core.specs.Hub.{AnswersInput, BreaksFrom, KeepsClean, StaysSound, StepsFrom};
 ghost use Rattle.hub_core.specs.Hub.{RanOver, RunBreaksFrom, SteppedOver};
 ghost use Rattle.hub_core.specs.Opened.{IsStopped, RanOut};
-ghost use Rattle.hub_core.specs.Made.{Reads};
+ghost use Rattle.hub_core.specs.Made.{MakesHub};
 ghost use Rattle.hub_core.specs.Steps.{IsNoJoin, SoundWith, input_of};
 
 use crate::laws::laws_of_the_machine;
@@ -55,8 +55,8 @@ impl<S: Store> Hub<S> {
     /// the store comes back with the fault.
     pub fn new(alloc: Global, mut store: S) -> Result<Self, (S, StoreFault)>
         ensures reads { MatchResult result
-            (λ hub. Reads S.Store store hub.1 (Ok hub.0))
-            (λ back. Reads S.Store store back.0 (Err back.1)) }
+            (λ hub. MakesHub S.Store store hub.1 (Ok hub.0))
+            (λ back. MakesHub S.Store store back.0 (Err back.1)) }
         ensures held { IfOk result (λ hub.
             S.honest hub.1 → SoundHub (S.content store) → SoundWith hub.0 (S.content hub.1)) }
     {

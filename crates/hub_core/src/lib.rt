@@ -17,4 +17,7 @@ pub use hub_parties::Role;
 pub use hub_requests::{Input, Outcome, Reply, Request};
 pub use hub_rules::{Cancel, Join};
 pub use hub_transactions::{STOPPED, number_of, read_cancel};
-pub use laws::{accepted_by_steps, hubs_alike, repeated_by_hubs, repeated_by_steps};
+pub use laws::{
+    hubs_isolate_suppliers, hubs_report_repeated_messages, steps_remember_accepted_messages,
+    steps_report_repeated_messages,
+};

@@ -49,7 +49,7 @@ fn open_bytes(alloc: Global, bytes: &[u8]) -> Result<Interchange, OpenFault>
 }
 
 /// Returns the interchange in the bytes of an upload, or the code of their fault.
-pub(crate) fn opened_upload(
+pub(crate) fn open_upload(
     alloc: Global,
     upload: &[u8],
 ) -> Result<Result<Interchange, &'static str>, MemoryFault>

@@ -7,12 +7,12 @@ ghost use Rattle.hub_core.specs.Opened as spec;
 ghost use Rattle.hub_core.specs.Broken.{BreaksAskedOver};
 ghost use Rattle.hub_core.specs.Callers.{MayDeliver, OpenedAsked, acts_by, addressed_by, does_opened, opening_of, request_of};
 ghost use Rattle.hub_requests.specs.declared.request.Request.TheVariants.{Join};
-ghost use Rattle.hub_core.specs.Steps.{Asked, IsNoJoin, JoinAnswered, SoundWith};
+ghost use Rattle.hub_core.specs.Steps.{AnsweredOrUndone, IsNoJoin, JoinAnswered, SoundWith};
 ghost use Rattle.hub_core.specs.declared.caller.Caller.TheVariants.{Retailer, Supplier};
 
 use crate::address::address_fault_for;
 use crate::caller::Caller;
-use crate::opening::opened_upload;
+use crate::opening::open_upload;
 use crate::replies::{denied_reply, refused_upload};
 use crate::upload::{OpenedUpload, take_messages};
 use edi_envelope::{Interchange, Moment};
@@ -77,12 +77,12 @@ fn upload<S: Store>(
         (opening_of register.now caller.entry bytes.now)) store.old store.new result }
     ensures was_honest { S.honest store.new → S.honest store.old }
 {
-    let interchange = opened_upload(alloc, bytes)?;
+    let interchange = open_upload(alloc, bytes)?;
     take_opened(alloc, register, caller, store, moment, interchange)
 }
 
 /// Answers a supplier's request.
-pub(crate) fn asked_by_supplier<S: Store>(
+pub(crate) fn answer_supplier<S: Store>(
     alloc: Global,
     register: &Register,
     supplier: &SupplierRow,
@@ -91,7 +91,7 @@ pub(crate) fn asked_by_supplier<S: Store>(
     request: &Request,
 ) -> Result<Reply, StoreFault>
     ensures asked { MayDeliver register.now (Supplier supplier.entry) (S.content store.old) →
-        Asked S.Store store.old store.new
+        AnsweredOrUndone S.Store store.old store.new
         (acts_by register.now (Supplier supplier.entry) request.now)
         (request_of register.now (Supplier supplier.entry) moment request.now) result }
     ensures joined { (row : SupplierRow) → request.now ≡ Join row →
@@ -117,7 +117,7 @@ pub(crate) fn asked_by_supplier<S: Store>(
 }
 
 /// Answers the retailer's request. Only a join changes the register, and none does over a broken store.
-pub(crate) fn asked_by_retailer<S: Store>(
+pub(crate) fn answer_retailer<S: Store>(
     alloc: Global,
     register: &mut Register,
     store: &mut S,
@@ -125,7 +125,7 @@ pub(crate) fn asked_by_retailer<S: Store>(
     request: &Request,
 ) -> Result<Reply, StoreFault>
     ensures asked { SoundWith register.old (S.content store.old) →
-        Asked S.Store store.old store.new (acts_by register.old Retailer request.now)
+        AnsweredOrUndone S.Store store.old store.new (acts_by register.old Retailer request.now)
         (request_of register.old Retailer moment request.now) result }
     ensures held { (row : SupplierRow) → request.now ≡ Join row →
         S.honest store.new → SoundWith register.old (S.content store.old) →

@@ -13,7 +13,7 @@ ghost use Rattle.hub_core.specs.Steps.{IsNoJoin, JoinAnswered, SoundWith, input_
 use crate::caller::{Caller, caller_of};
 use crate::opening::with_code;
 use crate::replies::denied_reply;
-use crate::requests::{asked_by_retailer, asked_by_supplier, take_opened};
+use crate::requests::{answer_retailer, answer_supplier, take_opened};
 use edi_envelope::{Interchange, Moment, OpenFault};
 use edi_tokens::TokenFault;
 use gs1_ids::Gln;
@@ -50,9 +50,9 @@ pub(crate) fn answer<S: Store>(
 {
     match caller_of(register, caller, key) {
         Some(Caller::Supplier(supplier)) => {
-            asked_by_supplier(alloc, register, supplier, store, moment, request)
+            answer_supplier(alloc, register, supplier, store, moment, request)
         }
-        Some(Caller::Retailer) => asked_by_retailer(alloc, register, store, moment, request),
+        Some(Caller::Retailer) => answer_retailer(alloc, register, store, moment, request),
         None => Ok(denied_reply(alloc)?),
     }
 }

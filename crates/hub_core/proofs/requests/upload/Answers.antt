@@ -3,7 +3,7 @@ use Rattle.hub_law.specs.Opening.{Opened}
 use Rattle.hub_law.specs.Requests.{uploaded}
 use Rattle.hub_law.specs.Stops.{opened_for}
 use Rattle.hub_core.specs.Callers.{delivered, addressed_by}
-use Rattle.hub_core.specs.Steps.{Asked, acts_of}
+use Rattle.hub_core.specs.Steps.{AnsweredOrUndone, acts_of}
 use Rattle.hub_core.specs.Broken.{BreaksAsked}
 use Rattle.hub_core.proofs.requests.upload.Goals as goal
 
@@ -11,7 +11,7 @@ pub returns-clause-asked : goal.returns-clause-asked
 returns-clause-asked g c may =
     let register = c.args.register.now in
     let deliver = delivered register c.args.caller in
-    subst (λ (opened : Opened). Asked g.S.Store c.args.store.now c.take_opened.new.store
+    subst (λ (opened : Opened). AnsweredOrUndone g.S.Store c.args.store.now c.take_opened.new.store
     (acts_of (opened_for deliver (addressed_by register c.args.caller opened)))
     (λ mark t. uploaded deliver c.args.moment mark (addressed_by register c.args.caller opened) t) c.take_opened.result)
     (sym c.in_ok-interchange.ensures) (c.take_opened.ensures.asked may)

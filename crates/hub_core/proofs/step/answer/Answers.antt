@@ -14,8 +14,8 @@ returns-in-Some-Supplier-clause-asked g c here =
     let register = c.args.register.now in
     let input = input_of c.args.moment c.args.caller.now c.args.key.now c.args.request.now in
     let known : IsCaller register c.args.caller.now c.args.key.now (Supplier c.in-Some-Supplier.supplier) = search rules in
-    asked_as register input g.S.Store c.args.store.now c.asked_by_supplier.new.store
-    (Supplier c.in-Some-Supplier.supplier) c.asked_by_supplier.result known c.asked_by_supplier.ensures.asked here
+    asked_as register input g.S.Store c.args.store.now c.answer_supplier.new.store
+    (Supplier c.in-Some-Supplier.supplier) c.answer_supplier.result known c.answer_supplier.ensures.asked here
 
 pub returns-in-Some-Supplier-clause-held : goal.returns-in-Some-Supplier-clause-held
 returns-in-Some-Supplier-clause-held g c row is honest here =
@@ -25,10 +25,10 @@ returns-in-Some-Supplier-clause-held g c row is honest here =
     let known : IsCaller register c.args.caller.now c.args.key.now (Supplier supplier) = search rules in
     here.held
     ∙ sym (ap register_of (content_kept g.S.Store c.args.store.now
-    c.asked_by_supplier.new.store (acts_by register (Supplier supplier) c.args.request.now)
-    (request_of register (Supplier supplier) c.args.moment c.args.request.now) c.asked_by_supplier.result
+    c.answer_supplier.new.store (acts_by register (Supplier supplier) c.args.request.now)
+    (request_of register (Supplier supplier) c.args.moment c.args.request.now) c.answer_supplier.result
     (λ mark t. ap (λ request. (request_of register (Supplier supplier) c.args.moment request mark t).1) is)
-    (c.asked_by_supplier.ensures.asked (may register input (g.S.Store.content c.args.store.now) (Supplier supplier) known here))
+    (c.answer_supplier.ensures.asked (may register input (g.S.Store.content c.args.store.now) (Supplier supplier) known here))
     honest))
 
 pub returns-in-Some-Retailer-clause-asked : goal.returns-in-Some-Retailer-clause-asked
@@ -36,8 +36,8 @@ returns-in-Some-Retailer-clause-asked g c here =
     let register = c.args.register.now in
     let input = input_of c.args.moment c.args.caller.now c.args.key.now c.args.request.now in
     let known : IsCaller register c.args.caller.now c.args.key.now Retailer = search rules in
-    asked_as register input g.S.Store c.args.store.now c.asked_by_retailer.new.store
-    Retailer c.asked_by_retailer.result known (λ _. c.asked_by_retailer.ensures.asked here) here
+    asked_as register input g.S.Store c.args.store.now c.answer_retailer.new.store
+    Retailer c.answer_retailer.result known (λ _. c.answer_retailer.ensures.asked here) here
 
 pub returns-in-Some-Supplier-clause-joined : goal.returns-in-Some-Supplier-clause-joined
 returns-in-Some-Supplier-clause-joined g c row is =
@@ -45,14 +45,14 @@ returns-in-Some-Supplier-clause-joined g c row is =
     let input = input_of c.args.moment c.args.caller.now c.args.key.now c.args.request.now in
     let known : IsCaller register c.args.caller.now c.args.key.now (Supplier c.in-Some-Supplier.supplier) = search rules in
     join_as row register register (request_of register (Supplier c.in-Some-Supplier.supplier) c.args.moment c.args.request.now)
-    (does_input register input) c.asked_by_supplier.result
-    (step_is register input (Supplier c.in-Some-Supplier.supplier) known Whole) (c.asked_by_supplier.ensures.joined row is)
+    (does_input register input) c.answer_supplier.result
+    (step_is register input (Supplier c.in-Some-Supplier.supplier) known Whole) (c.answer_supplier.ensures.joined row is)
 
 pub returns-in-Some-Retailer-clause-joined : goal.returns-in-Some-Retailer-clause-joined
 returns-in-Some-Retailer-clause-joined g c row is =
     let register = c.args.register.now in
     let input = input_of c.args.moment c.args.caller.now c.args.key.now c.args.request.now in
     let known : IsCaller register c.args.caller.now c.args.key.now Retailer = search rules in
-    join_as row register c.asked_by_retailer.new.register (request_of register Retailer c.args.moment c.args.request.now)
-    (does_input register input) c.asked_by_retailer.result
-    (step_is register input Retailer known Whole) (c.asked_by_retailer.ensures.joined row is)
+    join_as row register c.answer_retailer.new.register (request_of register Retailer c.args.moment c.args.request.now)
+    (does_input register input) c.answer_retailer.result
+    (step_is register input Retailer known Whole) (c.answer_retailer.ensures.joined row is)

@@ -25,7 +25,8 @@ returns g c =
     let register = c.self.inside.register in
     let does = does_input register input in
     let given = c.reply_or_stop.result in
-    let stepped : StepsFrom g.S.Store (register, c.self.inside.store) (c.answer-answered.new.register, c.answer-answered.new.store) input given =
+    let stepped : StepsFrom g.S.Store (register, c.self.inside.store)
+    (c.answer-answered.new.register, c.answer-answered.new.store) input given =
     λ honest here.
     replied c.laws_of_the_machine.ensures g.S.Store c.self.inside.store c.answer-answered.new.store input
     c.answer-answered.result c.in-Ok.stopped given c.in-Ok.ensures c.reply_or_stop.ensures.ok c.reply_or_stop.ensures.err

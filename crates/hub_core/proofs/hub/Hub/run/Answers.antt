@@ -5,7 +5,7 @@ use Rattle.hub_requests.specs.declared.reply.Reply.{Reply}
 use Rattle.hub_requests.specs.declared.request.Input.{Input}
 use Rattle.hub_transactions.proofs.Joins.{keeps_all, keeps_on}
 use Rattle.hub_core.specs.Broken.{Breaks, RunBreaks, does_input}
-use Rattle.hub_core.specs.Steps.{IsNoJoin, Stepped, Ran, input_of}
+use Rattle.hub_core.specs.Steps.{IsNoJoin, Stepped, RunAndCrash, input_of}
 use Rattle.hub_core.proofs.Breaking.{run_more, run_none, moved, moved_one}
 use Rattle.hub_core.proofs.Steps.{ran_none, ran_more, all_at}
 use Rattle.hub_core.proofs.CleanRuns.{ran_clean}
@@ -57,8 +57,8 @@ loop-input-preserved g c =
           let so_far = c.loop-input.invariant.ran was here in
           let one = subst (λ (input : Input). Stepped middle after left then input c.reply_to-reply.result) asked
           (c.reply_to-reply.ensures.stepped honest (c.loop-input.invariant.held was here)) in
-          subst (λ (xs : List Input). Ran t after before then xs c.push.new.self.items) (sym taken)
-          (subst (λ (rs : List Reply). Ran t after before then (earlier ++ c.input-item.result ∷ []) rs) (sym pushed)
+          subst (λ (xs : List Input). RunAndCrash t after before then xs c.push.new.self.items) (sym taken)
+          (subst (λ (rs : List Reply). RunAndCrash t after before then (earlier ++ c.input-item.result ∷ []) rs) (sym pushed)
           (ran_more c.laws_of_the_machine.ensures t middle after before left
           then earlier c.input-item.result c.loop-input.replies.items c.reply_to-reply.result here.sound so_far one));
       held = λ honest here.
@@ -83,7 +83,7 @@ loop-input-init g c = record {
   was_honest = λ honest. honest;
   ran =
       λ honest here. subst
-      (λ (rs : List Reply). Ran (g.S.Store.content c.args.self.now.1) (g.S.Store.content c.args.self.now.1)
+      (λ (rs : List Reply). RunAndCrash (g.S.Store.content c.args.self.now.1) (g.S.Store.content c.args.self.now.1)
       (g.S.Store.left c.args.self.now.1) (g.S.Store.left c.args.self.now.1) [] rs) (grind (arith, common_steps))
       (ran_none c.laws_of_the_machine.ensures (g.S.Store.content c.args.self.now.1) (g.S.Store.left c.args.self.now.1) here.sound);
   held = λ honest here. here;
@@ -98,8 +98,8 @@ returns-clause-ran g c honest here =
     let before = g.S.Store.left c.args.self.now.1 in
     let left = g.S.Store.left c.loop-input.self.1 in
     let all : take c.loop-input.input-index c.args.inputs.now ≡ c.args.inputs.now = grind (arith, common_steps) in
-    subst (λ (xs : List Input). Ran t after before left xs c.from_vec.result) all
-    (subst (λ (rs : List Reply). Ran t after before left (take c.loop-input.input-index c.args.inputs.now) rs)
+    subst (λ (xs : List Input). RunAndCrash t after before left xs c.from_vec.result) all
+    (subst (λ (rs : List Reply). RunAndCrash t after before left (take c.loop-input.input-index c.args.inputs.now) rs)
     (sym c.from_vec.ensures) (c.loop-input.invariant.ran honest here))
 
 pub returns-clause-breaks : goal.returns-clause-breaks

@@ -3,7 +3,7 @@ use Rattle.std.specs.List.{AllByRecursion}
 use Rattle.hub_requests.specs.declared.request.Input.{Input}
 use Rattle.hub_transactions.specs.Joins.{KeepsRows}
 use Rattle.hub_core.specs.Broken.{RunBreaks}
-use Rattle.hub_core.specs.Steps.{IsNoJoin, SoundWith, Ran}
+use Rattle.hub_core.specs.Steps.{IsNoJoin, SoundWith, RunAndCrash}
 use Rattle.hub_core.proofs.hub.Hub.run.Given as goal
 
 abbrev pub invariant-loop-input : goal.invariant-loop-input
@@ -15,7 +15,7 @@ invariant-loop-input g l = record {
       (take l.input-index l.inputs) l.replies.items;
   was_honest : g.S.Store.honest l.self.1 → g.S.Store.honest l.fn.self.1;
   ran : g.S.Store.honest l.self.1 → SoundWith l.fn.self.0 (g.S.Store.content l.fn.self.1)
-      → Ran (g.S.Store.content l.fn.self.1) (g.S.Store.content l.self.1) (g.S.Store.left l.fn.self.1)
+      → RunAndCrash (g.S.Store.content l.fn.self.1) (g.S.Store.content l.self.1) (g.S.Store.left l.fn.self.1)
       (g.S.Store.left l.self.1) (take l.input-index l.inputs) l.replies.items;
   held : g.S.Store.honest l.self.1 → SoundWith l.fn.self.0 (g.S.Store.content l.fn.self.1)
       → SoundWith l.self.0 (g.S.Store.content l.self.1);

@@ -27,7 +27,8 @@ returns-clause-stepped g c bytes opens =
     replied c.laws_of_the_machine.ensures g.S.Store c.self.inside.store c.answer_opened-answered.new.store input
     c.answer_opened-answered.result c.in-Ok.stopped c.reply_or_stop.result c.in-Ok.ensures
     c.reply_or_stop.ensures.ok c.reply_or_stop.ensures.err honest here.sound
-    (asked_with g.S.Store c.self.inside.store c.answer_opened-answered.new.store c.self.inside.register input c.answer_opened-answered.result here
+    (asked_with g.S.Store c.self.inside.store c.answer_opened-answered.new.store c.self.inside.register input
+    c.answer_opened-answered.result here
     (c.answer_opened-answered.ensures.asked bytes opens here)))
 
 pub returns-clause-clean : goal.returns-clause-clean

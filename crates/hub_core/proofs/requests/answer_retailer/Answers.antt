@@ -11,7 +11,7 @@ use Rattle.hub_requests.specs.declared.request.Request.TheVariants.{StatusOf, Ca
 use Rattle.hub_law.specs.Mark.{Whole}
 use Rattle.hub_law.specs.Requests.{answered, cancel_named, joined}
 use Rattle.hub_core.proofs.Asking.{by_look, by_act, reported}
-use Rattle.hub_core.proofs.requests.asked_by_retailer.Goals as goal
+use Rattle.hub_core.proofs.requests.answer_retailer.Goals as goal
 
 pub returns-in-Upload-clause-asked : goal.returns-in-Upload-clause-asked
 returns-in-Upload-clause-asked g c here =

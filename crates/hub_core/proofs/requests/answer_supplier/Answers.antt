@@ -10,7 +10,7 @@ use Rattle.hub_core.specs.Callers.{request_of}
 use Rattle.hub_core.specs.declared.caller.Caller.TheVariants.{Supplier}
 use Rattle.hub_core.proofs.Asking.{by_look, by_act}
 use Rattle.hub_core.proofs.Breaking.{by_call}
-use Rattle.hub_core.proofs.requests.asked_by_supplier.Goals as goal
+use Rattle.hub_core.proofs.requests.answer_supplier.Goals as goal
 
 pub returns-in-Upload-clause-asked : goal.returns-in-Upload-clause-asked
 returns-in-Upload-clause-asked g c may = rw c.in-Upload.is (rw c.as_slice.ensures at (c.upload.ensures.asked may))
