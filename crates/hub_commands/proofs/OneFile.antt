@@ -12,10 +12,10 @@ use Rattle.edi_envelope.specs.declared.fault.OpenFault.{OpenFault}
 use Rattle.edi_envelope.specs.declared.fault.OpenFault.TheVariants.{Token}
 use Rattle.edi_envelope.specs.declared.interchange.Interchange.{Interchange}
 use Rattle.hub_requests.specs.declared.reply.Reply.{Reply}
-use Rattle.hub_commands.specs.Files.{Gave, FaultComesOf, OpensSource, IsCalled, IsRead, IsUnread, HasFailed}
-use Rattle.hub_commands.specs.Import.{Looked, Answered, Unread, NoMemory, Of, WasGiven, Ends, BrokenOff}
+use Rattle.hub_commands.specs.Files.{Gave, FaultComesOf, OpensSource, IsCalled, FileRead, IsUnread, HasFailed}
+use Rattle.hub_commands.specs.Import.{Looked, Answered, Unread, NoMemory, Of, WasGiven, ImportEnds, ImportBrokenOff}
 use Rattle.hub_commands.specs.Import.{file_line}
-use Rattle.hub_commands.specs.OneFile.{Did, Comes, ReplyComes, FaultComes}
+use Rattle.hub_commands.specs.OneFile.{FileDone, Comes, ReplyComes, FaultComes}
 use Rattle.hub_commands.specs.Output.{Written, Lost}
 use Rattle.hub_commands.specs.declared.files.NamedFile.{NamedFile}
 use Rattle.hub_commands.specs.declared.files.NextFile.{NextFile}
@@ -60,7 +60,7 @@ module _ {B : Type 0} (remaining : B → Option (List ℕ)) (broken : B → Type
       → (opens : OpensSource remaining named.source upload)
       → Of remaining broken file (Answered (string_bytes named.name) (bytes_of named.source upload opens) reply)
   of_read file named upload reply e opens =
-      subst (λ (f : NextFile B). IsRead remaining f (string_bytes named.name) (bytes_of named.source upload opens)) (sym e)
+      subst (λ (f : NextFile B). FileRead remaining f (string_bytes named.name) (bytes_of named.source upload opens)) (sym e)
       (refl, gave named.source upload opens)
 
   opens_known : (upload : Result Interchange OpenFault) (known : Option (List ℕ))
@@ -99,7 +99,7 @@ module _ {B : Type 0} (remaining : B → Option (List ℕ)) (broken : B → Type
       (upload : Result Interchange OpenFault)
       → ((bytes : List ℕ) → Opens upload (opened bytes) → Steps bytes reply)
       → (opens : OpensSource remaining source upload)
-      → Did Steps Stays (Answered name (bytes_of source upload opens) reply)
+      → FileDone Steps Stays (Answered name (bytes_of source upload opens) reply)
   did_upload Steps Stays name reply (Ok source) upload step opens = step opens.0 opens.2
   did_upload Steps Stays name reply (Err fault) upload step opens = absurd opens
 
@@ -111,20 +111,20 @@ module _ {B : Type 0} (remaining : B → Option (List ℕ)) (broken : B → Type
   of_unread file named Memory e comes = is_called file named e
 
   pub nothing_done : (Steps : List ℕ → Reply → Type 0) {Stays : Type 0} (name : List ℕ) (fault : ReadFault) → Stays
-      → Did Steps Stays (of_fault name fault)
+      → FileDone Steps Stays (of_fault name fault)
   nothing_done Steps name Read stays = stays
   nothing_done Steps name Memory stays = stays
 
 -- the import ends where no status is answered
 pub ended : {E : Type 0} {old new : Option (List ℕ)} {failed after : Bool} (one : Looked) (r : Result ℕ E) → IsErr r
-    → Ends old new failed after [] one
+    → ImportEnds old new failed after [] one
     → Comes old new failed after one r
 ended one (Ok status) e ends = absurd (false≢true e)
 ended one (Err fault) e ends = ends
 
 -- a write failed where nothing had been written of the file
 pub lost_at_once : {old new : Option (List ℕ)} {after : Bool} {text : List ℕ} → Lost old new after text
-    → BrokenOff old new after [] text
+    → ImportBrokenOff old new after [] text
 lost_at_once {old} lost = record { between = old; written = Appends-nil old; lost = lost }
 
 -- after the line of a file its reply is printed

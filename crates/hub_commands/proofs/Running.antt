@@ -10,7 +10,7 @@ use Rattle.hub_requests.specs.declared.request.Input.{Input}
 use Rattle.hub_core.specs.Hub.{RanOver, RunsFrom, StaysSound, SteppedOver, StepsFrom}
 use Rattle.hub_commands.specs.Import.{Looked, Answered, Unread, Unnamed, NoMemory, Unprinted}
 use Rattle.hub_commands.specs.Import.{uploads, replies, upload_of, reply_of}
-use Rattle.hub_commands.specs.OneFile.{Did}
+use Rattle.hub_commands.specs.OneFile.{FileDone}
 
 module _ {S : Type 0} (g : Ghosts S) (asked : List ℕ → Input) where
   -- an upload of these bytes is a step from the one hub to the other
@@ -51,7 +51,7 @@ module _ {S : Type 0} (g : Ghosts S) (asked : List ℕ → Input) where
         → (g.honest new.1 → g.honest between.1)
         → StaysSound g old between
         → RunsFrom g old between (uploads asked looked) (replies looked)
-        → Did (StepsTo between new) (new ≡ between) one
+        → FileDone (StepsTo between new) (new ≡ between) one
         → RunsFrom g old new (uploads asked (looked ++ one ∷ [])) (replies (looked ++ one ∷ []))
     runs_more old between new looked (Answered name bytes reply) was_honest holds ran did = λ h sound.
         let before = ran (was_honest h) sound in

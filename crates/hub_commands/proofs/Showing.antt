@@ -6,7 +6,7 @@ use Rattle.edi_base.specs.Buffer.{AppendsFront}
 use Rattle.edi_base.specs.declared.source.ReadFault.{ReadFault}
 use Rattle.edi_base.specs.declared.source.ReadFault.TheVariants as read_faults
 use Rattle.edi_relay.specs.Run.{read_limit}
-use Rattle.hub_commands.specs.Show.{lines_shown, status_of, Shows, ShowsFront}
+use Rattle.hub_commands.specs.Show.{lines_shown, status_of, ShowsLines, ShowsFront}
 
 -- where the reader stands
 pub stands : (old new : Option (List ℕ)) (read : List ℕ)
@@ -22,7 +22,7 @@ pub is_shown : (known : Option (List ℕ)) (status : ℕ) (old new : Option (Lis
     → status ≡ status_of bytes
     → lines ≡ lines_shown bytes
     → Appends old new lines
-    → Shows known status old new
+    → ShowsLines known status old new
 is_shown None status old new read bytes lines whole same told said written = tt
 is_shown (Some k) status old new read bytes lines whole same told said written = (
   told ∙ ap status_of (same ∙ whole),

@@ -11,8 +11,8 @@ use Rattle.hub_requests.specs.declared.reply.Reply.{Reply}
 use Rattle.hub_requests.specs.declared.request.Input.{Input}
 use Rattle.edi_base.specs.declared.source.ReadFault.{ReadFault}
 use Rattle.edi_base.specs.declared.source.ReadFault.TheVariants.{Read, Memory}
-use Rattle.hub_commands.specs.Files.{Gave, FaultComesOf, GivenAs, Gives}
-use Rattle.hub_commands.specs.Import.{Looked, Answered, Unread, NoMemory, Unprinted, Of, Takes, GoesOn, Ends}
+use Rattle.hub_commands.specs.Files.{Gave, FaultComesOf, GivenAs, GivesFile}
+use Rattle.hub_commands.specs.Import.{Looked, Answered, Unread, NoMemory, Unprinted, Of, TakesFile, ImportGoesOn, ImportEnds}
 use Rattle.hub_commands.specs.Import.{Imported, StillCome, WasGiven}
 use Rattle.hub_commands.specs.Import.{uploads, replies, import_text, greatest, line_of, text_of, file_status}
 use Rattle.hub_commands.specs.Import as looked_at
@@ -25,7 +25,7 @@ use Rattle.hub_commands.proofs.Output.{written_then, written_as}
 pub record Taken {B : Type 0} (remaining : B → Option (List ℕ)) (broken : B → Type 0) (known rest : Option (List (NextFile B)))
     (looked : List Looked) : Type 0 where
   pub others : List (NextFile B)
-  pub taken : IfSome known (λ files. Takes remaining broken files looked others × (rest ≡ Some others))
+  pub taken : IfSome known (λ files. TakesFile remaining broken files looked others × (rest ≡ Some others))
 
 -- the import goes on after all files that were looked at
 pub record SoFar {B : Type 0} (remaining : B → Option (List ℕ)) (broken : B → Type 0) (Runs : List Input → List Reply → Type 0)
@@ -34,13 +34,13 @@ pub record SoFar {B : Type 0} (remaining : B → Option (List ℕ)) (broken : B 
   pub looked : List Looked
   pub files : Taken remaining broken known rest looked
   pub ran : Runs (uploads asked looked) (replies looked)
-  pub go_on : AllByRecursion GoesOn looked
+  pub go_on : AllByRecursion ImportGoesOn looked
   pub written : Written old new failed after (import_text looked)
   pub status_is : status ≡ greatest looked
 
 -- one file more
-all_more : (looked : List Looked) (one : Looked) → AllByRecursion GoesOn looked → GoesOn one
-    → AllByRecursion GoesOn (looked ++ one ∷ [])
+all_more : (looked : List Looked) (one : Looked) → AllByRecursion ImportGoesOn looked → ImportGoesOn one
+    → AllByRecursion ImportGoesOn (looked ++ one ∷ [])
 all_more [] one all goes = (goes, tt)
 all_more (first ∷ looked) one all goes = (all.0, all_more looked one all.1 goes)
 
@@ -65,11 +65,11 @@ read_not_memory e = absurd cc
 
 module _ {B : Type 0} (remaining : B → Option (List ℕ)) (broken : B → Type 0) where
   takes_more : (files : List (NextFile B)) (looked : List Looked) (file : NextFile B) (one : Looked) (others : List (NextFile B))
-      → Takes remaining broken files looked (file ∷ others)
+      → TakesFile remaining broken files looked (file ∷ others)
       → Of remaining broken file one
-      → Takes remaining broken files (looked ++ one ∷ []) others
+      → TakesFile remaining broken files (looked ++ one ∷ []) others
   takes_more files [] file one others takes is =
-      subst (λ (fs : List (NextFile B)). Takes remaining broken fs (one ∷ []) others) (sym takes) (is, refl)
+      subst (λ (fs : List (NextFile B)). TakesFile remaining broken fs (one ∷ []) others) (sym takes) (is, refl)
   takes_more [] (first ∷ looked) file one others takes is = absurd takes
   takes_more (f ∷ files) (first ∷ looked) file one others takes is = (takes.0, takes_more files looked file one others takes.1 is)
 
@@ -98,27 +98,27 @@ module _ {B : Type 0} (remaining : B → Option (List ℕ)) (broken : B → Type
 
   -- what is given: none, a file, or want of memory
   pub gives_none : {E : Type 0} (known rest : Option (List (NextFile B))) (r : Result (Option (NextFile B)) E) (o : Option (NextFile B))
-      → Gives known rest r → r ≡ Ok o → o ≡ None → IfSome known (λ files. (files ≡ []) × (rest ≡ Some []))
+      → GivesFile known rest r → r ≡ Ok o → o ≡ None → IfSome known (λ files. (files ≡ []) × (rest ≡ Some []))
   gives_none {E} known rest r o gives is none =
-      subst (λ (r : Result (Option (NextFile B)) E). Gives known rest r) (is ∙ ap (λ (o : Option (NextFile B)). Ok o) none) gives
+      subst (λ (r : Result (Option (NextFile B)) E). GivesFile known rest r) (is ∙ ap (λ (o : Option (NextFile B)). Ok o) none) gives
 
   pub gives_file : {E : Type 0} (known rest : Option (List (NextFile B))) (r : Result (Option (NextFile B)) E) (o : Option (NextFile B))
       (given : NextFile B)
-      → Gives known rest r → r ≡ Ok o → o ≡ Some given
+      → GivesFile known rest r → r ≡ Ok o → o ≡ Some given
       → IfSome known (λ files. (file : NextFile B) × (others : List (NextFile B)) × (files ≡ file ∷ others) × (rest ≡ Some others)
       × GivenAs file given)
   gives_file {E} known rest r o given gives is some =
-      subst (λ (r : Result (Option (NextFile B)) E). Gives known rest r) (is ∙ ap (λ (o : Option (NextFile B)). Ok o) some) gives
+      subst (λ (r : Result (Option (NextFile B)) E). GivesFile known rest r) (is ∙ ap (λ (o : Option (NextFile B)). Ok o) some) gives
 
   pub gives_fault : {E : Type 0} (known rest : Option (List (NextFile B))) (r : Result (Option (NextFile B)) E) (fault : E)
-      → Gives known rest r → r ≡ Err fault
+      → GivesFile known rest r → r ≡ Err fault
       → IfSome known (λ files. (file : NextFile B) × (others : List (NextFile B)) × (files ≡ file ∷ others))
-  gives_fault {E} known rest r fault gives is = (subst (λ (r : Result (Option (NextFile B)) E). Gives known rest r) is gives).1
+  gives_fault {E} known rest r fault gives is = (subst (λ (r : Result (Option (NextFile B)) E). GivesFile known rest r) is gives).1
 
   pub gives_again : {E : Type 0} (known rest : Option (List (NextFile B))) (r : Result (Option (NextFile B)) E) (fault : E)
-      → Gives known rest r → r ≡ Err fault → rest ≡ known
+      → GivesFile known rest r → r ≡ Err fault → rest ≡ known
   gives_again {E} known rest r fault gives is =
-      (subst (λ (r : Result (Option (NextFile B)) E). Gives known rest r) is gives).0
+      (subst (λ (r : Result (Option (NextFile B)) E). GivesFile known rest r) is gives).0
 
   -- the first of the files that still come is looked at
   pub taken_more : (known rest later : Option (List (NextFile B))) (looked : List Looked) (given : NextFile B) (one : Looked)
@@ -133,7 +133,7 @@ module _ {B : Type 0} (remaining : B → Option (List ℕ)) (broken : B → Type
     others = gives.1;
     taken = (
       takes_more files looked gives.0 one gives.1
-          (subst (λ (fs : List (NextFile B)). Takes remaining broken files looked fs)
+          (subst (λ (fs : List (NextFile B)). TakesFile remaining broken files looked fs)
           (sym (ap (λ (r : Option (List (NextFile B))). unwrap_or r rest) t.taken.1) ∙ gives.2) t.taken.0)
           (given_is gives.0 given one gives.4 is),
       gives.3,
@@ -145,13 +145,13 @@ module _ {B : Type 0} (remaining : B → Option (List ℕ)) (broken : B → Type
       → Taken remaining broken known rest looked
       → IfSome rest (λ files. (file : NextFile B) × (others : List (NextFile B)) × (files ≡ file ∷ others))
       → left ≡ rest
-      → (others : List (NextFile B)) × IfSome known (λ files. Takes remaining broken files (looked ++ NoMemory None ∷ []) others)
+      → (others : List (NextFile B)) × IfSome known (λ files. TakesFile remaining broken files (looked ++ NoMemory None ∷ []) others)
       × IfSome known (λ files. StillCome remaining broken files looked (NoMemory None) others left)
   taken_no_memory None rest left looked t gives same = ([], tt, tt)
   taken_no_memory (Some files) None left looked t gives same = absurd cc
   taken_no_memory (Some files) (Some rest) left looked t gives same =
-      let takes : Takes remaining broken files looked (gives.0 ∷ gives.1) =
-      subst (λ (fs : List (NextFile B)). Takes remaining broken files looked fs)
+      let takes : TakesFile remaining broken files looked (gives.0 ∷ gives.1) =
+      subst (λ (fs : List (NextFile B)). TakesFile remaining broken files looked fs)
       (sym (ap (λ (r : Option (List (NextFile B))). unwrap_or r rest) t.taken.1) ∙ gives.2) t.taken.0 in (
         gives.1,
         takes_more files looked gives.0 (NoMemory None) gives.1 takes tt,
@@ -159,7 +159,7 @@ module _ {B : Type 0} (remaining : B → Option (List ℕ)) (broken : B → Type
       )
 
   pub taken_known : (known rest : Option (List (NextFile B))) (looked : List Looked) (t : Taken remaining broken known rest looked)
-      → IfSome known (λ files. Takes remaining broken files looked t.others)
+      → IfSome known (λ files. TakesFile remaining broken files looked t.others)
   taken_known None rest looked t = tt
   taken_known (Some files) rest looked t = t.taken.0
 
@@ -194,11 +194,11 @@ module _ {B : Type 0} (remaining : B → Option (List ℕ)) (broken : B → Type
   none_left : (known rest left : Option (List (NextFile B))) (looked : List Looked)
       → Taken remaining broken known rest looked
       → IfSome rest (λ files. (files ≡ []) × (left ≡ Some []))
-      → IfSome known (λ files. Takes remaining broken files looked [])
+      → IfSome known (λ files. TakesFile remaining broken files looked [])
   none_left None rest left looked t none = tt
   none_left (Some files) None left looked t none = absurd cc
   none_left (Some files) (Some rest) left looked t none =
-      subst (λ (fs : List (NextFile B)). Takes remaining broken files looked fs)
+      subst (λ (fs : List (NextFile B)). TakesFile remaining broken files looked fs)
       (sym (ap (λ (r : Option (List (NextFile B))). unwrap_or r rest) t.taken.1) ∙ none.0) t.taken.0
 
   taken_none : (known : Option (List (NextFile B))) → Taken remaining broken known known []
@@ -245,7 +245,7 @@ module _ {B : Type 0} (remaining : B → Option (List ℕ)) (broken : B → Type
       (middle after : Bool) (status : ℕ) (s : SoFar remaining broken Runs asked known rest old between failed middle status) (one : Looked)
       (ran : After (uploads asked (s.looked ++ one ∷ [])) (replies (s.looked ++ one ∷ []))) where
     pub so_far_more : Taken remaining broken known later (s.looked ++ one ∷ [])
-        → GoesOn one
+        → ImportGoesOn one
         → Written between new middle after (text_of one)
         → (next given : ℕ) → next ≡ max status given
         → given ≡ file_status one
@@ -263,7 +263,7 @@ module _ {B : Type 0} (remaining : B → Option (List ℕ)) (broken : B → Type
           ∙ greatest_more 0 s.looked one;
     }
 
-    ends_more : Ends between new middle after [] one → Ends old new failed after (import_text s.looked) one
+    ends_more : ImportEnds between new middle after [] one → ImportEnds old new failed after (import_text s.looked) one
     ends_more (inl stops) = inl (stops.0, written_then s.written stops.1)
     ends_more (inr broken) = inr (record {
       between = broken.between;
@@ -272,9 +272,9 @@ module _ {B : Type 0} (remaining : B → Option (List ℕ)) (broken : B → Type
     })
 
     pub early : (left : Option (List (NextFile B))) (others : List (NextFile B))
-        → IfSome known (λ files. Takes remaining broken files (s.looked ++ one ∷ []) others)
+        → IfSome known (λ files. TakesFile remaining broken files (s.looked ++ one ∷ []) others)
         → IfSome known (λ files. StillCome remaining broken files s.looked one others left)
-        → Ends between new middle after [] one
+        → ImportEnds between new middle after [] one
         → Imported remaining broken After asked known left old new failed after 3
     early left others files still ends = record {
       looked = s.looked ++ one ∷ [];

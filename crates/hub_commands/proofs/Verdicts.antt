@@ -1,11 +1,12 @@
--- What comes of a verdict that is printed.
-use Rattle.std.proofs.Common.{◌≡◌, ℕ, Bool, true, List, Option, Result, codes, inl, inr, sym, subst, ◌∙◌}
+-- Proves what printing a verdict does.
+use Rattle.std.proofs.Common.{◌≡◌, ℕ, Bool, List, Option, Result, codes, inl, inr, sym, subst, ◌∙◌}
 use Rattle.std.specs.Prelude.{◌≢◌, ◌⊎◌}
 use Rattle.std.specs.Io.KnownBytes.{Appends, Keeps}
 use Rattle.edi_base.specs.Buffer.{AppendsFront}
 use Rattle.hub_parties.specs.Rows.{RegisterRows}
 use Rattle.hub_register.specs.declared.fault.RegisterFault.{RegisterFault}
-use Rattle.hub_commands.specs.Check.{verdict_line, verdict_status}
+use Rattle.hub_commands.specs.Check.{PrintsVerdict, verdict_line, verdict_status}
+use Rattle.hub_commands.specs.Output.{ReportsFile}
 use Rattle.edi_relay.specs.ErrorLines.{Tells}
 use Rattle.hub_commands.proofs.RegisterTexts.{never_failed}
 
@@ -15,9 +16,8 @@ module _ (verdict : Result RegisterRows RegisterFault) (status result : ℕ) (li
     (err_failed : Bool)
     (is_status : status ≡ verdict_status verdict)
     (is_line : line ≡ verdict_line verdict)
-    (told : ((result ≡ status) × (failed ≡ was) × Appends old new line × Keeps err_old err_new)
-    ⊎ ((result ≡ 3) × (failed ≡ true) × AppendsFront old new line × Tells err_old err_new err_failed (codes "file\n"))) where
-  -- printed whole, where the status is not that of a failure
+    (told : PrintsVerdict old new was failed err_old err_new err_failed line status result) where
+  -- the line was printed, unless the status is that of a failure
   pub checked : result ≢ 3 → (result ≡ verdict_status verdict) × Appends old new (verdict_line verdict) × Keeps err_old err_new
   checked ended =
       elim told [
@@ -26,13 +26,13 @@ module _ (verdict : Result RegisterRows RegisterFault) (status result : ℕ) (li
       ]
 
   pub written : (failed ≡ was) ⊎ ((result ≡ 3) × Tells err_old err_new err_failed (codes "file\n"))
-  written = elim told [ inl h ↦ inl h.1 | inr h ↦ inr (h.0, h.3) ]
+  written = elim told [ inl h ↦ inl h.1 | inr h ↦ inr (h.0, h.1.0) ]
 
   -- a verdict has no status of a failure, so the writer failed
   pub unwritten : {Memory : Type 0} → result ≡ 3
-      → (Tells err_old err_new err_failed (codes "file\n") × (failed ≡ true) × AppendsFront old new (verdict_line verdict)) ⊎ Memory
+      → ReportsFile old new failed err_old err_new err_failed (verdict_line verdict) ⊎ Memory
   unwritten is =
       elim told [
         | inl h ↦ absurd (never_failed verdict (sym (h.0 ∙ is_status) ∙ is))
-        | inr h ↦ inl (h.3, h.1, subst (λ (l : List ℕ). AppendsFront old new l) is_line h.2)
+        | inr h ↦ inl (h.1.0, h.1.1, subst (λ (l : List ℕ). AppendsFront old new l) is_line h.1.2)
       ]

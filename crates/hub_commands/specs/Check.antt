@@ -1,9 +1,11 @@
--- What `check` prints of the text of a register, and `init` of a founding.
-use Rattle.std.specs.Prelude.{ℕ, ◌≤◌, List, ◌++◌, length, codes, IsUtf8, Result, Ok, Err}
+-- Defines what `check` prints for the text of a register, and `init` for a founding.
+use Rattle.std.specs.Prelude.{◌≡◌, ◌⊎◌, ℕ, ◌≤◌, Bool, List, ◌++◌, length, codes, IsUtf8, Option, Result, Ok, Err}
 use Rattle.std.specs.Fmt.{decimal}
+use Rattle.std.specs.Io.KnownBytes.{Appends, Keeps}
 use Rattle.edi_base.specs.declared.source.ReadFault.{ReadFault}
 use Rattle.edi_base.specs.declared.source.ReadFault.TheVariants as read
 use Rattle.edi_segments.specs.Spelling.{text_limit}
+use Rattle.hub_commands.specs.Output.{ReportsFile, ReportsMemory}
 use Rattle.hub_commands.specs.declared.check.TextFault.{TextFault}
 use Rattle.hub_commands.specs.declared.check.TextFault.TheVariants.{File, Memory}
 use Rattle.hub_parties.specs.Rows.{RegisterRows}
@@ -42,3 +44,17 @@ told_read_fault read.Memory = Memory
 abbrev pub text_fault_line : TextFault → List ℕ
 text_fault_line File = codes "file"
 text_fault_line Memory = codes "memory"
+
+-- The line was printed, with its own exit status, and nothing on the error output; or a write failed, and the error
+-- output says `file`, with status 3.
+abbrev pub PrintsVerdict : Option (List ℕ) → Option (List ℕ) → Bool → Bool → Option (List ℕ) → Option (List ℕ) → Bool →
+    List ℕ → ℕ → ℕ → Type 0
+PrintsVerdict old new was failed err_old err_new err_failed line status result =
+    ((result ≡ status) × (failed ≡ was) × Appends old new line × Keeps err_old err_new)
+    ⊎ ((result ≡ 3) × ReportsFile old new failed err_old err_new err_failed line)
+
+-- why a line was not printed: a write failed, or memory ran out
+abbrev pub FailsToPrint : Option (List ℕ) → Option (List ℕ) → Bool → Option (List ℕ) → Option (List ℕ) → Bool →
+    List ℕ → Type 0
+FailsToPrint old new failed err_old err_new err_failed line =
+    ReportsFile old new failed err_old err_new err_failed line ⊎ ReportsMemory old new err_old err_new err_failed

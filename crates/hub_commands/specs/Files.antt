@@ -36,9 +36,9 @@ IsCalled (Named file) name = string_bytes file.name ≡ name
 IsCalled Unnamed name = ⊥
 
 -- the file has this name, and a source of these bytes
-abbrev pub IsRead : {B : Type 0} → (B → Option (List ℕ)) → NextFile B → List ℕ → List ℕ → Type 0
-IsRead remaining (Named file) name bytes = (string_bytes file.name ≡ name) × Gave remaining file.source bytes
-IsRead remaining Unnamed name bytes = ⊥
+abbrev pub FileRead : {B : Type 0} → (B → Option (List ℕ)) → NextFile B → List ℕ → List ℕ → Type 0
+FileRead remaining (Named file) name bytes = (string_bytes file.name ≡ name) × Gave remaining file.source bytes
+FileRead remaining Unnamed name bytes = ⊥
 
 -- the file has this name, and could not be opened, or a read of its source failed
 abbrev pub IsUnread : {B : Type 0} → (B → Type 0) → NextFile B → List ℕ → Type 0
@@ -56,13 +56,13 @@ GivenAs Unnamed (Named given) = ⊥
 
 -- What is given of files that still come, if these are known: the first of them, or none at their end, and then none
 -- come. If memory runs out before a name is known, there is such a file, and it still comes.
-abbrev pub Gives : {B E : Type 0} → Option (List (NextFile B)) → Option (List (NextFile B))
+abbrev pub GivesFile : {B E : Type 0} → Option (List (NextFile B)) → Option (List (NextFile B))
     → Result (Option (NextFile B)) E → Type 0
-Gives {B} known rest (Ok (Some given)) =
+GivesFile {B} known rest (Ok (Some given)) =
     IfSome known (λ files. (file : NextFile B) × (others : List (NextFile B)) × (files ≡ file ∷ others)
     × (rest ≡ Some others) × GivenAs file given)
-Gives known rest (Ok None) = IfSome known (λ files. (files ≡ []) × (rest ≡ Some []))
-Gives {B} known rest (Err fault) =
+GivesFile known rest (Ok None) = IfSome known (λ files. (files ≡ []) × (rest ≡ Some []))
+GivesFile {B} known rest (Err fault) =
     (rest ≡ known)
     × IfSome known (λ files. (file : NextFile B) × (others : List (NextFile B)) × (files ≡ file ∷ others))
 

@@ -7,8 +7,8 @@ use Rattle.std.specs.declared.alloc.Global.{Global}
 use Rattle.hub_commands.specs.declared.files.NextFile.{NextFile}
 use Rattle.hub_commands.specs.declared.files.NextFile.TheVariants.{Named, Unnamed}
 
-abbrev pub Names : Type 0
-Names = List (String Global) × ℕ
+abbrev pub FolderNames : Type 0
+FolderNames = List (String Global) × ℕ
 
 -- a byte that is not a control byte
 abbrev pub is_plain_byte : ℕ → Bool
@@ -19,11 +19,11 @@ abbrev pub AreTold : List (String Global) → Type 0
 AreTold names = All (λ name. list_all is_plain_byte (string_bytes name) ≡ true) names
 
 -- how many files still come
-abbrev pub most_of : Names → ℕ
+abbrev pub most_of : FolderNames → ℕ
 most_of names = length names.0 + names.1
 
 -- the next file has the first name, or one that cannot be printed if there is none; otherwise there is no file
-abbrev pub GivesInOrder : {B E : Type 0} → Names → Names → Result (Option (NextFile B)) E → Type 0
+abbrev pub GivesInOrder : {B E : Type 0} → FolderNames → FolderNames → Result (Option (NextFile B)) E → Type 0
 GivesInOrder old new (Ok (Some (Named file))) = (old.0 ≡ file.name ∷ new.0) × (new.1 ≡ old.1)
 GivesInOrder old new (Ok (Some Unnamed)) = (old.0 ≡ []) × (new.0 ≡ []) × (old.1 ≡ new.1 + 1)
 GivesInOrder old new (Ok None) = (old.0 ≡ []) × (old.1 ≡ 0)

@@ -7,7 +7,7 @@ use Rattle.hub_core.specs.HubLaw.Replies.{stopped_line}
 use Rattle.hub_requests.specs.declared.reply.Outcome.TheVariants.{Stopped}
 use Rattle.hub_requests.specs.declared.reply.Reply.{Reply}
 use Rattle.hub_requests.specs.declared.request.Input.{Input}
-use Rattle.hub_commands.specs.Files.{IsCalled, IsRead, IsUnread}
+use Rattle.hub_commands.specs.Files.{IsCalled, FileRead, IsUnread}
 use Rattle.hub_commands.specs.Output.{Written, Lost}
 use Rattle.hub_commands.specs.Replies.{status_of}
 use Rattle.hub_commands.specs.declared.files.NextFile.{NextFile}
@@ -26,19 +26,19 @@ pub data Looked : Type 0 where
 
 -- that may come of the file
 abbrev pub Of : {B : Type 0} → (B → Option (List ℕ)) → (B → Type 0) → NextFile B → Looked → Type 0
-Of remaining broken file (Answered name bytes reply) = IsRead remaining file name bytes
+Of remaining broken file (Answered name bytes reply) = FileRead remaining file name bytes
 Of remaining broken file (Unread name) = IsUnread broken file name
 Of remaining broken file Unnamed = file ≡ files.Unnamed
 Of remaining broken file (NoMemory name) = IfSome name (IsCalled file)
 Of remaining broken file (Unprinted name) = IsCalled file name
 
 -- it came of the first files, one after another, and the rest still come
-abbrev pub Takes : {B : Type 0} → (B → Option (List ℕ)) → (B → Type 0) → List (NextFile B) → List Looked
+abbrev pub TakesFile : {B : Type 0} → (B → Option (List ℕ)) → (B → Type 0) → List (NextFile B) → List Looked
     → List (NextFile B) → Type 0
-Takes remaining broken files [] rest = files ≡ rest
-Takes remaining broken [] (one ∷ looked) rest = ⊥
-Takes remaining broken (file ∷ files) (one ∷ looked) rest =
-    Of remaining broken file one × Takes remaining broken files looked rest
+TakesFile remaining broken files [] rest = files ≡ rest
+TakesFile remaining broken [] (one ∷ looked) rest = ⊥
+TakesFile remaining broken (file ∷ files) (one ∷ looked) rest =
+    Of remaining broken file one × TakesFile remaining broken files looked rest
 
 -- it was given: memory did not give out before its name was known
 abbrev pub WasGiven : Looked → Type 0
@@ -58,24 +58,24 @@ StillCome remaining broken files earlier (Unread name) rest left = left ≡ Some
 StillCome remaining broken files earlier Unnamed rest left = left ≡ Some rest
 StillCome remaining broken files earlier (NoMemory (Some name)) rest left = left ≡ Some rest
 StillCome {B} remaining broken files earlier (NoMemory None) rest left =
-    (file : NextFile B) × Takes remaining broken files earlier (file ∷ rest) × (left ≡ Some (file ∷ rest))
+    (file : NextFile B) × TakesFile remaining broken files earlier (file ∷ rest) × (left ≡ Some (file ∷ rest))
 StillCome remaining broken files earlier (Unprinted name) rest left = left ≡ Some rest
 
 -- the import goes on after it
-abbrev pub GoesOn : Looked → Type 0
-GoesOn (Answered name bytes reply) = reply.outcome ≢ Stopped
-GoesOn (Unread name) = ⊤
-GoesOn Unnamed = ⊤
-GoesOn (NoMemory name) = ⊥
-GoesOn (Unprinted name) = ⊥
+abbrev pub ImportGoesOn : Looked → Type 0
+ImportGoesOn (Answered name bytes reply) = reply.outcome ≢ Stopped
+ImportGoesOn (Unread name) = ⊤
+ImportGoesOn Unnamed = ⊤
+ImportGoesOn (NoMemory name) = ⊥
+ImportGoesOn (Unprinted name) = ⊥
 
 -- the import stops after it
-abbrev pub Stops : Looked → Type 0
-Stops (Answered name bytes reply) = reply.outcome ≡ Stopped
-Stops (Unread name) = ⊥
-Stops Unnamed = ⊥
-Stops (NoMemory name) = ⊤
-Stops (Unprinted name) = ⊥
+abbrev pub ImportStops : Looked → Type 0
+ImportStops (Answered name bytes reply) = reply.outcome ≡ Stopped
+ImportStops (Unread name) = ⊥
+ImportStops Unnamed = ⊥
+ImportStops (NoMemory name) = ⊤
+ImportStops (Unprinted name) = ⊥
 
 -- what is asked of the hub, if an upload of some bytes is asked so
 abbrev pub upload_of : (List ℕ → Input) → Looked → List Input
@@ -142,24 +142,24 @@ abbrev pub greatest : List Looked → ℕ
 greatest looked = fold (λ status one. max status (file_status one)) 0 looked
 
 -- some bytes were written, and then a prefix of a text, since a write failed
-pub record BrokenOff (old new : Option (List ℕ)) (after : Bool) (start text : List ℕ) : Type 0 where
+pub record ImportBrokenOff (old new : Option (List ℕ)) (after : Bool) (start text : List ℕ) : Type 0 where
   pub between : Option (List ℕ)
   pub written : Appends old between start
   pub lost : Lost between new after text
 
 -- The import ends at the last that was looked at: it stops there, and all of it is written; or a write failed. What was
 -- written before comes first.
-abbrev pub Ends : Option (List ℕ) → Option (List ℕ) → Bool → Bool → List ℕ → Looked → Type 0
-Ends old new failed after before last =
-    (Stops last × Written old new failed after (before ++ text_of last))
-    ⊎ BrokenOff old new after (before ++ line_of last) (words_of last)
+abbrev pub ImportEnds : Option (List ℕ) → Option (List ℕ) → Bool → Bool → List ℕ → Looked → Type 0
+ImportEnds old new failed after before last =
+    (ImportStops last × Written old new failed after (before ++ text_of last))
+    ⊎ ImportBrokenOff old new after (before ++ line_of last) (words_of last)
 
 -- all known files were looked at, and none come any more
-pub record Whole {B : Type 0} (NoneCome : Type 0) (old new : Option (List ℕ)) (failed after : Bool)
+pub record WholeImport {B : Type 0} (NoneCome : Type 0) (old new : Option (List ℕ)) (failed after : Bool)
     (looked : List Looked) (rest : List (NextFile B)) (status : ℕ) : Type 0 where
   pub none_left : rest ≡ []
   pub none_come : NoneCome
-  pub go_on : AllByRecursion GoesOn looked
+  pub go_on : AllByRecursion ImportGoesOn looked
   pub written : Written old new failed after (import_text looked)
   pub status_is : status ≡ greatest looked
 
@@ -170,8 +170,8 @@ pub record Early (Still : List Looked → Looked → Type 0) (old new : Option (
   pub last : Looked
   pub are : looked ≡ earlier ++ last ∷ []
   pub still : Still earlier last
-  pub go_on : AllByRecursion GoesOn earlier
-  pub ends : Ends old new failed after (import_text earlier) last
+  pub go_on : AllByRecursion ImportGoesOn earlier
+  pub ends : ImportEnds old new failed after (import_text earlier) last
   pub status_is : status ≡ 3
 
 -- An import. What was looked at are the first of the known files, and their uploads ran with these replies. The others
@@ -181,8 +181,8 @@ pub record Imported {B : Type 0} (remaining : B → Option (List ℕ)) (broken :
     (old new : Option (List ℕ)) (failed after : Bool) (status : ℕ) : Type 0 where
   pub looked : List Looked
   pub rest : List (NextFile B)
-  pub taken : IfSome known (λ files. Takes remaining broken files looked rest)
+  pub taken : IfSome known (λ files. TakesFile remaining broken files looked rest)
   pub ran : Runs (uploads asked looked) (replies looked)
-  pub ended : Whole (IfSome known (λ files. left ≡ Some [])) old new failed after looked rest status
+  pub ended : WholeImport (IfSome known (λ files. left ≡ Some [])) old new failed after looked rest status
       ⊎ Early (λ earlier last. IfSome known (λ files. StillCome remaining broken files earlier last rest left)) old new
       failed after looked status

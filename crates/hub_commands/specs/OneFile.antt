@@ -5,25 +5,25 @@ use Rattle.edi_base.specs.declared.source.ReadFault.TheVariants.{Read, Memory}
 use Rattle.hub_core.specs.HubLaw.Replies.{stopped_line}
 use Rattle.hub_requests.specs.declared.reply.Outcome.TheVariants.{Stopped}
 use Rattle.hub_requests.specs.declared.reply.Reply.{Reply}
-use Rattle.hub_commands.specs.Import.{Looked, Answered, Unread, Unnamed, NoMemory, Unprinted, Of, GoesOn, Ends}
+use Rattle.hub_commands.specs.Import.{Looked, Answered, Unread, Unnamed, NoMemory, Unprinted, Of, ImportGoesOn, ImportEnds}
 use Rattle.hub_commands.specs.Import.{WasGiven, unread_line, text_of, file_status}
 use Rattle.hub_commands.specs.Output.{Written, Lost}
 use Rattle.hub_commands.specs.Replies.{status_of}
 use Rattle.hub_commands.specs.declared.files.NextFile.{NextFile}
 
 -- what one file did to the hub: a step if it was uploaded, else nothing
-abbrev pub Did : (List ℕ → Reply → Type 0) → Type 0 → Looked → Type 0
-Did Steps Stays (Answered name bytes reply) = Steps bytes reply
-Did Steps Stays (Unread name) = Stays
-Did Steps Stays Unnamed = Stays
-Did Steps Stays (NoMemory name) = Stays
-Did Steps Stays (Unprinted name) = Stays
+abbrev pub FileDone : (List ℕ → Reply → Type 0) → Type 0 → Looked → Type 0
+FileDone Steps Stays (Answered name bytes reply) = Steps bytes reply
+FileDone Steps Stays (Unread name) = Stays
+FileDone Steps Stays Unnamed = Stays
+FileDone Steps Stays (NoMemory name) = Stays
+FileDone Steps Stays (Unprinted name) = Stays
 
 -- the status of a file after which the import goes on, or its end
 abbrev pub Comes : {E : Type 0} → Option (List ℕ) → Option (List ℕ) → Bool → Bool → Looked → Result ℕ E → Type 0
 Comes old new failed after one (Ok status) =
-    GoesOn one × Written old new failed after (text_of one) × (status ≡ file_status one)
-Comes old new failed after one (Err ended) = Ends old new failed after [] one
+    ImportGoesOn one × Written old new failed after (text_of one) × (status ≡ file_status one)
+Comes old new failed after one (Err ended) = ImportEnds old new failed after [] one
 
 -- one file that was given
 pub record LooksAt {B E : Type 0} (remaining : B → Option (List ℕ)) (broken : B → Type 0)
@@ -32,7 +32,7 @@ pub record LooksAt {B E : Type 0} (remaining : B → Option (List ℕ)) (broken 
   pub one : Looked
   pub is : Of remaining broken file one
   pub given : WasGiven one
-  pub did : Did Steps Stays one
+  pub did : FileDone Steps Stays one
   pub comes : Comes old new failed after one result
 
 -- the status of a reply that was printed and was not stopped, or the end of the import

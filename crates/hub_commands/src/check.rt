@@ -2,11 +2,10 @@
 
 ghost use Rattle.std.specs.Prelude.{◌≡◌, ◌≢◌, ◌⊎◌, Ok, Err, true, codes, string_bytes, IfOk, IfSome};
 ghost use Rattle.std.specs.Io.KnownBytes.{Appends, Keeps};
-ghost use Rattle.edi_base.specs.Buffer.{AppendsFront};
 ghost use Rattle.edi_base.specs.Source.{TakesAtMost};
-ghost use Rattle.hub_commands.specs.Check.{IsRegisterText, fault_line, verdict_line, verdict_status};
+ghost use Rattle.hub_commands.specs.Check.{FailsToPrint, IsRegisterText, PrintsVerdict, fault_line, verdict_line, verdict_status};
 ghost use Rattle.edi_relay.specs.Run.{read_limit};
-ghost use Rattle.edi_relay.specs.ErrorLines.{StaysOrTellsFile, Tells};
+ghost use Rattle.edi_relay.specs.ErrorLines.{StaysOrTellsFile};
 ghost use Rattle.hub_register.specs.Register.{register_of};
 
 use edi_base::exit::{DONE, FAILED, REFUSED};
@@ -136,14 +135,9 @@ fn verdict_of(alloc: Global, text: &str) -> Result<Verdict, MemoryFault>
 
 /// Writes a verdict to `out`. Returns its exit status; or 3 if the write failed, with the line `file` on `err`.
 pub fn print_verdict<W: Sink, E: Sink>(verdict: &Verdict, out: &mut W, err: &mut E) -> u8
-    ensures told { ((result ≡ verdict.now.status)
-        × (W.failed out.new ≡ W.failed out.old)
-        × Appends (W.contents out.old) (W.contents out.new) (string_bytes verdict.now.line)
-        × Keeps (E.contents err.old) (E.contents err.new))
-        ⊎ ((result ≡ 3)
-        × (W.failed out.new ≡ true)
-        × AppendsFront (W.contents out.old) (W.contents out.new) (string_bytes verdict.now.line)
-        × Tells (E.contents err.old) (E.contents err.new) (E.failed err.new) (codes "file\n")) }
+    ensures told { PrintsVerdict (W.contents out.old) (W.contents out.new) (W.failed out.old) (W.failed out.new)
+        (E.contents err.old) (E.contents err.new) (E.failed err.new)
+        (string_bytes verdict.now.line) verdict.now.status result }
 {
     if write_bytes(verdict.line.as_bytes(), out).is_ok() {
         return verdict.status;
@@ -162,12 +156,8 @@ pub fn check_run<W: Sink, E: Sink>(alloc: Global, text: &str, out: &mut W, err: 
         × Keeps (E.contents err.old) (E.contents err.new) }
     ensures written { StaysOrTellsFile (W.failed out.old) (W.failed out.new) result
         (E.contents err.old) (E.contents err.new) (E.failed err.new) }
-    ensures failed { result ≡ 3 →
-        (Tells (E.contents err.old) (E.contents err.new) (E.failed err.new) (codes "file\n")
-        × (W.failed out.new ≡ true)
-        × AppendsFront (W.contents out.old) (W.contents out.new) (verdict_line (register_of text.now)))
-        ⊎ (Tells (E.contents err.old) (E.contents err.new) (E.failed err.new) (codes "memory\n")
-        × Keeps (W.contents out.old) (W.contents out.new)) }
+    ensures failed { result ≡ 3 → FailsToPrint (W.contents out.old) (W.contents out.new) (W.failed out.new)
+        (E.contents err.old) (E.contents err.new) (E.failed err.new) (verdict_line (register_of text.now)) }
 {
     let Ok(verdict) = verdict_of(alloc, text) else {
         tell(b"memory\n", err);

@@ -24,7 +24,7 @@ pub enum NextFile<B> {
 /// bytes of their names, then those whose names cannot be printed.
 pub trait Files {
     ghost use Rattle.std.specs.Prelude.{ℕ, List, Option, None};
-    ghost use Rattle.hub_commands.specs.Files.{Gives, GoesDown};
+    ghost use Rattle.hub_commands.specs.Files.{GivesFile, GoesDown};
     ghost use Rattle.hub_commands.specs.declared.files.NextFile.{NextFile};
 
     /// What the bytes of a file are read from.
@@ -39,6 +39,6 @@ pub trait Files {
     /// Returns the next file, if one still comes. Memory can run out while it is opened, which `NamedFile` says, or
     /// before its name is known, and then nothing has changed.
     fn next(&mut self, alloc: Global) -> Result<Option<NextFile<Self::Bytes>>, MemoryFault>
-        ensures gives { Gives (remaining self.old) (remaining self.new) result }
+        ensures gives { GivesFile (remaining self.old) (remaining self.new) result }
         ensures goes_down { GoesDown (most self.old) (most self.new) result };
 }

@@ -153,7 +153,7 @@ impl<'a, R: FileSystem + AllocGlobal + Clone + Drop> Folder<'a, R> {
 
 impl<'a, R: FileSystem + AllocGlobal + Clone + Drop> Files for Folder<'a, R> {
     ghost use Rattle.std.specs.Prelude.{None};
-    ghost use Rattle.hub_commands.specs.Files.{Gives, GoesDown};
+    ghost use Rattle.hub_commands.specs.Files.{GivesFile, GoesDown};
     ghost use Rattle.hub_commands.specs.Folder.{GivesInOrder, most_of};
 
     type Bytes = OfRead<R::File>;
@@ -161,7 +161,7 @@ impl<'a, R: FileSystem + AllocGlobal + Clone + Drop> Files for Folder<'a, R> {
     ghost most = { most_of };
 
     fn next(&mut self, alloc: Global) -> Result<Option<NextFile<OfRead<R::File>>>, MemoryFault>
-        ensures gives { Gives None None result }
+        ensures gives { GivesFile None None result }
         ensures goes_down { GoesDown (most_of self.old) (most_of self.new) result }
         ensures in_order { GivesInOrder self.old self.new result }
     {

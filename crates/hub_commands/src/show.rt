@@ -1,11 +1,11 @@
 //! Runs `show` between a reader and two writers.
 
-ghost use Rattle.std.specs.Prelude.{◌≡◌, ◌≢◌, ◌⊎◌, true, take, codes, IfOk, IfSome};
+ghost use Rattle.std.specs.Prelude.{◌≡◌, ◌≢◌, ◌⊎◌, take, IfOk, IfSome};
 ghost use Rattle.std.specs.Io.KnownBytes.{Consumes, Keeps};
 ghost use Rattle.edi_base.specs.Source.{TakesAtMost};
 ghost use Rattle.edi_relay.specs.Run.{read_limit};
-ghost use Rattle.edi_relay.specs.ErrorLines.{StaysOrTellsFile, Tells};
-ghost use Rattle.hub_commands.specs.Show.{Shows, ShowsFront, lines_shown, status_of};
+ghost use Rattle.edi_relay.specs.ErrorLines.{StaysOrTellsFile};
+ghost use Rattle.hub_commands.specs.Show.{FailsToShow, ShowsLines, lines_shown, status_of};
 
 use edi_base::exit::{DONE, FAILED, REFUSED};
 use edi_relay::{READ_LIMIT, tell, tell_read_fault};
@@ -49,15 +49,11 @@ pub fn show_run<R: Source, W: Sink, E: Sink>(
     ensures stands { result ≢ 3 → IfSome (R.remaining input.old) (λ known.
         Consumes (R.remaining input.old) (R.remaining input.new) (take read_limit known)) }
     ensures shown { result ≢ 3 →
-        Shows (R.remaining input.old) result (W.contents out.old) (W.contents out.new)
+        ShowsLines (R.remaining input.old) result (W.contents out.old) (W.contents out.new)
         × Keeps (E.contents err.old) (E.contents err.new) }
-    ensures failed { result ≡ 3 →
-        (Tells (E.contents err.old) (E.contents err.new) (E.failed err.new) (codes "file\n")
-        × (((R.failed input.new ≡ true) × Keeps (W.contents out.old) (W.contents out.new))
-        ⊎ ((W.failed out.new ≡ true)
-        × ShowsFront (R.remaining input.old) (W.contents out.old) (W.contents out.new))))
-        ⊎ (Tells (E.contents err.old) (E.contents err.new) (E.failed err.new) (codes "memory\n")
-        × Keeps (W.contents out.old) (W.contents out.new)) }
+    ensures failed { result ≡ 3 → FailsToShow (R.remaining input.old) (R.failed input.new)
+        (W.contents out.old) (W.contents out.new) (W.failed out.new)
+        (E.contents err.old) (E.contents err.new) (E.failed err.new) }
 {
     let text = match read_to_limit(alloc, input, READ_LIMIT) {
         Ok(text) => text,
