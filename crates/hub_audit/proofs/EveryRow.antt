@@ -14,12 +14,12 @@ use Rattle.sqlite_sql.specs.Query.{IsAnswer, sort_cmp}
 use Rattle.sqlite_sql.specs.Program.{overlay}
 use Rattle.sqlite.specs.State.{State}
 use Rattle.hub_parties.specs.KeyOrder.{Rises}
-use Rattle.hub_reads.specs.Asks.{Asks}
-use Rattle.hub_reads.proofs.Counting.{all_such}
-use Rattle.hub_reads.proofs.Finding.{all_of, no_limit, Finds, finds}
-use Rattle.hub_reads.proofs.Listing.{rows_are, rows_moved, all_any, all_then}
-use Rattle.hub_reads.proofs.Looking.{Selects, looks_for}
-use Rattle.hub_reads.proofs.Sorting.{permuted_has}
+use Rattle.hub_rows.specs.Asks.{Asks}
+use Rattle.hub_rows.proofs.Counting.{all_such}
+use Rattle.hub_rows.proofs.Finding.{all_of, no_limit, Finds, finds}
+use Rattle.hub_rows.proofs.Listing.{rows_are, rows_moved, all_any, all_then}
+use Rattle.hub_rows.proofs.Looking.{Selects, looks_for}
+use Rattle.hub_rows.proofs.Sorting.{permuted_has}
 use Rattle.hub_schema.specs.Rows.{in_key_order, tables_in}
 use Rattle.hub_schema.specs.State.{IsHub, LooksFor}
 use Rattle.hub_sound.specs.Finding.{Key}

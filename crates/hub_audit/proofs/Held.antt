@@ -3,7 +3,7 @@ use Rattle.std.proofs.Common.{◌≡◌, Bool, false, Result, Ok, Err, List, Opt
 use Rattle.std.specs.List.{list_all}
 use Rattle.sqlite.specs.State.{State}
 use Rattle.hub_parties.specs.Rows.{RegisterRows}
-use Rattle.hub_reads.proofs.Joining.{found_on, fault_on, failed_for, found_then}
+use Rattle.hub_rows.proofs.Joining.{found_on, fault_on, failed_for, found_then}
 use Rattle.hub_schema.specs.State.{LooksFor}
 use Rattle.hub_schema.proofs.Single.{hub_rises}
 use Rattle.hub_sound.specs.Finding.{Key}

@@ -4,9 +4,9 @@ use Rattle.std.specs.Bool.{⊤}
 use Rattle.sqlite_value.specs.Order.{column}
 use Rattle.sqlite.specs.State.{State}
 use Rattle.sql_rows.specs.Cells.{AreOf}
-use Rattle.hub_reads.specs.Asks.{Asks}
-use Rattle.hub_reads.specs.Shown.{shown_hub, shown_key, shown_prefix}
-use Rattle.hub_reads.proofs.Ranking.{then_none, rank_bytes}
+use Rattle.hub_rows.specs.Asks.{Asks}
+use Rattle.hub_rows.specs.Shown.{shown_hub, shown_key, shown_prefix}
+use Rattle.hub_rows.proofs.Ranking.{then_none, rank_bytes}
 use Rattle.hub_schema.specs.Rows.{hub_row_in, key_row_in, prefix_row_in}
 use Rattle.hub_schema.specs.State.{LooksFor}
 use Rattle.hub_schema.proofs.Single.{hub_rises, hub_kinds, key_kinds, prefix_kinds, hub_cells, key_cells, prefix_cells}

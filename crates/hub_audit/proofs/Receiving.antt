@@ -7,11 +7,11 @@ use Rattle.sqlite_sql.specs.Query.{IsAnswer}
 use Rattle.sqlite_sql.specs.Program.{overlay}
 use Rattle.sqlite.specs.State.{State}
 use Rattle.sql_rows.proofs.Answers.{and_true}
-use Rattle.hub_reads.specs.Asks.{Asks}
+use Rattle.hub_rows.specs.Asks.{Asks}
 use Rattle.hub_reads.proofs.Comparing.{cell_differs}
-use Rattle.hub_reads.proofs.Counting.{cell_bytes, all_such, any_shown, some_found}
-use Rattle.hub_reads.proofs.Finding.{all_of, no_limit, passes, finds}
-use Rattle.hub_reads.proofs.Looking.{looks_for}
+use Rattle.hub_rows.proofs.Counting.{cell_bytes, all_such, any_shown, some_found}
+use Rattle.hub_rows.proofs.Finding.{all_of, no_limit, passes, finds}
+use Rattle.hub_rows.proofs.Looking.{looks_for}
 use Rattle.hub_schema.specs.Rows.{pallet_in, tables_in}
 use Rattle.hub_schema.specs.State.{IsHub, LooksFor}
 use Rattle.hub_schema.proofs.InKeyOrder.{listed_any}

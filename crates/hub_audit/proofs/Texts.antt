@@ -8,8 +8,8 @@ use Rattle.sqlite_value.specs.declared.keys.Key.{Key}
 use Rattle.sqlite_value.specs.declared.value.Value.TheVariants.{Int}
 use Rattle.sqlite_tied.specs.Compute.{everything}
 use Rattle.sqlite.specs.Listing.{understood}
-use Rattle.hub_reads.proofs.Finding.{all_of}
-use Rattle.hub_reads.proofs.Looking.{Selects}
+use Rattle.hub_rows.proofs.Finding.{all_of}
+use Rattle.hub_rows.proofs.Looking.{Selects}
 use Rattle.hub_reads.proofs.Texts.{given_at, rising}
 
 -- the first columns, and their order

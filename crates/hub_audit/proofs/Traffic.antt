@@ -5,9 +5,9 @@ use Rattle.std.specs.Ordering.{ordering_then}
 use Rattle.sqlite_value.specs.Order.{column}
 use Rattle.sqlite.specs.State.{State}
 use Rattle.sql_rows.specs.Cells.{AreOf}
-use Rattle.hub_reads.specs.Asks.{Asks}
-use Rattle.hub_reads.specs.Shown.{shown_order, shown_line, shown_advice, shown_pallet, shown_content, shown_receipt, shown_remembered, shown_mail}
-use Rattle.hub_reads.proofs.Ranking.{then_none, rank_bytes, rank_numbers}
+use Rattle.hub_rows.specs.Asks.{Asks}
+use Rattle.hub_rows.specs.Shown.{shown_order, shown_line, shown_advice, shown_pallet, shown_content, shown_receipt, shown_remembered, shown_mail}
+use Rattle.hub_rows.proofs.Ranking.{then_none, rank_bytes, rank_numbers}
 use Rattle.hub_schema.specs.Rows.{order_in, line_in, advice_in, pallet_in, content_in, receipt_in, remembered_in, mail_in}
 use Rattle.hub_schema.specs.State.{LooksFor}
 use Rattle.hub_schema.proofs.Single.{hub_rises, order_kinds, line_kinds, pallet_kinds, content_kinds, receipt_kinds, remembered_kinds, mail_kinds, order_cells, line_cells, advice_cells, pallet_cells, content_cells, receipt_cells, remembered_cells, mail_cells}
@@ -33,7 +33,7 @@ use Rattle.hub_audit.proofs.Texts.{orders_text, orders_select, lines_text, lines
 use Rattle.std.proofs.lemmas.Bool.{and_parts}
 use Rattle.std.proofs.lemmas.Bool.Decides.{nat_tests}
 use Rattle.edi_envelope.specs.Mail.{last_number}
-use Rattle.hub_reads.proofs.Ranking.{low_number}
+use Rattle.hub_rows.proofs.Ranking.{low_number}
 use Rattle.hub_store.specs.Clean.{is_side, is_within}
 
 -- The numbers of keys, in rows of their kind.

@@ -1,13 +1,13 @@
 //! Reads all rows of a kind.
 ghost use Rattle.std.specs.Prelude.{◌≡◌, [], IfOk, IfErr};
 ghost use Rattle.hub_audit.specs.Every.{AreRead};
-ghost use Rattle.hub_reads.specs.Asks.{Asks};
+ghost use Rattle.hub_rows.specs.Asks.{Asks};
 ghost use Rattle.hub_schema.specs.State.{Never};
 ghost use Rattle.sqlite.specs.Held.{state};
 
 use crate::key::{Part, key_of};
 use edi_base::Items;
-use hub_reads::{Shown, query};
+use hub_rows::{Shown, query};
 use hub_store::StoreFault;
 use hub_verify::Read;
 use sqlite::{Alter, Connection, Row};

@@ -6,7 +6,7 @@ ghost use Rattle.hub_sound.specs.Finding as finding;
 ghost use Rattle.sqlite_value.specs.Order.{column};
 
 use edi_base::Items;
-use hub_reads::{blob_at, number_at};
+use hub_rows::{blob_at, number_at};
 use hub_sound::{KeyCell, bytes_cell, number_cell, with_cell};
 use hub_store::StoreFault;
 use sqlite::Row;

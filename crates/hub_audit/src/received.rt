@@ -5,7 +5,7 @@ ghost use Rattle.sqlite.specs.Held.{state};
 ghost use Rattle.std.specs.Prelude.{◌≡◌};
 
 use gs1_ids::Sscc;
-use hub_reads::has_row;
+use hub_rows::has_row;
 use hub_store::StoreFault;
 use sqlite::types::ValueRef;
 use sqlite::{Alter, Connection};

@@ -20,8 +20,8 @@ use Rattle.sql_rows.specs.Cells.{IsOf}
 use Rattle.sql_rows.proofs.Answers.{is_truth}
 use Rattle.hub_schema.specs.Cells.{natural, number_in}
 use Rattle.sqlite_value.specs.Order.{value_cmp}
-use Rattle.hub_reads.proofs.Counting.{same_natural}
-use Rattle.hub_reads.proofs.Ranking.{nat_int}
+use Rattle.hub_rows.proofs.Counting.{same_natural}
+use Rattle.hub_rows.proofs.Ranking.{nat_int}
 use Rattle.hub_reads.specs.Mail.{is_low, is_above}
 
 odd : (k : ℕ) → ((2 ^ 65 + 2 * k + 1) % 2 == 1) ≡ true

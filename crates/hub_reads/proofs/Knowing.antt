@@ -18,10 +18,10 @@ use Rattle.hub_schema.specs.Cells.{bytes_in}
 use Rattle.hub_schema.specs.Rows.{order_in, advice_in, tables_in}
 use Rattle.hub_schema.specs.State.{IsHub, LooksUp}
 use Rattle.hub_schema.proofs.InKeyOrder.{listed_any}
-use Rattle.hub_reads.specs.Asks.{Asks}
-use Rattle.hub_reads.proofs.Counting.{cell_bytes, any_filter, any_shown, some_found, all_such}
-use Rattle.hub_reads.proofs.Finding.{no_limit, passes, finds}
-use Rattle.hub_reads.proofs.Looking.{looks}
+use Rattle.hub_rows.specs.Asks.{Asks}
+use Rattle.hub_rows.proofs.Counting.{cell_bytes, any_filter, any_shown, some_found, all_such}
+use Rattle.hub_rows.proofs.Finding.{no_limit, passes, finds}
+use Rattle.hub_rows.proofs.Looking.{looks}
 use Rattle.hub_schema.proofs.Single.{order_cells, advice_cells}
 use Rattle.hub_reads.proofs.Texts.{given_at, document, order_text, order_selects, advice_text, advice_selects}
 

@@ -17,13 +17,13 @@ use Rattle.hub_schema.specs.Schema.{old_schema, hub_schema}
 use Rattle.hub_store.specs.declared.fault.StoreFault.{StoreFault}
 use Rattle.hub_store.specs.declared.fault.StoreFault.TheVariants.{Memory, Disk}
 use Rattle.hub_schema.specs.State.{HasNumber}
-use Rattle.hub_reads.specs.Asks.{OnlyReads, Asks}
+use Rattle.hub_rows.specs.Asks.{OnlyReads, Asks}
 use Rattle.hub_reads.specs.Numbered.{TellsNumber}
-use Rattle.hub_reads.proofs.Asking.{reads_no_commit}
-use Rattle.hub_reads.proofs.Causes.{IsBare, disk_has_cause, one_table}
-use Rattle.hub_reads.proofs.Finding.{all_of, no_limit, passes, Finds, finds}
-use Rattle.hub_reads.proofs.Looking.{SelectsFrom}
-use Rattle.hub_reads.proofs.Selecting.{only_reads}
+use Rattle.hub_rows.proofs.Asking.{reads_no_commit}
+use Rattle.hub_rows.proofs.Causes.{IsBare, disk_has_cause, one_table}
+use Rattle.hub_rows.proofs.Finding.{all_of, no_limit, passes, Finds, finds}
+use Rattle.hub_rows.proofs.Looking.{SelectsFrom}
+use Rattle.hub_rows.proofs.Selecting.{only_reads}
 
 abbrev pub number_text : List ℕ
 number_text = codes "SELECT number FROM schema"

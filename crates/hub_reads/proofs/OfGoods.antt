@@ -19,17 +19,17 @@ use Rattle.hub_tables.specs.declared.rows.PalletRow.{PalletRow}
 use Rattle.hub_schema.specs.Rows.{pallet_in, tables_in}
 use Rattle.hub_schema.specs.State.{IsHub, LooksUp}
 use Rattle.hub_schema.proofs.Single.{pallet_kinds, pallet_cells, hub_rises}
-use Rattle.hub_reads.specs.Asks.{Asks}
-use Rattle.hub_reads.proofs.Counting.{cell_bytes, all_such}
-use Rattle.hub_reads.proofs.Finding.{all_of, no_limit, passes, finds}
-use Rattle.hub_reads.proofs.Looking.{looks}
-use Rattle.hub_reads.proofs.Ranking.{then_none, rank_bytes, rank_numbers, low_number}
+use Rattle.hub_rows.specs.Asks.{Asks}
+use Rattle.hub_rows.proofs.Counting.{cell_bytes, all_such}
+use Rattle.hub_rows.proofs.Finding.{all_of, no_limit, passes, finds}
+use Rattle.hub_rows.proofs.Looking.{looks}
+use Rattle.hub_rows.proofs.Ranking.{then_none, rank_bytes, rank_numbers, low_number}
 use Rattle.hub_reads.proofs.Texts.{given_at}
 use Rattle.sql_rows.proofs.Answers.{and_true}
 use Rattle.std.specs.Bool.{⊤}
 use Rattle.hub_tables.proofs.Lists.{same_is}
 use Rattle.hub_schema.proofs.InKeyOrder.{listed_any}
-use Rattle.hub_reads.proofs.Counting.{any_shown, some_found}
+use Rattle.hub_rows.proofs.Counting.{any_shown, some_found}
 use Rattle.std.proofs.Math.Bool.{and_comm}
 use Rattle.hub_tables.specs.Rows.{content_cmp, receipt_cmp}
 use Rattle.hub_tables.specs.State.{contents_of, receipts_of}
@@ -40,15 +40,15 @@ use Rattle.hub_tables.proofs.KindOrders.{content_total, receipt_total}
 use Rattle.hub_store.specs.Clean.{clean_content, clean_receipt, is_line, is_number, is_quantity, is_within}
 use Rattle.hub_schema.specs.Rows.{content_in, receipt_in}
 use Rattle.hub_schema.proofs.Single.{content_kinds, content_cells, receipt_kinds, receipt_cells}
-use Rattle.hub_reads.specs.Shown.{shown_content, shown_receipt}
-use Rattle.hub_reads.proofs.Asking.{reads_more}
-use Rattle.hub_reads.proofs.Listing.{rows_are, rows_spoil, all_then, all_any}
-use Rattle.hub_reads.proofs.Unclean.{contents_unclean, receipts_unclean}
+use Rattle.hub_rows.specs.Shown.{shown_content, shown_receipt}
+use Rattle.hub_rows.proofs.Asking.{reads_more}
+use Rattle.hub_rows.proofs.Listing.{rows_are, rows_spoil, all_then, all_any}
+use Rattle.hub_rows.proofs.Unclean.{contents_unclean, receipts_unclean}
 use Rattle.hub_reads.proofs.Texts.{held_text, held_selects, content_columns, on_pallet_order, contents_text}
 use Rattle.hub_reads.proofs.Texts.{contents_select, receipts_text, receipts_select}
 use Rattle.std.proofs.Common.{◌<◌, ◌^◌, IfOk}
 use Rattle.hub_tables.proofs.Lists.{decide}
-use Rattle.hub_reads.proofs.Joining.{looks_on, looks_then}
+use Rattle.hub_rows.proofs.Joining.{looks_on, looks_then}
 use Rattle.std.proofs.Common.{Ok}
 
 held_right : (s : State) → IsHub s → (supplier sscc : List ℕ) (rows : List Row)

@@ -5,8 +5,8 @@ use Rattle.hub_store.specs.declared.fault.StoreFault.{StoreFault}
 use Rattle.hub_tables.specs.Tables.{Tables}
 use Rattle.hub_schema.proofs.Same.{same_old_hub}
 use Rattle.hub_reads.specs.Fitting.{TellsOld}
-use Rattle.hub_reads.proofs.Causes.{cause_before}
-use Rattle.hub_reads.proofs.Joining.{failed_for, found_on, then_among}
+use Rattle.hub_rows.proofs.Causes.{cause_before}
+use Rattle.hub_rows.proofs.Joining.{failed_for, found_on, then_among}
 
 module _ (one rest : Tables → Bool) (old mid : State) (fit : Bool) (first : TellsOld one old mid (Ok fit)) where
   abbrev all : Tables → Bool

@@ -26,18 +26,18 @@ use Rattle.hub_tables.proofs.Lists.{all_passes, filter_alike}
 use Rattle.hub_schema.specs.Rows.{mail_in, tables_in}
 use Rattle.hub_schema.specs.State.{IsHub, LooksUp}
 use Rattle.hub_schema.proofs.Single.{mail_kinds, mail_cells, hub_rises}
-use Rattle.hub_reads.specs.Asks.{Asks}
+use Rattle.hub_rows.specs.Asks.{Asks}
 use Rattle.hub_reads.specs.Mail.{is_low, is_above, low_of}
 use Rattle.hub_reads.proofs.Comparing.{cell_above, rank_above}
-use Rattle.hub_reads.proofs.Counting.{cell_bytes, all_such}
-use Rattle.hub_reads.proofs.Finding.{some_of, passes, Finds, finds}
-use Rattle.hub_reads.proofs.Joining.{looks_on, looks_then}
-use Rattle.hub_reads.proofs.Listing.{shown_say, sources_have, sources_pass, sources_spoil, filter_both, all_both}
-use Rattle.hub_reads.proofs.Looking.{looks}
+use Rattle.hub_rows.proofs.Counting.{cell_bytes, all_such}
+use Rattle.hub_rows.proofs.Finding.{some_of, passes, Finds, finds}
+use Rattle.hub_rows.proofs.Joining.{looks_on, looks_then}
+use Rattle.hub_rows.proofs.Listing.{shown_say, sources_have, sources_pass, sources_spoil, filter_both, all_both}
+use Rattle.hub_rows.proofs.Looking.{looks}
 use Rattle.hub_reads.proofs.OfMail.{all_not}
-use Rattle.hub_reads.proofs.Ranking.{then_none}
+use Rattle.hub_rows.proofs.Ranking.{then_none}
 use Rattle.hub_reads.proofs.Texts.{given_at}
-use Rattle.hub_reads.proofs.Unclean.{mail_unclean}
+use Rattle.hub_rows.proofs.Unclean.{mail_unclean}
 use Rattle.std.specs.Option.{unwrap_or}
 use Rattle.std.specs.List.{last_or}
 use Rattle.std.specs.List.Sorted.{IsPermutation, IsSorted}
@@ -56,11 +56,11 @@ use Rattle.gs1_ids.specs.Gln.{is_gln}
 use Rattle.std.specs.Prelude.{nat_le}
 use Rattle.hub_parties.specs.KeyOrder.{bytes_cmp, Rises}
 use Rattle.hub_tables.specs.State.{last_mail}
-use Rattle.hub_reads.specs.Shown.{shown_number}
-use Rattle.hub_reads.proofs.Listing.{sources_moved}
+use Rattle.hub_rows.specs.Shown.{shown_number}
+use Rattle.hub_rows.proofs.Listing.{sources_moved}
 use Rattle.hub_reads.proofs.OfUntaken.{map_limited, limited_spoil}
-use Rattle.hub_reads.proofs.Single.{bytes_tied, all_through, spoils_more, shown_first}
-use Rattle.hub_reads.proofs.Sorting.{rises_filter, sorted_map, sorted_alike}
+use Rattle.hub_rows.proofs.Single.{bytes_tied, all_through, spoils_more, shown_first}
+use Rattle.hub_rows.proofs.Sorting.{rises_filter, sorted_map, sorted_alike}
 use Rattle.hub_reads.proofs.Texts.{one, falling, positive_test, last_text, last_selects}
 
 -- The last of rising numbers is the greatest.

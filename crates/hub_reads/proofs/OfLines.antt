@@ -24,18 +24,18 @@ use Rattle.hub_tables.proofs.KindOrders.{line_total}
 use Rattle.hub_schema.specs.Rows.{line_in, tables_in}
 use Rattle.hub_schema.specs.State.{IsHub, LooksUp}
 use Rattle.hub_schema.proofs.Single.{line_kinds, line_cells, hub_rises}
-use Rattle.hub_reads.specs.Asks.{Asks}
-use Rattle.hub_reads.proofs.Asking.{reads_more}
-use Rattle.hub_reads.specs.Shown.{shown_line}
-use Rattle.hub_reads.proofs.Counting.{cell_bytes, cell_number, all_such}
-use Rattle.hub_reads.proofs.Finding.{all_of, no_limit, passes, Finds, finds}
-use Rattle.hub_reads.proofs.Listing.{shown_say, sources_have, sources_are, sources_sorted, sources_spoil, all_of_map}
-use Rattle.hub_reads.proofs.Listing.{all_both, all_then, filter_both}
-use Rattle.hub_reads.proofs.Looking.{looks}
-use Rattle.hub_reads.proofs.Ranking.{then_none, rank_bytes, rank_numbers, low_number}
+use Rattle.hub_rows.specs.Asks.{Asks}
+use Rattle.hub_rows.proofs.Asking.{reads_more}
+use Rattle.hub_rows.specs.Shown.{shown_line}
+use Rattle.hub_rows.proofs.Counting.{cell_bytes, cell_number, all_such}
+use Rattle.hub_rows.proofs.Finding.{all_of, no_limit, passes, Finds, finds}
+use Rattle.hub_rows.proofs.Listing.{shown_say, sources_have, sources_are, sources_sorted, sources_spoil, all_of_map}
+use Rattle.hub_rows.proofs.Listing.{all_both, all_then, filter_both}
+use Rattle.hub_rows.proofs.Looking.{looks}
+use Rattle.hub_rows.proofs.Ranking.{then_none, rank_bytes, rank_numbers, low_number}
 use Rattle.hub_reads.proofs.Texts.{given_at, line_columns, line_order, lines_text, lines_select, all_lines_text, all_lines_select}
 use Rattle.hub_reads.proofs.Texts.{numbered_tests, numbered_text, numbered_select}
-use Rattle.hub_reads.proofs.Unclean.{lines_unclean}
+use Rattle.hub_rows.proofs.Unclean.{lines_unclean}
 use Rattle.sql_rows.proofs.Answers.{and_true}
 
 -- a row whose cells have the types of its columns, with a line number

@@ -31,19 +31,19 @@ use Rattle.hub_schema.specs.Rows.{mail_in, tables_in}
 use Rattle.hub_schema.specs.State.{IsHub, LooksUp}
 use Rattle.hub_schema.proofs.InKeyOrder.{listed_any}
 use Rattle.hub_schema.proofs.Single.{mail_kinds, mail_cells, hub_rises}
-use Rattle.hub_reads.specs.Asks.{Asks}
+use Rattle.hub_rows.specs.Asks.{Asks}
 use Rattle.hub_reads.specs.Mail.{is_low, is_above, low_of, above_of}
-use Rattle.hub_reads.specs.Shown.{shown_mail}
+use Rattle.hub_rows.specs.Shown.{shown_mail}
 use Rattle.hub_reads.proofs.Comparing.{cell_low, cell_above}
-use Rattle.hub_reads.proofs.Counting.{cell_bytes, cell_number, any_shown, some_found, all_such}
-use Rattle.hub_reads.proofs.Finding.{all_of, no_limit, passes, Finds, finds}
-use Rattle.hub_reads.proofs.Joining.{looks_on, looks_spoilt}
-use Rattle.hub_reads.proofs.Listing.{rows_moved, rows_spoil, filter_both}
-use Rattle.hub_reads.proofs.Looking.{looks}
-use Rattle.hub_reads.proofs.Single.{found_first, both_tied, bytes_tied, numbers_tied}
+use Rattle.hub_rows.proofs.Counting.{cell_bytes, cell_number, any_shown, some_found, all_such}
+use Rattle.hub_rows.proofs.Finding.{all_of, no_limit, passes, Finds, finds}
+use Rattle.hub_rows.proofs.Joining.{looks_on, looks_spoilt}
+use Rattle.hub_rows.proofs.Listing.{rows_moved, rows_spoil, filter_both}
+use Rattle.hub_rows.proofs.Looking.{looks}
+use Rattle.hub_rows.proofs.Single.{found_first, both_tied, bytes_tied, numbers_tied}
 use Rattle.hub_reads.proofs.Texts.{given_at, low_tests, low_text, low_selects, above_test, above_text, above_selects}
 use Rattle.hub_reads.proofs.Texts.{mail_columns, entry_text, entry_selects}
-use Rattle.hub_reads.proofs.Unclean.{first_fails, later_fails, mail_unclean}
+use Rattle.hub_rows.proofs.Unclean.{first_fails, later_fails, mail_unclean}
 
 -- whether a query for numbers has rows
 some_entry : (s : State) → IsHub s → (tests : List Term) (params : Row) (test : MailRow → Bool)

@@ -11,7 +11,7 @@ use Rattle.hub_store.specs.declared.fault.StoreFault.TheVariants.{Unclean}
 use Rattle.hub_tables.specs.Tables.{Tables, view}
 use Rattle.hub_tables.specs.declared.rows.LineRow.{LineRow}
 use Rattle.hub_schema.specs.State.{LooksFor, LooksUp}
-use Rattle.hub_reads.proofs.Joining.{found_on, found_then, failed_for, fault_on}
+use Rattle.hub_rows.proofs.Joining.{found_on, found_then, failed_for, fault_on}
 
 -- what was found, with the lines of the numbers that are left, are the lines of all numbers
 abbrev pub LooksSoFar : (supplier number left all : List ℕ) → State → State → List LineRow → Type 0

@@ -34,15 +34,15 @@ use Rattle.hub_store.specs.declared.fault.StoreFault.{StoreFault}
 use Rattle.hub_schema.specs.Rows.{order_in, line_in, advice_in, pallet_in, remembered_in, mail_in, in_key_order, tables_in}
 use Rattle.hub_schema.specs.Schema.{old_schema}
 use Rattle.hub_schema.specs.State.{IsOldHub}
-use Rattle.hub_reads.specs.Asks.{Asks}
+use Rattle.hub_rows.specs.Asks.{Asks}
 use Rattle.hub_reads.specs.Fitting.{registered_in, pallet_fits, orders_fit, lines_fit, advices_fit, pallets_fit, remembered_fit, mail_fits}
 use Rattle.hub_reads.specs.Fitting.{TellsOld}
-use Rattle.hub_reads.proofs.Causes.{IsBare, disk_has_cause, one_table}
-use Rattle.hub_reads.proofs.Finding.{all_of, no_limit, Finds, finds}
-use Rattle.hub_reads.proofs.Listing.{all_clean, clean_all}
-use Rattle.hub_reads.proofs.Looking.{SelectsFrom, looks_among}
+use Rattle.hub_rows.proofs.Causes.{IsBare, disk_has_cause, one_table}
+use Rattle.hub_rows.proofs.Finding.{all_of, no_limit, Finds, finds}
+use Rattle.hub_rows.proofs.Listing.{all_clean, clean_all}
+use Rattle.hub_rows.proofs.Looking.{SelectsFrom, looks_among}
 use Rattle.hub_reads.proofs.Numbering.{all_pass}
-use Rattle.hub_reads.proofs.Sorting.{listed_moved}
+use Rattle.hub_rows.proofs.Sorting.{listed_moved}
 
 -- Bytes that are not a GLN name no supplier.
 none_found : (bytes : List ℕ) → is_gln bytes ≡ false → (suppliers : List SupplierRow)

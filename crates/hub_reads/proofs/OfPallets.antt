@@ -20,16 +20,16 @@ use Rattle.hub_tables.proofs.KindOrders.{pallet_total}
 use Rattle.hub_schema.specs.Rows.{pallet_in, tables_in}
 use Rattle.hub_schema.specs.State.{IsHub, LooksUp}
 use Rattle.hub_schema.proofs.Single.{pallet_kinds, pallet_cells, hub_rises}
-use Rattle.hub_reads.specs.Asks.{Asks}
-use Rattle.hub_reads.specs.Shown.{shown_pallet}
-use Rattle.hub_reads.proofs.Counting.{cell_bytes, all_such}
-use Rattle.hub_reads.proofs.Finding.{all_of, no_limit, passes, Finds, finds}
-use Rattle.hub_reads.proofs.Listing.{shown_say, sources_have, sources_are, sources_sorted, sources_spoil}
-use Rattle.hub_reads.proofs.Looking.{looks}
-use Rattle.hub_reads.proofs.Ranking.{then_none, rank_bytes}
+use Rattle.hub_rows.specs.Asks.{Asks}
+use Rattle.hub_rows.specs.Shown.{shown_pallet}
+use Rattle.hub_rows.proofs.Counting.{cell_bytes, all_such}
+use Rattle.hub_rows.proofs.Finding.{all_of, no_limit, passes, Finds, finds}
+use Rattle.hub_rows.proofs.Listing.{shown_say, sources_have, sources_are, sources_sorted, sources_spoil}
+use Rattle.hub_rows.proofs.Looking.{looks}
+use Rattle.hub_rows.proofs.Ranking.{then_none, rank_bytes}
 use Rattle.hub_reads.proofs.Texts.{given_at, rising, pallet_columns, used_text, used_selects, pallet_text}
 use Rattle.hub_reads.proofs.Texts.{pallet_selects, all_pallets_text, all_pallets_select}
-use Rattle.hub_reads.proofs.Unclean.{pallets_unclean}
+use Rattle.hub_rows.proofs.Unclean.{pallets_unclean}
 use Rattle.sql_rows.proofs.Answers.{and_true}
 use Rattle.std.proofs.lemmas.Bool.{and_parts}
 use Rattle.std.specs.Ordering.{is_eq}
@@ -37,9 +37,9 @@ use Rattle.std.specs.List.Sorted.{IsPermutation}
 use Rattle.std.proofs.lemmas.Map.Text.{is_eq-slice_cmp}
 use Rattle.hub_tables.proofs.Lists.{same_is, same_if}
 use Rattle.hub_schema.proofs.InKeyOrder.{listed_any}
-use Rattle.hub_reads.proofs.Counting.{any_shown, some_found}
-use Rattle.hub_reads.proofs.Listing.{sources_moved}
-use Rattle.hub_reads.proofs.Single.{found_first, filter_turned}
+use Rattle.hub_rows.proofs.Counting.{any_shown, some_found}
+use Rattle.hub_rows.proofs.Listing.{sources_moved}
+use Rattle.hub_rows.proofs.Single.{found_first, filter_turned}
 
 ranked : (params x y : Row) → AreOf pallet_kinds 0 x → AreOf pallet_kinds 0 y
     → sort_cmp (rising 1 ∷ []) (params ∷ x ∷ []) (params ∷ y ∷ []) ≡ pallet_cmp (pallet_in x) (pallet_in y)

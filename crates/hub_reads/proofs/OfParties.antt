@@ -20,12 +20,12 @@ use Rattle.hub_tables.proofs.KindOrders.{hub_total, key_total, prefix_total}
 use Rattle.hub_schema.specs.Rows.{hub_row_in, key_row_in, prefix_row_in, in_key_order, tables_in}
 use Rattle.hub_schema.specs.State.{HasTables, LooksIn}
 use Rattle.hub_schema.proofs.Single.{hub_kinds, hub_cells, key_kinds, key_cells, prefix_kinds, prefix_cells, held_rise}
-use Rattle.hub_reads.specs.Asks.{Asks}
-use Rattle.hub_reads.specs.Shown.{shown_hub, shown_key, shown_prefix}
-use Rattle.hub_reads.proofs.Finding.{all_of, no_limit, Finds, finds}
-use Rattle.hub_reads.proofs.Listing.{rows_are, rows_spoil, all_any}
-use Rattle.hub_reads.proofs.Looking.{looks_in}
-use Rattle.hub_reads.proofs.Ranking.{then_none, rank_bytes}
+use Rattle.hub_rows.specs.Asks.{Asks}
+use Rattle.hub_rows.specs.Shown.{shown_hub, shown_key, shown_prefix}
+use Rattle.hub_rows.proofs.Finding.{all_of, no_limit, Finds, finds}
+use Rattle.hub_rows.proofs.Listing.{rows_are, rows_spoil, all_any}
+use Rattle.hub_rows.proofs.Looking.{looks_in}
+use Rattle.hub_rows.proofs.Ranking.{then_none, rank_bytes}
 use Rattle.hub_reads.proofs.Texts.{rising, hubs_text, hubs_select, keys_text, keys_select, prefixes_text, prefixes_select}
 
 all_pass : {X : Type 0} (xs : List X) → filter (λ x. true) xs ≡ xs

@@ -28,15 +28,15 @@ use Rattle.hub_tables.proofs.KindOrders.{remembered_total}
 use Rattle.hub_schema.specs.Rows.{remembered_in, tables_in}
 use Rattle.hub_schema.specs.State.{LooksUp}
 use Rattle.hub_schema.proofs.Single.{remembered_kinds, remembered_cells, hub_rises}
-use Rattle.hub_reads.specs.Asks.{Asks}
-use Rattle.hub_reads.specs.Shown.{shown_bytes}
-use Rattle.hub_reads.proofs.Counting.{cell_bytes, cell_number, all_such}
-use Rattle.hub_reads.proofs.Finding.{all_of, no_limit, passes, Finds, finds}
-use Rattle.hub_reads.proofs.Listing.{shown_say, sources_moved, sources_spoil, filter_both}
-use Rattle.hub_reads.proofs.Looking.{looks}
-use Rattle.hub_reads.proofs.Single.{found_first, both_tied, bytes_tied, numbers_tied, shown_first, all_through, spoils_more}
+use Rattle.hub_rows.specs.Asks.{Asks}
+use Rattle.hub_rows.specs.Shown.{shown_bytes}
+use Rattle.hub_rows.proofs.Counting.{cell_bytes, cell_number, all_such}
+use Rattle.hub_rows.proofs.Finding.{all_of, no_limit, passes, Finds, finds}
+use Rattle.hub_rows.proofs.Listing.{shown_say, sources_moved, sources_spoil, filter_both}
+use Rattle.hub_rows.proofs.Looking.{looks}
+use Rattle.hub_rows.proofs.Single.{found_first, both_tied, bytes_tied, numbers_tied, shown_first, all_through, spoils_more}
 use Rattle.hub_reads.proofs.Texts.{remembered_tests, remembered_text, remembered_selects}
-use Rattle.hub_reads.proofs.Unclean.{remembered_unclean}
+use Rattle.hub_rows.proofs.Unclean.{remembered_unclean}
 
 letter_low : (side : Side) → side_letter side < 2 ^ 64
 letter_low sides.Retailer = omega arith

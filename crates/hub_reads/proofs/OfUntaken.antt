@@ -35,20 +35,20 @@ use Rattle.hub_tables.proofs.Lists.{all_passes, filter_alike}
 use Rattle.hub_schema.specs.Rows.{mail_in, tables_in}
 use Rattle.hub_schema.specs.State.{IsHub, LooksUp}
 use Rattle.hub_schema.proofs.Single.{mail_kinds, mail_cells, hub_rises}
-use Rattle.hub_reads.specs.Asks.{Asks}
+use Rattle.hub_rows.specs.Asks.{Asks}
 use Rattle.hub_reads.specs.Mail.{is_low, is_above, low_of, above_of}
-use Rattle.hub_reads.specs.Shown.{shown_head}
+use Rattle.hub_rows.specs.Shown.{shown_head}
 use Rattle.hub_reads.proofs.Comparing.{cell_above, cell_untaken, rank_above}
-use Rattle.hub_reads.proofs.Counting.{cell_bytes, all_such}
-use Rattle.hub_reads.proofs.Finding.{some_of, passes, Finds, finds}
-use Rattle.hub_reads.proofs.Joining.{looks_on, looks_spoilt, looks_then}
-use Rattle.hub_reads.proofs.Listing.{shown_say, sources_have, sources_pass, sources_are, sources_sorted, sources_spoil}
-use Rattle.hub_reads.proofs.Listing.{filter_both, all_both, all_clean, all_then, all_to_map, clean_all}
-use Rattle.hub_reads.proofs.Looking.{looks}
+use Rattle.hub_rows.proofs.Counting.{cell_bytes, all_such}
+use Rattle.hub_rows.proofs.Finding.{some_of, passes, Finds, finds}
+use Rattle.hub_rows.proofs.Joining.{looks_on, looks_spoilt, looks_then}
+use Rattle.hub_rows.proofs.Listing.{shown_say, sources_have, sources_pass, sources_are, sources_sorted, sources_spoil}
+use Rattle.hub_rows.proofs.Listing.{filter_both, all_both, all_clean, all_then, all_to_map, clean_all}
+use Rattle.hub_rows.proofs.Looking.{looks}
 use Rattle.hub_reads.proofs.OfMail.{all_not, none_found, low_spoils}
-use Rattle.hub_reads.proofs.Ranking.{rank_bytes, then_none}
+use Rattle.hub_rows.proofs.Ranking.{rank_bytes, then_none}
 use Rattle.hub_reads.proofs.Texts.{given_at, rising, above_test, untaken_test, head_columns, after_text, after_selects}
-use Rattle.hub_reads.proofs.Unclean.{mail_unclean}
+use Rattle.hub_rows.proofs.Unclean.{mail_unclean}
 
 -- Prefixes of lists.
 

@@ -9,8 +9,8 @@ use Rattle.sqlite_value.specs.declared.keys.Key.{Key}
 use Rattle.sqlite_value.specs.declared.value.Value.TheVariants.{Int}
 use Rattle.sqlite_tied.specs.Compute.{everything}
 use Rattle.sqlite.specs.Listing.{understood}
-use Rattle.hub_reads.proofs.Finding.{some_of, all_of}
-use Rattle.hub_reads.proofs.Looking.{Selects}
+use Rattle.hub_rows.proofs.Finding.{some_of, all_of}
+use Rattle.hub_rows.proofs.Looking.{Selects}
 
 -- the column of the row equals the parameter; both are counted from 1
 abbrev pub given_at : ℕ → ℕ → Term

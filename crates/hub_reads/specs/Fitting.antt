@@ -10,7 +10,7 @@ use Rattle.hub_store.specs.declared.fault.StoreFault.{StoreFault}
 use Rattle.hub_schema.specs.Cells.{bytes_in}
 use Rattle.hub_schema.specs.Schema.{old_schema}
 use Rattle.hub_schema.specs.State.{LooksForOld, Never}
-use Rattle.hub_reads.specs.Asks.{DiskHasCause}
+use Rattle.hub_rows.specs.Asks.{DiskHasCause}
 
 -- of the columns that a query shows: the supplier of a row, or the SSCC and the supplier of a pallet
 abbrev pub registered_in : RegisterRows → Row → Bool

@@ -5,7 +5,7 @@ use Rattle.hub_store.specs.declared.fault.StoreFault.{StoreFault}
 use Rattle.hub_store.specs.declared.fault.StoreFault.TheVariants.{Memory, Disk}
 use Rattle.hub_schema.specs.Schema.{old_schema, hub_schema}
 use Rattle.hub_schema.specs.State.{HasNumber, Never, Spares}
-use Rattle.hub_reads.specs.Asks.{HasDiskCause}
+use Rattle.hub_rows.specs.Asks.{HasDiskCause}
 
 -- Whether the schema's number is exactly this, in the tables of a hub or in those of schema 1; there, a fault of the
 -- disk has a cause. Nothing changes, even after a crash; after a fault, a transaction that was open may be undone.

@@ -4,8 +4,8 @@ ghost use Rattle.hub_schema.specs.State.{LooksUp};
 ghost use Rattle.hub_tables.specs.State.{knows_advice};
 ghost use Rattle.hub_tables.specs.Tables.{view};
 
-use crate::ask::has_row;
 use gs1_ids::Gln;
+use hub_rows::has_row;
 use hub_store::StoreFault;
 use sqlite::types::ValueRef;
 use sqlite::{Alter, Connection};

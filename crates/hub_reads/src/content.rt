@@ -7,10 +7,10 @@ ghost use Rattle.hub_schema.specs.State.{LooksUp};
 ghost use Rattle.hub_tables.specs.State.{contents_of as contents};
 ghost use Rattle.hub_tables.specs.Tables.{view};
 
-use crate::ask::rows_of;
 use crate::pallet::is_held;
 use edi_base::Items;
 use gs1_ids::{Gln, Sscc};
+use hub_rows::rows_of;
 use hub_store::StoreFault;
 use hub_tables::ContentRow;
 use sqlite::types::ValueRef;

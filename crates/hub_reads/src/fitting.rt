@@ -8,14 +8,13 @@ ghost use Rattle.hub_founding.specs.Fits as founding;
 ghost use Rattle.hub_parties.specs.Rows.{row_of};
 ghost use Rattle.hub_schema.specs.Cells.{bytes_in};
 ghost use Rattle.hub_schema.specs.State.{Never};
-ghost use Rattle.hub_reads.specs.Asks.{Asks};
+ghost use Rattle.hub_rows.specs.Asks.{Asks};
 ghost use Rattle.hub_reads.specs.Fitting as spec;
 
-use crate::ask::ask;
-use crate::values::{gln_at, sscc_at};
 use gs1_ids::Sscc;
 use hub_parties::SupplierRow;
 use hub_register::Register;
+use hub_rows::{gln_at, query, sscc_at};
 use hub_store::StoreFault;
 use sqlite::{Alter, Connection, Row};
 
@@ -80,7 +79,7 @@ fn are_registered<S: Alter>(
         Never text.now [] (state S.Store conn.old) (state S.Store conn.new) result }
     ensures fails { IfErr result (λ fault. (fault ≡ StoreFault.Memory) ⊎ (fault ≡ StoreFault.Disk)) }
 {
-    let rows = ask(conn, text, &[])?;
+    let rows = query(conn, text, &[])?;
     Ok(all_registered(register, rows.as_slice()))
 }
 
@@ -94,7 +93,7 @@ fn do_pallets_fit<S: Alter>(
         Never text.now [] (state S.Store conn.old) (state S.Store conn.new) result }
     ensures fails { IfErr result (λ fault. (fault ≡ StoreFault.Memory) ⊎ (fault ≡ StoreFault.Disk)) }
 {
-    let rows = ask(conn, text, &[])?;
+    let rows = query(conn, text, &[])?;
     Ok(all_pallets_fit(register, rows.as_slice()))
 }
 

@@ -3,7 +3,6 @@
 #![tactic(auto)]
 
 mod advice;
-mod ask;
 mod content;
 mod fitting;
 mod line;
@@ -14,11 +13,8 @@ mod pallet;
 mod party;
 mod receipt;
 mod remembered;
-mod shown;
-mod values;
 
 pub use advice::advice_known;
-pub use ask::{ask as query, has_row};
 pub use content::{contents_of, contents_on};
 pub use fitting::fits;
 pub use line::{all_lines, lines_at, lines_of};
@@ -29,5 +25,3 @@ pub use pallet::{all_pallets, pallet_of, used};
 pub use party::{all_hubs, all_keys, all_prefixes, register};
 pub use receipt::{receipts_of, receipts_on};
 pub use remembered::remembered_content;
-pub use shown::Shown;
-pub use values::{blob_at, number_at};

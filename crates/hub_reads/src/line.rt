@@ -10,10 +10,10 @@ ghost use Rattle.hub_schema.specs.State.{LooksUp};
 ghost use Rattle.hub_tables.specs.State.{lines_of as lines};
 ghost use Rattle.hub_tables.specs.Tables.{view};
 
-use crate::ask::rows_of;
 use crate::order::order_known;
 use edi_base::{Items, MemoryFault};
 use gs1_ids::Gln;
+use hub_rows::rows_of;
 use hub_store::StoreFault;
 use hub_tables::LineRow;
 use sqlite::types::ValueRef;

@@ -16,10 +16,10 @@ ghost use Rattle.sqlite_value.specs.Value.{owned};
 ghost use Rattle.sqlite.specs.Values.{bound_value};
 ghost use Rattle.sqlite_value.specs.declared.value.Value.TheVariants.{Int};
 
-use crate::ask::{first_of, has_row, rows_of};
 use edi_base::Items;
 use edi_envelope::LAST_MAIL_NUMBER;
 use gs1_ids::Gln;
+use hub_rows::{first_of, has_row, rows_of};
 use hub_store::{MailHead, StoreFault};
 use hub_tables::MailRow;
 use sqlite::types::ValueRef;
@@ -147,7 +147,7 @@ fn heads_above<S: Alter>(
 }
 
 // Like `heads_above`, for the first `limit` entries, above a number that can be a parameter.
-#[tactic(auto, using(crate::proofs::Counting::all_take))]
+#[tactic(auto, using(hub_rows::proofs::Counting::all_take))]
 fn first_above<S: Alter>(
     conn: &mut Connection<S>,
     alloc: Global,

@@ -4,7 +4,7 @@ ghost use Rattle.sqlite.specs.Held.{state};
 ghost use Rattle.sqlite_value.specs.declared.value.Value.TheVariants.{Int};
 ghost use Rattle.hub_reads.specs.Numbered.{TellsNumber};
 
-use crate::ask::ask;
+use hub_rows::query;
 use hub_store::StoreFault;
 use sqlite::types::ValueRef;
 use sqlite::{Alter, Connection, Row};
@@ -26,6 +26,6 @@ fn is_alone(number: u32, rows: &[Row]) -> bool
 pub fn is_numbered<S: Alter>(conn: &mut Connection<S>, number: u32) -> Result<bool, StoreFault>
     ensures number { TellsNumber number (state S.Store conn.old) (state S.Store conn.new) result }
 {
-    let rows = ask(conn, "SELECT number FROM schema", &[])?;
+    let rows = query(conn, "SELECT number FROM schema", &[])?;
     Ok(is_alone(number, rows.as_slice()))
 }

@@ -7,9 +7,9 @@ ghost use Rattle.hub_schema.specs.State.{LooksUp};
 ghost use Rattle.hub_tables.specs.State.{pallet_of as pallet};
 ghost use Rattle.hub_tables.specs.Tables.{holds, view, has_pallet};
 
-use crate::ask::{first_of, has_row, rows_of};
 use edi_base::Items;
 use gs1_ids::{Gln, Sscc};
+use hub_rows::{first_of, has_row, rows_of};
 use hub_store::StoreFault;
 use hub_tables::PalletRow;
 use sqlite::types::ValueRef;

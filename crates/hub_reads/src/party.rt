@@ -7,10 +7,10 @@ ghost use Rattle.hub_founding.specs.Founding.{IsHeldBy, HoldsNone};
 ghost use Rattle.hub_schema.specs.State.{LooksIn};
 ghost use Rattle.hub_tables.specs.Sets.{Rising};
 
-use crate::ask::rows_of;
 use edi_base::Items;
 use hub_founding::register_of;
 use hub_register::Register;
+use hub_rows::rows_of;
 use hub_store::StoreFault;
 use hub_tables::{HubRow, KeyRow, PrefixRow};
 use sqlite::{Alter, Connection};

@@ -7,10 +7,10 @@ ghost use Rattle.hub_schema.specs.State.{LooksUp};
 ghost use Rattle.hub_tables.specs.State.{receipts_of as receipts};
 ghost use Rattle.hub_tables.specs.Tables.{view};
 
-use crate::ask::rows_of;
 use crate::pallet::is_held;
 use edi_base::Items;
 use gs1_ids::{Gln, Sscc};
+use hub_rows::rows_of;
 use hub_store::StoreFault;
 use hub_tables::ReceiptRow;
 use sqlite::types::ValueRef;

@@ -9,9 +9,9 @@ ghost use Rattle.hub_tables.specs.Cases.{side_letter};
 ghost use Rattle.hub_tables.specs.State.{remembered_content as remembered};
 ghost use Rattle.hub_tables.specs.Tables.{view};
 
-use crate::ask::first_of;
 use edi_base::Items;
 use gs1_ids::Gln;
+use hub_rows::first_of;
 use hub_store::StoreFault;
 use hub_tables::{Case, Side};
 use sqlite::types::ValueRef;

@@ -15,8 +15,8 @@ use Rattle.hub_schema.specs.Schema.{hub_schema}
 use Rattle.hub_schema.specs.State.{AreOrdered, HasNumber, IsFounded, LooksAmong}
 use Rattle.hub_store.specs.declared.fault.StoreFault.{StoreFault}
 use Rattle.hub_store.specs.declared.fault.StoreFault.TheVariants.{Memory, Disk, Unclean, Version}
-use Rattle.hub_reads.specs.Asks.{HasDiskCause}
-use Rattle.hub_reads.proofs.Causes.{more_faults}
+use Rattle.hub_rows.specs.Asks.{HasDiskCause}
+use Rattle.hub_rows.proofs.Causes.{more_faults}
 use Rattle.hub_sql.specs.Opening.{Adopts, CountsOn, ComesBack, ComesOpen, ComesWith, Refuses, IsAsBefore, IsKnown, IsSpared}
 use Rattle.hub_sql.specs.Opening.{MayBeRaised, MayBeRenumbered}
 use Rattle.hub_sql.specs.Opening.{SparesConnection, StaysShut}

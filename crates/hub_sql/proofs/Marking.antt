@@ -20,8 +20,8 @@ use Rattle.hub_tables.specs.declared.rows.MailRow.{MailRow}
 use Rattle.hub_tables.proofs.Lists.{all_always, all_passes, all_replace, all_weaker, filter_alike, same_is}
 use Rattle.hub_store.specs.Heads.{head_of}
 use Rattle.hub_store.specs.declared.mail.MailHead.{MailHead}
-use Rattle.hub_reads.proofs.Listing.{filter_both}
-use Rattle.hub_reads.proofs.Sorting.{rises_filter}
+use Rattle.hub_rows.proofs.Listing.{filter_both}
+use Rattle.hub_rows.proofs.Sorting.{rises_filter}
 use Rattle.hub_sql.specs.Marks.{IsTakenUpTo, TakenUpTo, Marks, mark_of, TakenUpToMarks, list_start, shown_mark, Notes}
 use Rattle.hub_sql.specs.Marks.{mark_with, mark_after, mark_after_all}
 

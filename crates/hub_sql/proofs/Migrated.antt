@@ -15,7 +15,7 @@ use Rattle.hub_schema.specs.Schema.{no_schema}
 use Rattle.hub_store.specs.declared.fault.StoreFault.{StoreFault}
 use Rattle.hub_store.specs.declared.fault.StoreFault.TheVariants.{Memory, Disk, Unclean, Version}
 use Rattle.hub_parties.specs.declared.row.SupplierRow.{SupplierRow}
-use Rattle.hub_reads.specs.Asks.{HasDiskCause}
+use Rattle.hub_rows.specs.Asks.{HasDiskCause}
 use Rattle.hub_rules.specs.Laws.{SoundHub}
 use Rattle.hub_rules.specs.Sound.{Sound}
 use Rattle.hub_sql.specs.Founding.{FailsOver, Founds, IsOfFounding, MayBeBeside, MayBeFounded, RefusesFounding, Stood}

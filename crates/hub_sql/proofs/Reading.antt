@@ -17,7 +17,7 @@ use Rattle.hub_store.specs.declared.fault.StoreFault.TheVariants.{Unclean}
 use Rattle.hub_schema.specs.Rows.{tables_in}
 use Rattle.hub_schema.specs.Schema.{hub_schema}
 use Rattle.hub_schema.specs.State.{LooksFor, LooksIn, LooksUp}
-use Rattle.hub_reads.proofs.Joining.{of_hub}
+use Rattle.hub_rows.proofs.Joining.{of_hub}
 use Rattle.hub_sql.specs.Settling.{Settles}
 use Rattle.hub_sql.specs.Stored.{Stored, content, left, HasRegister, IsSettled, honest}
 use Rattle.hub_sql.specs.Marks.{Marks}

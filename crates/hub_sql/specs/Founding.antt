@@ -14,7 +14,7 @@ use Rattle.hub_store.specs.declared.fault.StoreFault.TheVariants.{Memory, Disk, 
 use Rattle.hub_schema.specs.Rows.{traffic_in}
 use Rattle.hub_schema.specs.Schema.{no_schema}
 use Rattle.hub_schema.specs.State.{IsFounded}
-use Rattle.hub_reads.specs.Asks.{HasDiskCause}
+use Rattle.hub_rows.specs.Asks.{HasDiskCause}
 use Rattle.hub_rules.specs.Laws.{SoundHub}
 use Rattle.hub_rules.specs.Sound.{Sound}
 use Rattle.hub_sql.specs.Opening.{IsAsBefore, IsKnown, IsReady, IsSpared, ComesBack, ComesOpen, ComesWith}

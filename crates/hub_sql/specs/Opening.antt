@@ -18,7 +18,7 @@ use Rattle.hub_schema.specs.Faults.{fault_of}
 use Rattle.hub_schema.specs.Rows.{tables_in}
 use Rattle.hub_schema.specs.Schema.{hub_schema}
 use Rattle.hub_schema.specs.State.{AreTables, IsFounded, Never}
-use Rattle.hub_reads.specs.Asks.{HasDiskCause}
+use Rattle.hub_rows.specs.Asks.{HasDiskCause}
 use Rattle.hub_sql.specs.Stored.{Stored, content, left, honest}
 use Rattle.hub_sql.specs.Version.{HoldsHub, HoldsTables, schema_of, tables_of}
 use Rattle.hub_sql.specs.declared.returned.Returned.{Returned}

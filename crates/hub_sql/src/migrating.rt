@@ -4,7 +4,7 @@ ghost use Rattle.sqlite.specs.Held.{state};
 ghost use Rattle.sqlite.specs.State.{HasCleanDisk};
 ghost use Rattle.hub_founding.specs.Fits.{fits as does_fit, founded_beside};
 ghost use Rattle.hub_parties.specs.Rows.{IsRegister};
-ghost use Rattle.hub_reads.specs.Asks.{HasDiskCause};
+ghost use Rattle.hub_rows.specs.Asks.{HasDiskCause};
 ghost use Rattle.hub_schema.specs.Rows.{traffic_in};
 ghost use Rattle.hub_schema.specs.Schema.{old_schema, no_schema};
 ghost use Rattle.hub_schema.specs.State.{HasNumber, IsOldHub, Never};

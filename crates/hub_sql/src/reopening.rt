@@ -3,7 +3,7 @@ ghost use Rattle.std.specs.Prelude.{◌≡◌, ◌≢◌, ◌⊎◌, false, IfOk
 ghost use Rattle.sqlite.specs.Held.{state, IsNew};
 ghost use Rattle.sqlite.specs.State.{HasCleanDisk};
 ghost use Rattle.sqlite_trees.specs.View.{IsClean};
-ghost use Rattle.hub_reads.specs.Asks.{HasDiskCause};
+ghost use Rattle.hub_rows.specs.Asks.{HasDiskCause};
 ghost use Rattle.hub_schema.specs.State.{HasNumber, Never};
 ghost use Rattle.hub_sql.specs.Opening.{CountsOn, IsAsBefore, IsReady, SparesConnection, SparesStore, StaysShut};
 ghost use Rattle.hub_schema.specs.Schema.{hub_schema};

@@ -8,14 +8,14 @@ use Rattle.hub_reads.proofs.number.is_numbered.Goals as goal
 pub returns : goal.returns
 returns g c = record {
   number = tells c.args.number (state g.S.Store c.args.conn.now)
-      (state g.S.Store c.ask.new.conn) _ c.is_alone.result c.in_ok-rows.ensures.asks
+      (state g.S.Store c.query.new.conn) _ c.is_alone.result c.in_ok-rows.ensures.asks
       (search rules);
 }
 
 pub returns-in_err-rows : goal.returns-in_err-rows
 returns-in_err-rows g c =
     let old = state g.S.Store c.args.conn.now in
-    let new = state g.S.Store c.ask.new.conn in
+    let new = state g.S.Store c.query.new.conn in
     let failed = err_from_is_err_and c.from_residual.result c.from_residual.ensures.1 in
     record {
       number = subst (TellsNumber c.args.number old new) (sym (failed.1 ∙ ap Err failed.2))

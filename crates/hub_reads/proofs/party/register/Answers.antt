@@ -6,7 +6,7 @@ use Rattle.hub_tables.specs.Sets.{Rising}
 use Rattle.hub_schema.specs.State.{LooksIn}
 use Rattle.hub_store.specs.Clean.{clean_hub}
 use Rattle.hub_reads.proofs.Held.{no_hubs}
-use Rattle.hub_reads.proofs.Joining.{as_it_rises, failed_for, held_then}
+use Rattle.hub_rows.proofs.Joining.{as_it_rises, failed_for, held_then}
 use Rattle.hub_reads.proofs.party.register.Goals as goal
 
 pub returns : goal.returns

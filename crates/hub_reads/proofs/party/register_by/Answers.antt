@@ -8,7 +8,7 @@ use Rattle.hub_tables.specs.Tables.{Tables}
 use Rattle.hub_parties.specs.Rows.{RegisterRows}
 use Rattle.hub_schema.specs.State.{LooksIn}
 use Rattle.hub_reads.proofs.Held.{no_prefixes}
-use Rattle.hub_reads.proofs.Joining.{failed_for, found_on}
+use Rattle.hub_rows.proofs.Joining.{failed_for, found_on}
 use Rattle.hub_reads.proofs.party.register_by.Goals as goal
 
 pub returns : goal.returns

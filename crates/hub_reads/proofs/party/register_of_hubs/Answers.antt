@@ -8,7 +8,7 @@ use Rattle.hub_parties.specs.Rows.{RegisterRows}
 use Rattle.hub_schema.specs.State.{LooksIn}
 use Rattle.hub_store.specs.Clean.{clean_key}
 use Rattle.hub_reads.proofs.Held.{no_keys}
-use Rattle.hub_reads.proofs.Joining.{failed_for, held_then}
+use Rattle.hub_rows.proofs.Joining.{failed_for, held_then}
 use Rattle.hub_reads.proofs.party.register_of_hubs.Goals as goal
 
 pub returns : goal.returns

@@ -1,0 +1,12 @@
+pub mod Asking
+pub mod Selecting
+pub mod Finding
+pub mod Looking
+pub mod Causes
+pub mod Counting
+pub mod Sorting
+pub mod Ranking
+pub mod Listing
+pub mod Single
+pub mod Joining
+pub mod Unclean
