@@ -2,7 +2,7 @@
 import os
 import re
 
-from tests.cases import hub_files, key_files, rekey
+from tests.cases import hub_files, key_files, rekey, usage
 from tests.cases.corrections import CORRECTED, CORRECTION, FOURTH_MAIL, TWELVE, corrected
 from tests.cases.registers import REGISTERS
 from tests.harness import database_files, hub_scripts
@@ -484,4 +484,5 @@ COMMANDS = [
     *map(key_files.by_files, (in_turn(), corrections(), folder_in_order(), denied(), joined(), *refused_joins(), broken_output())),
     *key_files.CASES,
     *rekey.CASES,
+    *usage.CASES,
 ]

@@ -1,6 +1,7 @@
 """Cases of keys in files: the same commands with `--key-file`, what the key in a file is, and files that cannot be read."""
 from dataclasses import replace
 
+from tests.cases.usage import PREFIXES, refused_words
 from tests.harness.case import Case
 from tests.harness.database_files import NAME, has_rows
 from tests.harness.hub_scripts import KEYS
@@ -26,14 +27,9 @@ def with_file(words, content, **files):
     return given, {"key.txt": content, **files}
 
 
-def is_refused(text):
-    """A usage error with this text."""
-    return f"error: {text}\n\nUsage: edihub <COMMAND>\n\nFor more information, try '--help'.\n"
-
-
-EITHER = is_refused("the key is given either by --key-file or by --key")
-EITHER_OF_SUPPLIER = is_refused("the supplier's key is given either by --supplier-key-file or by --supplier-key")
-NO_KEY = is_refused("the first line of the file of --supplier-key-file is 8 to 64 visible ASCII characters")
+EITHER = refused_words("the key is given either by --key-file or by --key")
+EITHER_OF_SUPPLIER = refused_words("the supplier's key is given either by --supplier-key-file or by --supplier-key")
+NO_KEY = refused_words("the first line of the file of --supplier-key-file must be 8 to 64 visible ASCII characters")
 
 KEY, LONGEST = KEYS[ALPHA], "k" * 64
 # contents of a file whose key is KEY, and of others
@@ -109,7 +105,7 @@ def unread():
     yield steps("join with no file for the caller's key, and no key in the other", step(given, "", 3, "file\n", no_key))
     nine = ",".join(f"761234{last}" for last in range(1, 10))
     wrong = [nine if word == "7612345" else word for word in given]
-    yield steps("join with nine prefixes, and no key files", step(wrong, "", 2, lambda it: it.startswith(b"error: a GLN is 13 digits")))
+    yield steps("join with nine prefixes, and no key files", step(wrong, "", 2, refused_words(PREFIXES)))
 
 
 def either():

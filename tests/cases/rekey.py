@@ -1,4 +1,5 @@
 """Cases of `rekey`: whose key is changed and to what, what stays as it was, and words and files that it does not take."""
+from tests.cases.usage import ONE_PARTY, a_gln, refused_words
 from tests.harness.case import Case
 from tests.harness.database_files import NAME, OLD_ROWS, OLD_TABLES, file_of, has_rows
 from tests.harness.first_order import ORDERS
@@ -121,14 +122,12 @@ def failed():
 
 
 def words():
-    """Exactly one party is named."""
-    limits = (
-        b"error: exactly one of --supplier and --retailer is given, and a GLN is 13 digits with a right check digit\n\n"
-        b"Usage: edihub <COMMAND>\n\nFor more information, try '--help'.\n"
-    )
-    both, neither = rekey("--supplier", ALPHA, "--retailer"), rekey()
-    for name, given in ("both", both), ("neither", neither), ("a wrong GLN", of(ALPHA[:-1] + "5")), ("twelve digits", of(ALPHA[:-1])):
-        yield steps(f"rekey of {name}", step(given, "", 2, limits))
+    """Exactly one party is named, by a GLN."""
+    one_party, no_gln = refused_words(ONE_PARTY), refused_words(a_gln("supplier"))
+    yield steps("rekey of both", step(rekey("--supplier", ALPHA, "--retailer"), "", 2, one_party))
+    yield steps("rekey of neither", step(rekey(), "", 2, one_party))
+    yield steps("rekey of a wrong GLN", step(of(ALPHA[:-1] + "5"), "", 2, no_gln))
+    yield steps("rekey of twelve digits", step(of(ALPHA[:-1]), "", 2, no_gln))
     missing = lambda it: it.startswith(b"error: the following required arguments were not provided:")
     yield steps("rekey without a database's name", step(["rekey", "--retailer", "--new-key-file", "new.txt"], "", 2, missing))
     yield steps("rekey without a key file's name", step(["rekey", "--db", NAME, "--retailer"], "", 2, missing))

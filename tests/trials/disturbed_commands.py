@@ -300,7 +300,7 @@ def version(program):
     # kits of one logic prove the same: `rattle-kit-13b logic ..` and `rattle-kit-13f logic ..`
     logic = subprocess.run(["rt", "version"], capture_output=True, text=True).stdout.strip().partition(" ")[2]
     found = subprocess.run([program, "--version"], capture_output=True, text=True).stdout
-    wanted = f"edihub 1.0.0 (schema {number}, {logic})\n"
+    wanted = f"edihub 1.1.0 (schema {number}, {logic})\n"
     return "" if found == wanted else f"the version is {found!r}, not {wanted!r}"
 
 

@@ -3,6 +3,7 @@
 
 mod options;
 mod program;
+mod usage;
 mod words;
 
 pub use edi_relay::{RelayFault, RelayWords, relay_run, relay_text};

@@ -90,7 +90,7 @@ const RELAY: &str =
     "Reads an interchange on standard input, prints the mail text of each of its messages";
 
 const STATUS: &str =
-    "Exit status: 0 done; 1 refused, the code stands on standard error; 2 usage error; 3 a failed read or write, or out of memory";
+    "Exit status: 0 done; 1 refused, with the code on standard error; 2 usage error; 3 a failed read or write, or out of memory";
 
 static RELAY_OPTIONS: [Choice; 4] = [
     Choice::Wanted("hub", "GLN", "GLN of the hub, 13 digits"),
@@ -132,7 +132,7 @@ const CHECK_HELP: &str = "The register is a TOML file of at most 1048576 bytes:
 A supplier with several prefixes, eight at most, has them as a list: prefix = [\"40123455\", \"4012399\"]
 
 Faults, in the order in which they are looked for:
-  text         no TOML, or an entry is missing or no string, or of prefix no list of strings either
+  text         not TOML, or an entry is missing or not a string (prefix: nor a list of strings)
   many         more than 1000 suppliers
   gln          a GLN is not 13 digits, or its check digit is wrong
   twice        two GLNs are equal
@@ -176,8 +176,8 @@ const SHOW_HELP: &str = "Of an interchange with one order it prints:
     supplier 4012345500004
     line 1 item 04000862141404 ordered 48
 
-A message that is refused has one line behind its type, as 'refused M08 quantity at segment 9'.
-Where the whole is refused, one line is all, as 'refused E12 count of segments at segment 9', or
+After its type, a refused message has one line, such as 'refused M08 quantity at segment 8'.
+If the whole is refused, one line is all, such as 'refused E12 count of segments at segment 11', or
 'refused E03 byte in a segment at offset 122 line 4 segment 7'. Segments are counted from UNB as 1.
 
 Exit status: 0 nothing is refused; 1 the text, the interchange or a message is refused; 2 usage error; \
@@ -217,7 +217,7 @@ static INIT_OPTIONS: [Choice; 2] = [
     Choice::Wanted(
         "db",
         "FILE",
-        "The hub's database, which is made or brought over",
+        "The hub's database, which is created, or upgraded from schema 1",
     ),
 ];
 
@@ -263,10 +263,10 @@ fn hub_command<'a>(
     choosing(named(alloc, name, about, help), alloc, &HUB_OPTIONS)
 }
 
-const JOIN: &str = "Lets a supplier into a hub that was founded";
+const JOIN: &str = "Registers a new supplier in a hub";
 
 const JOIN_HELP: &str =
-    "The retailer alone lets a supplier in, with its key and its 1 to 8 company prefixes:
+    "Only the retailer registers a supplier, with its key and its 1 to 8 company prefixes:
 
   edihub join --db hub.db --as 5412345000013 --key-file retail.key \\
     --supplier 7612345000008 --supplier-key-file gamma.key --prefixes 7612345,7612346
@@ -322,7 +322,7 @@ It prints 'ok', and from then on the new key is accepted and the old one denied;
   unknown    the hub has no such supplier
   fault key  the first line of the file is not 8 to 64 visible characters
 
-and then nothing is changed. A supplier who is to be shut out for a while gets a key that nobody is told.
+and then nothing is changed. To shut a supplier out for a while, give it a key that you tell nobody.
 
 Exit status: 0 changed; 1 not changed; 2 usage error; 3 a file or the database failed, or out of memory";
 
@@ -451,7 +451,8 @@ It prints a line L for each order line: order number, line number, GTIN, the ans
 ordered, open, refused, cancelled and despatched; then a line P for each article on a pallet: SSCC, GTIN, A
 for announced, R for received or C for corrected, what is despatched, accepted, returned and destroyed, and
 the difference; and last 'end'. Where it is 'denied', caller and key are not those of a party of the hub,
-or the other side asks this; where it is 'unknown', there is no such supplier.
+or only the other side may ask this: the retailer has to name a supplier with --of. Where it is 'unknown',
+there is no such supplier.
 
 Exit status: 0 done; 1 denied or unknown; 2 usage error; 3 a file or the database failed, the hub stopped, or out of memory";
 
@@ -546,8 +547,8 @@ fn cancel_command<'a>(alloc: Global) -> Result<Command<'a>, AllocError>
 const SERVE: &str = "Serves requests over HTTP on 127.0.0.1, one connection after another";
 
 const SERVE_HELP: &str =
-    "The program listens on 127.0.0.1 alone: who asks from elsewhere comes through a reverse proxy, which has the
-name and TLS. It serves as many connections as it is told, and ends; whoever supervises it begins it anew.
+    "The program listens on 127.0.0.1 alone: requests from elsewhere come through a reverse proxy, which has the
+name and TLS. It serves as many connections as it is told, and ends; then a supervisor restarts it.
 
   edihub serve --db hub.db --port 8080 --count 100000
 
@@ -574,9 +575,9 @@ A connection that failed has 'read', 'timeout' or 'write' in place of the status
 before it was taken has 'gone'. If the file cannot be written, 'journal' is printed on standard error once, and serving
 goes on.
 
-A request to the hub as it runs, and its answer:
+To ask the running hub for a mailbox list, with the line 'X-Hub-Key: ' and the key in a file:
 
-  curl -H 'X-Hub-Key: alpha-key-1' http://127.0.0.1:8080/p/4012345500004/mail/after/0
+  curl -H @alpha.header http://127.0.0.1:8080/p/4012345500004/mail/after/0
 
 Exit status: 0 all connections were answered 200; 1 one was not; 2 usage error; \
 3 a connection failed or was answered 503, a file or the database failed, the port cannot be listened on, \
@@ -613,7 +614,7 @@ fn serve_command<'a>(alloc: Global) -> Result<Command<'a>, AllocError>
 }
 
 // With the number of the database's schema, and the logic that its proofs are in, which several kits share: the end of `rt version`.
-const VERSION: &str = "1.0.0 (schema 3, logic dac8208d650f15bf)";
+const VERSION: &str = "1.1.0 (schema 3, logic dac8208d650f15bf)";
 
 // The program without its commands.
 fn bare_program<'a>(alloc: Global) -> Command<'a>

@@ -13,6 +13,7 @@ ghost use Rattle.hub_app.specs.Program.{edihub};
 
 use crate::options::{count, gln, is_set, moment, number, port, prefixes, text};
 use crate::program::program;
+use crate::usage::fault_text;
 use clap::error::ErrorKind;
 use clap::{ArgMatches, Command, Error};
 use edi_envelope::Moment;
@@ -408,7 +409,7 @@ fn named_moment(options: &ArgMatches<'_>) -> Option<Option<Moment>>
 }
 
 // Where the key is, if exactly one of the options for it and for its file is given.
-fn key_word<'a>(options: &ArgMatches<'a>, key: &str, file: &str) -> Option<KeyWord<'a>>
+pub(crate) fn key_word<'a>(options: &ArgMatches<'a>, key: &str, file: &str) -> Option<KeyWord<'a>>
     ensures { option_map given_as result ≡ key_given key.now file.now (rows_of (found_of options.now)) }
 {
     match (text(options, key), text(options, file)) {
@@ -558,69 +559,8 @@ fn command_words<'a>(
     }
 }
 
-const RELAY_LIMITS: &str =
-    "a GLN has 13 digits, --moment is 0 to 4102444799, and --number is 1 to 99999999999001";
-
-const HUB_LIMITS: &str =
-    "a GLN is 13 digits with a right check digit, and --moment is 0 to 4102444799";
-
-const MAIL_LIMITS: &str =
-    "a GLN is 13 digits with a right check digit, --moment is 0 to 4102444799, --do is after, item or taken, and --n is 1 to 14 digits";
-
-const CANCEL_LIMITS: &str =
-    "a GLN is 13 digits with a right check digit, --moment is 0 to 4102444799, --reference is 1 to 14 and --order 1 \
-        to 35 printable ASCII characters, --line is 1 to 999999, and --quantity is 1 to 999999999";
-
-const JOIN_LIMITS: &str =
-    "a GLN is 13 digits with a right check digit, --moment is 0 to 4102444799, --supplier-key is 8 to 64 visible \
-        ASCII characters, and --prefixes are 1 to 8 different ones of 4 to 12 digits, with commas between them";
-
-const REKEY_LIMITS: &str =
-    "exactly one of --supplier and --retailer is given, and a GLN is 13 digits with a right check digit";
-
-const SERVE_LIMITS: &str =
-    "--port is 1 to 65535, --count is 1 to 1000000, and --moment is 0 to 4102444799";
-
-const KEY_WORDS: &str = "the key is given either by --key-file or by --key";
-
-const SUPPLIER_KEY_WORDS: &str =
-    "the supplier's key is given either by --supplier-key-file or by --supplier-key";
-
 const FILE_KEY_LIMITS: &str =
-    "the first line of the file of --supplier-key-file is 8 to 64 visible ASCII characters";
-
-// What is wrong with options that are against their limits.
-fn limits(command: &str) -> &'static str {
-    match command {
-        "relay" => RELAY_LIMITS,
-        "mail" => MAIL_LIMITS,
-        "cancel" => CANCEL_LIMITS,
-        "join" => JOIN_LIMITS,
-        "rekey" => REKEY_LIMITS,
-        "serve" => SERVE_LIMITS,
-        _ => HUB_LIMITS,
-    }
-}
-
-// What is wrong with how the keys of a command over a hub are given, if anything.
-fn key_fault(command: &str, options: &ArgMatches<'_>) -> Option<&'static str> {
-    match command {
-        "import" | "status" | "mail" | "cancel" | "join"
-            if key_word(options, "key", "key-file").is_none() => { Some(KEY_WORDS) }
-        "join" if key_word(options, "supplier-key", "supplier-key-file").is_none() => {
-            Some(SUPPLIER_KEY_WORDS)
-        }
-        _ => None,
-    }
-}
-
-// What is wrong with words that `clap` takes.
-fn fault_text(matches: &ArgMatches<'_>) -> &'static str {
-    match matches.subcommand() {
-        Some((command, options)) => key_fault(command, options).unwrap_or(limits(command)),
-        None => HUB_LIMITS,
-    }
-}
+    "the first line of the file of --supplier-key-file must be 8 to 64 visible ASCII characters";
 
 // What the matches ask for, where each option is within its limits.
 fn matched_words<'a>(
