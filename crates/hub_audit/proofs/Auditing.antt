@@ -1,14 +1,21 @@
 -- What is found of a database, as it is known of an earlier state of the connection.
 use Rattle.std.proofs.Common.{◌≡◌, Result, Ok, Err, IfOk, subst}
 use Rattle.sqlite.specs.Effect.{Database}
+use Rattle.sqlite.specs.Files.{file_state}
+use Rattle.sqlite.specs.Held.{Held}
 use Rattle.sqlite.specs.State.{State, HasCleanDisk}
+use Rattle.sqlite_disk.specs.declared.Disk as disk
+use Rattle.sqlite_store.specs.declared.store.FileStore.{FileStore}
+use Rattle.sqlite_wal.specs.Recovery.{Image}
 use Rattle.hub_schema.specs.Rows.{tables_in}
+use Rattle.hub_sql.specs.File.{IsOver}
 use Rattle.hub_sql.specs.Opening.{IsAsBefore}
 use Rattle.hub_sql.specs.Version.{HoldsTables}
 use Rattle.hub_sql.specs.declared.version.Version.{Version}
 use Rattle.hub_sql.specs.declared.version.Version.TheVariants.{Third}
 use Rattle.hub_store.specs.declared.fault.StoreFault.{StoreFault}
 use Rattle.hub_audit.specs.Audit.{IsAudit, Audits}
+use Rattle.hub_audit.specs.File.{ChecksFile}
 use Rattle.hub_audit.specs.declared.audit.Audit.{Audit}
 use Rattle.hub_audit.specs.declared.audit.Audit.TheVariants.{Sound, Unclean, Unsound, Earlier}
 
@@ -39,3 +46,11 @@ module _ {C : Type 0} (P : C → Type 0) (was now : State) where
   earlier_audited before (Ok found) h =
       λ clean. let it = h clean in subst (λ (db : Database). Audits db found.0) (before it.0).shown it.1
   earlier_audited before (Err fault) h = tt
+
+-- of a connection that was opened over files
+module _ {D : Type 0} {g : disk.Ghosts D} (image : Image) (conn : Held (FileStore D g)) (over : IsOver image conn) where
+  pub file_checked : (result : Result (Audit × Held (FileStore D g)) StoreFault)
+      → IfOk result (λ found. HasCleanDisk (file_state found.1) → Audits (file_state conn).now found.0)
+      → IfOk result (ChecksFile image)
+  file_checked (Ok found) h = (conn, over, h)
+  file_checked (Err fault) h = tt

@@ -1,5 +1,6 @@
 pub mod Audit
 pub mod Every
+pub mod File
 pub mod Key
 pub mod Report
 pub mod Rows

@@ -4,6 +4,7 @@
 mod audit;
 mod calls;
 mod every;
+mod file;
 mod key;
 mod kinds;
 mod received;
@@ -12,5 +13,6 @@ mod report;
 mod rows;
 
 pub use audit::{Audit, check_database};
+pub use file::check_file;
 pub use report::{report_status, report_text};
 pub use rows::HubRows;
