@@ -1,4 +1,4 @@
-use hub_http::{Paths, Route, part_in, party_in};
+use hub_http::{Paths, Route, parts_in};
 use std::alloc::Global;
 use std::test::*;
 
@@ -8,7 +8,10 @@ type Found<'p> = Option<(Route, &'p [u8], &'p [u8])>;
 fn found(alloc: Global, path: &str) -> Result<Found<'_>, Fail> {
     let paths = Paths::new(alloc)?;
     match paths.route_of(path) {
-        Some(route) => Ok(Some((route, party_in(path), part_in(route, path)))),
+        Some(route) => {
+            let parts = parts_in(route, path);
+            Ok(Some((route, parts.party, parts.part)))
+        }
         None => Ok(None),
     }
 }

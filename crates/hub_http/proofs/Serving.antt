@@ -9,7 +9,7 @@ use Rattle.hub_parties.specs.Rows.{RegisterRows}
 use Rattle.http_messages.specs.Body.{body_in}
 use Rattle.http_messages.specs.Head.{Heading, Finds, before, longest_head}
 use Rattle.edi_base.specs.Source.{TakesAtMost}
-use Rattle.hub_http.specs.Answer.{Answers, AnswersWhatever, OneStep, ReadsWithin, Serves, announced_by}
+use Rattle.hub_http.specs.Answer.{AnswersQuestion, AnswersWhatever, OneStep, ReadsWithin, AnswersBytes, announced_by}
 use Rattle.hub_http.specs.Asked.{Asked, asked_by, is_single}
 use Rattle.hub_http.specs.Question.{Question, and_body, question_of, with_body}
 use Rattle.hub_http.specs.Serve.{response}
@@ -45,7 +45,7 @@ module _ (register : RegisterRows) where
 module _ (Replies : Question → Reply → Type 0) (Same : Type 0) (register : RegisterRows) where
   -- whoever knows the answer knows the question
   one_step : (passed : Bool) (question : Result Question Refusal) (answer : Answer)
-      → Answers Replies Same passed question answer → OneStep Replies Same
+      → AnswersQuestion Replies Same passed question answer → OneStep Replies Same
   one_step passed (Ok question) answer (inl ends) = inr (question, ends.0, ends.1)
   one_step passed (Err refusal) answer (inl ends) = inl ends.0
   one_step passed question answer (inr stops) = inl stops.1.0
@@ -55,8 +55,8 @@ module _ (Replies : Question → Reply → Type 0) (Same : Type 0) (register : R
 
   -- without a head
   pub serves_none : (old new : Option (List ℕ)) (answer : Answer) → Finds old new None → TakesAtMost old new longest_head
-      → Answers Replies Same false (Err BadRequest) answer
-      → IfSome old (λ known. Serves Replies Same register known new answer)
+      → AnswersQuestion Replies Same false (Err BadRequest) answer
+      → IfSome old (λ known. AnswersBytes Replies Same register known new answer)
   serves_none None new answer found taken answers = tt
   serves_none (Some known) None answer found taken answers = absurd found
   serves_none (Some known) (Some left) answer found taken answers = record {
@@ -69,8 +69,8 @@ module _ (Replies : Question → Reply → Type 0) (Same : Type 0) (register : R
   -- with a head, and the bytes after it
   serves_head : (old new after : Option (List ℕ)) (head : Heading) (answer : Answer) → Finds old new (Some head)
       → TakesAtMost old after (longest_head + announced_by register (Some head))
-      → IfSome new (λ left. Answers Replies Same (is_single head) (question_of register (Some (before left head))) answer)
-      → IfSome old (λ known. Serves Replies Same register known after answer)
+      → IfSome new (λ left. AnswersQuestion Replies Same (is_single head) (question_of register (Some (before left head))) answer)
+      → IfSome old (λ known. AnswersBytes Replies Same register known after answer)
   serves_head None new after head answer found taken answers = tt
   serves_head (Some known) None after head answer found taken answers = absurd found
   serves_head (Some known) (Some left) after head answer found taken answers = record {
@@ -85,8 +85,8 @@ module _ (Replies : Question → Reply → Type 0) (Same : Type 0) (register : R
       → TakesAtMost old new longest_head
       → TakesAtMost new after (announced_by register (Some head))
       → IfOk r (λ answered. IfSome new (λ left.
-      Answers Replies Same (is_single head) (question_of register (Some (before left head))) answered.answer))
-      → IfOk r (λ answered. IfSome old (λ known. Serves Replies Same register known after answered.answer))
+      AnswersQuestion Replies Same (is_single head) (question_of register (Some (before left head))) answered.answer))
+      → IfOk r (λ answered. IfSome old (λ known. AnswersBytes Replies Same register known after answered.answer))
   serves_some old new after head (Ok answered) found first more answers =
       serves_head old new after head answered.answer found (both_taken old new after _ _ first more) answers
   serves_some old new after head (Err e) found first more answers = tt
@@ -97,32 +97,32 @@ module _ (Replies : Question → Reply → Type 0) (Same : Type 0) (register : R
       → Ok asked ≡ asked_by register head
       → rest ≡ head.rest
       → IfOk r (λ answered. IfSome known (λ left.
-      Answers Replies Same true (with_body asked (body_in asked.size (rest ++ left))) answered.answer))
+      AnswersQuestion Replies Same true (with_body asked (body_in asked.size (rest ++ left))) answered.answer))
       → IfOk r (λ answered. IfSome known (λ left.
-      Answers Replies Same (is_single head) (question_of register (Some (before left head))) answered.answer))
+      AnswersQuestion Replies Same (is_single head) (question_of register (Some (before left head))) answered.answer))
   answers_head known head asked rest (Err e) asks same answers = tt
   answers_head None head asked rest (Ok answered) asks same answers = tt
   answers_head (Some left) head asked rest (Ok answered) asks same answers =
       let is : with_body asked (body_in asked.size (rest ++ left)) ≡ question_of register (Some (before left head)) =
       ap (λ (more : List ℕ). and_body (more ++ left) (Ok asked)) same ∙ ap (and_body (head.rest ++ left)) asks in
-      subst (λ (b : Bool). Answers Replies Same b (question_of register (Some (before left head))) answered.answer)
+      subst (λ (b : Bool). AnswersQuestion Replies Same b (question_of register (Some (before left head))) answered.answer)
       (sym (passed_first register head asked asks))
-      (subst (λ (q : Result Question Refusal). Answers Replies Same true q answered.answer) is answers)
+      (subst (λ (q : Result Question Refusal). AnswersQuestion Replies Same true q answered.answer) is answers)
 
   -- a prefix of the response was written
   pub ended_cut : (known after was is : Option (List ℕ)) (answer : Answer)
-      → IfSome known (λ bytes. Serves Replies Same register bytes after answer)
+      → IfSome known (λ bytes. AnswersBytes Replies Same register bytes after answer)
       → AppendsFront was is (response answer)
-      → IfSome known (λ bytes. (a : Answer) × Serves Replies Same register bytes after a × AppendsFront was is (response a))
+      → IfSome known (λ bytes. (a : Answer) × AnswersBytes Replies Same register bytes after a × AppendsFront was is (response a))
   ended_cut None after was is answer serves front = tt
   ended_cut (Some bytes) after was is answer serves front = (answer, serves, front)
 
   -- the whole response was written
   pub ended_whole : (known after was is : Option (List ℕ)) (answer : Answer) (status : ℕ)
-      → IfSome known (λ bytes. Serves Replies Same register bytes after answer)
+      → IfSome known (λ bytes. AnswersBytes Replies Same register bytes after answer)
       → Appends was is (response answer)
       → status ≡ answer.status
-      → IfSome known (λ bytes. (a : Answer) × Serves Replies Same register bytes after a × Appends was is (response a)
+      → IfSome known (λ bytes. (a : Answer) × AnswersBytes Replies Same register bytes after a × Appends was is (response a)
       × (status ≡ a.status))
   ended_whole None after was is answer status serves whole e = tt
   ended_whole (Some bytes) after was is answer status serves whole e = (answer, serves, whole, e)

@@ -18,7 +18,7 @@ use Rattle.edi_envelope.specs.Gathered.{Flagged}
 use Rattle.edi_envelope.specs.Opened.{opened, Opens}
 use Rattle.hub_requests.specs.declared.reply.Reply.{Reply}
 use Rattle.http_messages.specs.Body.{TakesExactly, body_in}
-use Rattle.hub_http.specs.Answer.{Answers, AnswersWhatever, Ends}
+use Rattle.hub_http.specs.Answer.{AnswersQuestion, AnswersWhatever, RepliesTo}
 use Rattle.hub_http.specs.Asked.{Asked}
 use Rattle.hub_http.specs.Question.{Question, of_asker, request_for, uploading, with_body}
 use Rattle.hub_http.specs.Upload.{IsUpload}
@@ -137,23 +137,23 @@ module _ (Replies : Question → Reply → Type 0) (Same : Type 0) (asked : Aske
   pub answers_upload : (body : List ℕ → Option (List ℕ)) (known : Option (List ℕ)) (upload : Result Interchange OpenFault)
       (answer : Answer) → asked.route ≡ Interchanges
       → IfSome known (λ left. IsUpload (Some upload) (body left))
-      → ((bytes : List ℕ) → Opens upload (opened bytes) → Ends Replies Same (Ok (uploading asked bytes)) answer)
-      → IfSome known (λ left. Answers Replies Same true (with_body asked (body left)) answer)
+      → ((bytes : List ℕ) → Opens upload (opened bytes) → RepliesTo Replies Same (Ok (uploading asked bytes)) answer)
+      → IfSome known (λ left. AnswersQuestion Replies Same true (with_body asked (body left)) answer)
   answers_upload body None upload answer route is ends = tt
   answers_upload body (Some left) upload answer route is ends =
       let same : with_body asked (body left) ≡ Ok (uploading asked is.0) = ap (with_body asked) is.1 ∙ asks_upload is.0 route in
-      subst (λ (q : Result Question Refusal). Answers Replies Same true q answer) (sym same) (inl (ends is.0 is.2))
+      subst (λ (q : Result Question Refusal). AnswersQuestion Replies Same true q answer) (sym same) (inl (ends is.0 is.2))
 
   pub answers_cut : (body : List ℕ → Option (List ℕ)) (known : Option (List ℕ)) (answer : Answer)
       → IfSome known (λ left. IsUpload None (body left))
-      → Ends Replies Same (Err BadRequest) answer
-      → IfSome known (λ left. Answers Replies Same true (with_body asked (body left)) answer)
+      → RepliesTo Replies Same (Err BadRequest) answer
+      → IfSome known (λ left. AnswersQuestion Replies Same true (with_body asked (body left)) answer)
   answers_cut body None answer is ends = tt
   answers_cut body (Some left) answer is ends =
-      subst (λ (q : Result Question Refusal). Answers Replies Same true q answer) (sym (ap (with_body asked) is)) (inl ends)
+      subst (λ (q : Result Question Refusal). AnswersQuestion Replies Same true q answer) (sym (ap (with_body asked) is)) (inl ends)
 
   pub one_upload : (upload : Result Interchange OpenFault) (answer : Answer)
       → ((bytes : List ℕ) × Opens upload (opened bytes))
-      → ((bytes : List ℕ) → Opens upload (opened bytes) → Ends Replies Same (Ok (uploading asked bytes)) answer)
+      → ((bytes : List ℕ) → Opens upload (opened bytes) → RepliesTo Replies Same (Ok (uploading asked bytes)) answer)
       → AnswersWhatever Replies Same answer
   one_upload upload answer some ends = (Ok (uploading asked some.0), inl (ends some.0 some.1))

@@ -10,7 +10,7 @@ use Rattle.hub_core.specs.Hub.{StaysSound, StepsFrom}
 use Rattle.hub_core.specs.Steps.{input_of}
 use Rattle.http_messages.specs.Head.{Heading, HeadIs, longest_head}
 use Rattle.hub_http.specs.Asked.{Asked, asked_by, is_single}
-use Rattle.hub_http.specs.Question.{Question, Asks}
+use Rattle.hub_http.specs.Question.{Question, AsksQuestion}
 use Rattle.hub_http.specs.Refusal.{status_of, text_of}
 use Rattle.hub_http.specs.declared.answer.Answer.{Answer}
 use Rattle.hub_http.specs.declared.answer.Answered.{Answered}
@@ -32,17 +32,17 @@ bytes_of (Fixed bytes) = bytes.now
 bytes_of (Made bytes) = bytes
 
 -- the answer has this status and this body
-pub record Says (status : ℕ) (text : List ℕ) (answer : Answer) : Type 0 where
+pub record StatusAndText (status : ℕ) (text : List ℕ) (answer : Answer) : Type 0 where
   pub status_is : answer.status ≡ status
   pub text_is : bytes_of answer.text ≡ text
 
 -- the hub was asked a question at a moment, and gave this reply
-abbrev pub Steps : {S : Type 0} → Ghosts S → ℕ → RegisterRows × S → RegisterRows × S → Question → Reply → Type 0
-Steps g moment old new question reply =
+abbrev pub HubReplies : {S : Type 0} → Ghosts S → ℕ → RegisterRows × S → RegisterRows × S → Question → Reply → Type 0
+HubReplies g moment old new question reply =
     StepsFrom g old new (input_of moment question.gln question.key question.request) reply
 
 -- what holds of a hub that was asked anything but a join
-pub record Stays {S : Type 0} (g : Ghosts S) (old new : RegisterRows × S) : Type 0 where
+pub record KeepsHub {S : Type 0} (g : Ghosts S) (old new : RegisterRows × S) : Type 0 where
   pub held : StaysSound g old new
   pub register : new.0 ≡ old.0
   pub was_honest : g.honest new.1 → g.honest old.1
@@ -53,22 +53,22 @@ module _ (Replies : Question → Reply → Type 0) (Same : Type 0) where
   OneStep = Same ⊎ ((question : Question) × (reply : Reply) × Replies question reply)
 
   -- the reply to the question, or the status without one, and then the hub is as before
-  abbrev pub Ends : Result Question Refusal → Answer → Type 0
-  Ends (Ok question) answer =
-      (reply : Reply) × Replies question reply × Says (outcome_status reply.outcome) reply.body answer
-  Ends (Err refusal) answer = Same × Says (status_of refusal) (text_of refusal) answer
+  abbrev pub RepliesTo : Result Question Refusal → Answer → Type 0
+  RepliesTo (Ok question) answer =
+      (reply : Reply) × Replies question reply × StatusAndText (outcome_status reply.outcome) reply.body answer
+  RepliesTo (Err refusal) answer = Same × StatusAndText (status_of refusal) (text_of refusal) answer
 
   -- memory was refused before a question was asked
-  abbrev pub Stops : Answer → Type 0
-  Stops answer = Same × Says 503 stopped_line answer
+  abbrev pub LacksMemory : Answer → Type 0
+  LacksMemory answer = Same × StatusAndText 503 stopped_line answer
 
   -- memory is only needed after the first check
-  abbrev pub Answers : Bool → Result Question Refusal → Answer → Type 0
-  Answers passed question answer = Ends question answer ⊎ ((passed ≡ true) × Stops answer)
+  abbrev pub AnswersQuestion : Bool → Result Question Refusal → Answer → Type 0
+  AnswersQuestion passed question answer = RepliesTo question answer ⊎ ((passed ≡ true) × LacksMemory answer)
 
   -- the answer to some question, or to some refusal, or to memory that was refused
   abbrev pub AnswersWhatever : Answer → Type 0
-  AnswersWhatever answer = (question : Result Question Refusal) × Answers true question answer
+  AnswersWhatever answer = (question : Result Question Refusal) × AnswersQuestion true question answer
 
   -- such an answer, and the reader's flag stays; or a read failed, and the hub is as before
   abbrev pub AnswersOrFails : {E : Type 0} → Bool → Bool → Result Answered E → Type 0
@@ -90,11 +90,11 @@ announced_by register None = 0
 announced_by register (Some head) = size_asked (asked_by register head)
 
 -- The answer to what the bytes of a connection ask. At most a head and the announced body were taken of them.
-pub record Serves (Replies : Question → Reply → Type 0) (Same : Type 0) (register : RegisterRows) (bytes : List ℕ)
+pub record AnswersBytes (Replies : Question → Reply → Type 0) (Same : Type 0) (register : RegisterRows) (bytes : List ℕ)
     (after : Option (List ℕ)) (answer : Answer) : Type 0 where
   pub question : Result Question Refusal
-  pub asks : Asks register bytes question
-  pub answers : Answers Replies Same (passes asks.head) question answer
+  pub asks : AsksQuestion register bytes question
+  pub answers : AnswersQuestion Replies Same (passes asks.head) question answer
   pub taken : TakesAtMost (Some bytes) after (longest_head + announced_by register asks.head)
 
 -- How much was taken if a read failed: at most the longest head, or at most the head that is there and the body that it

@@ -71,7 +71,7 @@ question_of register (Some head) = and_body head.rest (asked_by register head)
 
 -- What the bytes of a connection ask of the hub, or why they are refused. There is exactly one such answer, because
 -- there is at most one head.
-pub record Asks (register : RegisterRows) (bytes : List ℕ) (question : Result Question Refusal) : Type 0 where
+pub record AsksQuestion (register : RegisterRows) (bytes : List ℕ) (question : Result Question Refusal) : Type 0 where
   pub head : Option Heading
   pub head_is : HeadIs bytes head
   pub question_is : question ≡ question_of register head

@@ -14,7 +14,7 @@ ghost use Rattle.hub_http.specs.Question.{question_as, question_of, uploading, w
 ghost use Rattle.hub_http.specs.Refusal.{status_of as refusal_status, text_of};
 ghost use Rattle.hub_http.specs.Wording.{asked_as};
 
-use crate::asked::{Asked, asked_of};
+use crate::asked::{Asked, check_head};
 use crate::extent::{body_size, is_read, is_whole};
 use crate::paths::Paths;
 use crate::question::request_of;
@@ -52,8 +52,8 @@ pub(crate) struct Answered {
 }
 
 // Returns the answer if nothing is asked of the hub.
-fn refused(refusal: Refusal) -> Answer
-    ensures { spec.Says (refusal_status refusal) (text_of refusal) result }
+fn refusal_answer(refusal: Refusal) -> Answer
+    ensures { spec.StatusAndText (refusal_status refusal) (text_of refusal) result }
 {
     Answer {
         status: refusal.status(),
@@ -62,8 +62,8 @@ fn refused(refusal: Refusal) -> Answer
 }
 
 // Returns the answer if memory was refused before anything was asked.
-fn stopped() -> Answer
-    ensures { spec.Says 503 stopped_line result }
+fn stopped_answer() -> Answer
+    ensures { spec.StatusAndText 503 stopped_line result }
 {
     Answer {
         status: StatusCode::SERVICE_UNAVAILABLE,
@@ -85,8 +85,8 @@ fn status_of(outcome: Outcome) -> StatusCode
 }
 
 // Returns the answer with a reply.
-fn replied(reply: Reply) -> Answer
-    ensures { spec.Says (spec.outcome_status reply.outcome) reply.body result }
+fn reply_answer(reply: Reply) -> Answer
+    ensures { spec.StatusAndText (spec.outcome_status reply.outcome) reply.body result }
 {
     Answer {
         status: status_of(reply.outcome),
@@ -97,12 +97,12 @@ fn replied(reply: Reply) -> Answer
 // Asks the hub, and returns its answer.
 fn ask<S: Store>(hub: &mut Hub<S>, moment: Moment, asked: &Asked<'_>, request: Request) -> Answer
     requires { IsNoJoin request }
-    ensures asked { spec.Ends (spec.Steps S.Store moment hub.old hub.new)
+    ensures asked { spec.RepliesTo (spec.HubReplies S.Store moment hub.old hub.new)
         (hub.new ≡ hub.old) (Ok (question_as (asked_as asked.now) request)) result }
-    ensures stays { spec.Stays S.Store hub.old hub.new }
+    ensures stays { spec.KeepsHub S.Store hub.old hub.new }
 {
     let reply = hub.step(moment, &asked.gln, asked.key, request);
-    replied(reply)
+    reply_answer(reply)
 }
 
 // Answers what is asked for, with the body, or `None` if it breaks off.
@@ -113,17 +113,17 @@ fn answer_body<S: Store>(
     asked: &Asked<'_>,
     body: Option<Items<u8>>,
 ) -> Answer
-    ensures answers { spec.Answers (spec.Steps S.Store moment hub.old hub.new)
+    ensures answers { spec.AnswersQuestion (spec.HubReplies S.Store moment hub.old hub.new)
         (hub.new ≡ hub.old)
         true (with_body (asked_as asked.now) body) result }
     ensures refused { IfErr (with_body (asked_as asked.now) body) (λ refusal.
-        spec.Says (refusal_status refusal) (text_of refusal) result) }
-    ensures stays { spec.Stays S.Store hub.old hub.new }
+        spec.StatusAndText (refusal_status refusal) (text_of refusal) result) }
+    ensures stays { spec.KeepsHub S.Store hub.old hub.new }
 {
     match request_of(alloc, asked, body) {
         Ok(Ok(request)) => ask(hub, moment, asked, request),
-        Ok(Err(refusal)) => refused(refusal),
-        Err(_) => stopped(),
+        Ok(Err(refusal)) => refusal_answer(refusal),
+        Err(_) => stopped_answer(),
     }
 }
 
@@ -136,13 +136,13 @@ fn ask_opened<S: Store>(
 ) -> Answer
     requires { upload ≢ Err (OpenFault.Token TokenFault.Read) }
     ensures asked { (bytes : List ℕ) → Opens upload (opened bytes) →
-        spec.Ends (spec.Steps S.Store moment hub.old hub.new) (hub.new ≡ hub.old)
+        spec.RepliesTo (spec.HubReplies S.Store moment hub.old hub.new) (hub.new ≡ hub.old)
         (Ok (uploading (asked_as asked.now) bytes)) result }
     ensures stays { (bytes : List ℕ) → Opens upload (opened bytes) →
-        spec.Stays S.Store hub.old hub.new }
+        spec.KeepsHub S.Store hub.old hub.new }
 {
     let reply = hub.step_opened(moment, &asked.gln, asked.key, upload);
-    replied(reply)
+    reply_answer(reply)
 }
 
 // Answers an upload whose body begins with these bytes, without keeping the body. `sent` is the size of the body, if it
@@ -160,11 +160,11 @@ fn answer_upload<R: Source, S: Store>(
     requires short { asked.now.size ≤ longest_body }
     requires sized { IfSome sent (λ size. size ≡ asked.now.size) }
     ensures answers { IfOk result (λ answered. IfSome (R.remaining reader.old) (λ left.
-        spec.Answers (spec.Steps S.Store moment hub.old hub.new) (hub.new ≡ hub.old) true
+        spec.AnswersQuestion (spec.HubReplies S.Store moment hub.old hub.new) (hub.new ≡ hub.old) true
         (with_body (asked_as asked.now) (body_in (asked_as asked.now).size (front.now ++ left))) answered.answer)) }
-    ensures or_fails { spec.AnswersOrFails (spec.Steps S.Store moment hub.old hub.new)
+    ensures or_fails { spec.AnswersOrFails (spec.HubReplies S.Store moment hub.old hub.new)
         (hub.new ≡ hub.old) (R.failed reader.old) (R.failed reader.new) result }
-    ensures stays { spec.Stays S.Store hub.old hub.new }
+    ensures stays { spec.KeepsHub S.Store hub.old hub.new }
     ensures front { TakesAtMost (R.remaining reader.old) (R.remaining reader.new)
         (asked.now.size - length front.now) }
     ensures to_end { IfOk result (λ answered.
@@ -176,12 +176,12 @@ fn answer_upload<R: Source, S: Store>(
             read_to_end: is_whole(sent, front.len().max(asked.size)),
         }),
         Ok(None) => Ok(Answered {
-            answer: refused(Refusal::BadRequest),
+            answer: refusal_answer(Refusal::BadRequest),
             read_to_end: false,
         }),
         Err(ReadFault::Read) => Err(HeadFault),
         Err(ReadFault::Memory) => Ok(Answered {
-            answer: stopped(),
+            answer: stopped_answer(),
             read_to_end: is_whole(sent, front.len()),
         }),
     }
@@ -200,11 +200,11 @@ fn answer_asked<R: Source, S: Store>(
     requires short { asked.now.size ≤ longest_body }
     requires sized { IfSome sent (λ size. size ≡ asked.now.size) }
     ensures answers { IfOk result (λ answered. IfSome (R.remaining reader.old) (λ left.
-        spec.Answers (spec.Steps S.Store moment hub.old hub.new) (hub.new ≡ hub.old) true
+        spec.AnswersQuestion (spec.HubReplies S.Store moment hub.old hub.new) (hub.new ≡ hub.old) true
         (with_body (asked_as asked.now) (body_in (asked_as asked.now).size (front.now ++ left))) answered.answer)) }
-    ensures or_fails { spec.AnswersOrFails (spec.Steps S.Store moment hub.old hub.new)
+    ensures or_fails { spec.AnswersOrFails (spec.HubReplies S.Store moment hub.old hub.new)
         (hub.new ≡ hub.old) (R.failed reader.old) (R.failed reader.new) result }
-    ensures stays { spec.Stays S.Store hub.old hub.new }
+    ensures stays { spec.KeepsHub S.Store hub.old hub.new }
     ensures front { TakesAtMost (R.remaining reader.old) (R.remaining reader.new)
         (asked.now.size - length front.now) }
     ensures to_end { IfOk result (λ answered.
@@ -220,7 +220,7 @@ fn answer_asked<R: Source, S: Store>(
         }),
         Err(ReadFault::Read) => Err(HeadFault),
         Err(ReadFault::Memory) => Ok(Answered {
-            answer: stopped(),
+            answer: stopped_answer(),
             read_to_end: is_whole(sent, front.len()),
         }),
     }
@@ -236,21 +236,21 @@ fn answer_head<R: Source, S: Store>(
     head: &Head,
 ) -> Result<Answered, HeadFault>
     ensures answers { IfOk result (λ answered. IfSome (R.remaining reader.old) (λ left.
-        spec.Answers (spec.Steps S.Store moment hub.old hub.new) (hub.new ≡ hub.old)
+        spec.AnswersQuestion (spec.HubReplies S.Store moment hub.old hub.new) (hub.new ≡ hub.old)
         (is_single head.now) (question_of hub.old.0 (Some (before left head.now))) answered.answer)) }
-    ensures or_fails { spec.AnswersOrFails (spec.Steps S.Store moment hub.old hub.new)
+    ensures or_fails { spec.AnswersOrFails (spec.HubReplies S.Store moment hub.old hub.new)
         (hub.new ≡ hub.old) (R.failed reader.old) (R.failed reader.new) result }
-    ensures stays { spec.Stays S.Store hub.old hub.new }
+    ensures stays { spec.KeepsHub S.Store hub.old hub.new }
     ensures front { TakesAtMost (R.remaining reader.old) (R.remaining reader.new)
         (spec.size_asked (asked_by hub.old.0 head.now) - length head.now.rest) }
     ensures to_end { IfOk result (λ answered. TellsBody (size_of_body head.now) head.now.rest
         (R.remaining reader.old) (R.remaining reader.new) answered.read_to_end) }
 {
     let sent = body_size(head);
-    match asked_of(paths, hub, head) {
+    match check_head(paths, hub, head) {
         Ok(asked) => answer_asked(alloc, hub, moment, reader, head.rest(), sent, &asked),
         Err(refusal) => Ok(Answered {
-            answer: refused(refusal),
+            answer: refusal_answer(refusal),
             read_to_end: is_whole(sent, head.rest().len()),
         }),
     }
@@ -265,12 +265,12 @@ pub(crate) fn answer_one<R: Source, S: Store>(
     reader: &mut R,
 ) -> Result<Answered, HeadFault>
     ensures answered { IfOk result (λ answered. IfSome (R.remaining reader.old) (λ known.
-        spec.Serves (spec.Steps S.Store moment hub.old hub.new)
+        spec.AnswersBytes (spec.HubReplies S.Store moment hub.old hub.new)
         (hub.new ≡ hub.old) hub.old.0 known
         (R.remaining reader.new) answered.answer)) }
-    ensures or_fails { spec.AnswersOrFails (spec.Steps S.Store moment hub.old hub.new)
+    ensures or_fails { spec.AnswersOrFails (spec.HubReplies S.Store moment hub.old hub.new)
         (hub.new ≡ hub.old) (R.failed reader.old) (R.failed reader.new) result }
-    ensures stays { spec.Stays S.Store hub.old hub.new }
+    ensures stays { spec.KeepsHub S.Store hub.old hub.new }
     ensures front { TakesAtMost (R.remaining reader.old) (R.remaining reader.new)
         (longest_head + longest_body) }
     ensures cut { OnErr result (IfSome (R.remaining reader.old) (λ known.
@@ -281,7 +281,7 @@ pub(crate) fn answer_one<R: Source, S: Store>(
     match read_head(reader)? {
         Some(head) => answer_head(alloc, paths, hub, moment, reader, &head),
         None => Ok(Answered {
-            answer: refused(Refusal::BadRequest),
+            answer: refusal_answer(Refusal::BadRequest),
             read_to_end: false,
         }),
     }

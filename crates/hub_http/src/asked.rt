@@ -5,7 +5,7 @@ ghost use Rattle.hub_http.specs.Asked as spec;
 ghost use Rattle.hub_http.specs.Parts.{part_in, parts, party};
 ghost use Rattle.hub_http.specs.Wording.{asked_or_refused};
 
-use crate::parts::{part_in, party_in};
+use crate::parts::{PathParts, parts_in};
 use crate::paths::Paths;
 use crate::refusal::Refusal;
 use crate::route::Route;
@@ -114,19 +114,19 @@ fn size_of(route: Route, head: &Head) -> Result<usize, Refusal>
 fn by_role<'h>(
     head: &'h Head,
     route: Route,
+    part: &'h [u8],
     number: u64,
     gln: Gln,
     key: &'h [u8],
     role: Role,
 ) -> Result<Asked<'h>, Refusal>
     ensures { asked_or_refused result
-        ≡ spec.by_role head.now route gln (part_in route head.now.target) number key.now (Some role) }
+        ≡ spec.by_role head.now route gln part.now number key.now (Some role) }
 {
     if !route.is_for(role) {
         return Err(Refusal::Denied);
     }
     let size = size_of(route, head)?;
-    let part = part_in(route, head.target());
     Ok(Asked {
         route,
         part,
@@ -142,19 +142,19 @@ fn by_party<'h, S: Store>(
     hub: &Hub<S>,
     head: &'h Head,
     route: Route,
+    found: PathParts<'h>,
     number: u64,
     key: &'h [u8],
 ) -> Result<Asked<'h>, Refusal>
     ensures { asked_or_refused result
-        ≡ spec.by_party hub.now.0 head.now route (party head.now.target)
-        (part_in route head.now.target) number key.now }
+        ≡ spec.by_party hub.now.0 head.now route found.entry.party.now found.entry.part.now number key.now }
 {
     hub.has_a_right_register();
-    let Some(gln) = Gln::parse(party_in(head.target())) else {
+    let Some(gln) = Gln::parse(found.party) else {
         return Err(Refusal::Denied);
     };
     match hub.role(&gln, key) {
-        Some(role) => by_role(head, route, number, gln, key, role),
+        Some(role) => by_role(head, route, found.part, number, gln, key, role),
         None => Err(Refusal::Denied),
     }
 }
@@ -164,14 +164,15 @@ fn by_key<'h, S: Store>(
     hub: &Hub<S>,
     head: &'h Head,
     route: Route,
+    found: PathParts<'h>,
     number: u64,
 ) -> Result<Asked<'h>, Refusal>
     ensures { asked_or_refused result
-        ≡ spec.by_keys hub.now.0 head.now route (party head.now.target) (part_in route head.now.target) number
+        ≡ spec.by_keys hub.now.0 head.now route found.entry.party.now found.entry.part.now number
         (values_of spec.key_field head.now.fields) }
 {
     match head.values(b"X-Hub-Key") {
-        Values::One(key) => by_party(hub, head, route, number, key),
+        Values::One(key) => by_party(hub, head, route, found, number, key),
         _ => Err(Refusal::Denied),
     }
 }
@@ -181,17 +182,18 @@ fn by_route<'h, S: Store>(hub: &Hub<S>, head: &'h Head, route: Route) -> Result<
     ensures { asked_or_refused result
         ≡ spec.by_route hub.now.0 head.now route (party head.now.target) (part_in route head.now.target) }
 {
-    let Some(number) = route.number(part_in(route, head.target())) else {
+    let found = parts_in(route, head.target());
+    let Some(number) = route.number(found.part) else {
         return Err(Refusal::Unknown);
     };
     if head.method() != route.method() {
         return Err(Refusal::Method);
     }
-    by_key(hub, head, route, number)
+    by_key(hub, head, route, found, number)
 }
 
 /// Returns what a head asks for, and who calls; or why it is refused. Takes no memory.
-pub(crate) fn asked_of<'h, S: Store>(
+pub(crate) fn check_head<'h, S: Store>(
     paths: &Paths,
     hub: &Hub<S>,
     head: &'h Head,

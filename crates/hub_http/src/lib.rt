@@ -13,7 +13,7 @@ mod serve;
 mod upload;
 
 pub use hub_core::{Hub, Input, Join, Outcome, Reply, Request, read_cancel};
-pub use parts::{part_in, party_in};
+pub use parts::{PathParts, parts_in};
 pub use paths::Paths;
 pub use route::Route;
 pub use serve::{IoFault, Served, serve_one};

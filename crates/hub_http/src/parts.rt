@@ -35,21 +35,11 @@ fn begin(skip: usize, path: &[u8], at: usize) -> usize
     at.max(at.saturating_add(skip).min(path.len()))
 }
 
-/// Returns the part for `{gln}` in the path of a route: the party that calls.
-pub fn party_in(path: &str) -> &[u8]
-    ensures { result.now ≡ spec.party path.now }
+// Returns the part for `{n}` or `{supplier}` in a path of this route whose party ends here.
+fn part_after(route: Route, bytes: &[u8], end: usize) -> &[u8]
+    requires { end ≡ spec.party_end bytes.now }
+    ensures { result.now ≡ spec.part_in route bytes.now }
 {
-    let bytes = path.as_bytes();
-    let start = begin(3, bytes, 0);
-    part(bytes, start, to_slash(bytes, start))
-}
-
-/// Returns the part for `{n}` or `{supplier}` in a path of this route; empty if the route has neither.
-pub fn part_in(route: Route, path: &str) -> &[u8]
-    ensures { result.now ≡ spec.part_in route path.now }
-{
-    let bytes = path.as_bytes();
-    let end = to_slash(bytes, begin(3, bytes, 0));
     match route {
         Route::MailAfter => part(bytes, begin(12, bytes, end), bytes.len()),
         Route::MailItem => part(bytes, begin(11, bytes, end), bytes.len()),
@@ -59,5 +49,28 @@ pub fn part_in(route: Route, path: &str) -> &[u8]
         }
         Route::StatusOf => part(bytes, begin(8, bytes, end), bytes.len()),
         Route::Interchanges | Route::Status | Route::Cancellations => b"",
+    }
+}
+
+/// The parts of a path that are in braces in its route.
+#[derive(Clone, Copy)]
+pub struct PathParts<'p> {
+    /// The part for `{gln}`: the party that calls.
+    pub party: &'p [u8],
+    /// The part for `{n}` or `{supplier}`; empty if the route has neither.
+    pub part: &'p [u8],
+}
+
+/// Returns the parts of a path of this route.
+pub fn parts_in(route: Route, path: &str) -> PathParts<'_>
+    ensures party { result.party.now ≡ spec.party path.now }
+    ensures part { result.part.now ≡ spec.part_in route path.now }
+{
+    let bytes = path.as_bytes();
+    let start = begin(3, bytes, 0);
+    let end = to_slash(bytes, start);
+    PathParts {
+        party: part(bytes, start, end),
+        part: part_after(route, bytes, end),
     }
 }

@@ -62,9 +62,9 @@ impl Paths {
         }
     }
 
-    /// Returns the route of a path, or `None` if it is not a path of any of the seven; `party_in` and `part_in` then
-    /// find its parts. The path is the target of a request in origin form without its query (RFC 9112, section 3.2.1),
-    /// and nothing in it is decoded. Takes no memory.
+    /// Returns the route of a path, or `None` if it is not a path of any of the seven; `parts_in` then finds its parts.
+    /// The path is the target of a request in origin form without its query (RFC 9112, section 3.2.1), and nothing in it
+    /// is decoded. Takes no memory.
     pub fn route_of(&self, path: &str) -> Option<Route>
         ensures { option_map (λ route. (route, parts route path.now)) result ≡ spec.route_at path.now }
     {

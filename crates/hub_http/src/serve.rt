@@ -5,7 +5,7 @@ ghost use Rattle.edi_base.specs.Source.{TakesAtMost};
 ghost use Rattle.http_messages.specs.Head.{longest_head};
 ghost use Rattle.http_messages.specs.Response.{Writes};
 ghost use Rattle.hub_core.specs.Hub.{StaysSound};
-ghost use Rattle.hub_http.specs.Answer.{AnswersWhatever, OneStep, ReadsWithin, Steps};
+ghost use Rattle.hub_http.specs.Answer.{AnswersWhatever, OneStep, ReadsWithin, HubReplies};
 ghost use Rattle.hub_http.specs.Asked.{longest_body};
 ghost use Rattle.hub_http.specs.Extent.{TellsEnd};
 ghost use Rattle.hub_http.specs.Serve as spec;
@@ -84,15 +84,15 @@ pub fn serve_one<S: Store, R: Source, W: Sink>(
     reader: &mut R,
     writer: &mut W,
 ) -> Result<Served, IoFault>
-    ensures served { spec.Ended (Steps S.Store moment hub.old hub.new)
+    ensures served { spec.Ended (HubReplies S.Store moment hub.old hub.new)
         (hub.new ≡ hub.old) hub.old.0
         (R.remaining reader.old) (R.remaining reader.new) (W.contents writer.old) (W.contents writer.new) result }
 
     // Even if nothing is known of the bytes, some question was answered, and the hub is as before or was asked once.
-    ensures written { spec.Written
-        (AnswersWhatever (Steps S.Store moment hub.old hub.new)
+    ensures written { spec.ResponseWritten
+        (AnswersWhatever (HubReplies S.Store moment hub.old hub.new)
         (hub.new ≡ hub.old)) (W.contents writer.old) (W.contents writer.new) result }
-    ensures stepped { OneStep (Steps S.Store moment hub.old hub.new) (hub.new ≡ hub.old) }
+    ensures stepped { OneStep (HubReplies S.Store moment hub.old hub.new) (hub.new ≡ hub.old) }
     ensures held { StaysSound S.Store hub.old hub.new }
     ensures register { hub.new.0 ≡ hub.old.0 }
     ensures was_honest { S.honest hub.new.1 → S.honest hub.old.1 }

@@ -132,7 +132,7 @@ fn recorded<R, W>(sides: Sides<R, W>) -> Sides<RecordingReader<R>, RecordingWrit
 impl<L: Connections, M: Moments, J: Journal> Connections for Journaled<L, M, J> {
     ghost use Rattle.std.specs.Prelude.{◌≡◌, ◌||◌, [], ◌∷◌, IfOk};
     ghost use Rattle.hub_serve.specs.Connections as inner;
-    ghost use Rattle.hub_serve.specs.Connections.{Adds, IsNew, Takes, closed as as_closed, is_over};
+    ghost use Rattle.hub_serve.specs.Connections.{Adds, IsNew, TakesConnection, closed as as_closed, is_over};
     ghost use Rattle.hub_journal.specs.Journaled.{TellsGone, numbered, outcome_of};
     ghost use Rattle.hub_journal.specs.Line.{line};
 
@@ -147,7 +147,7 @@ impl<L: Connections, M: Moments, J: Journal> Connections for Journaled<L, M, J> 
     type Writer = RecordingWriter<L::Writer>;
 
     fn next(&mut self) -> Result<Sides<Self::Reader, Self::Writer>, NoConnection>
-        ensures takes { Takes (λ reader. L.Reader.remaining reader.reader)
+        ensures takes { TakesConnection (λ reader. L.Reader.remaining reader.reader)
             (L.coming self.old.connections) (L.coming self.new.connections) result }
         ensures is_new { IfOk result (λ sides. IsNew (L.Writer.contents sides.writer.writer)
             (L.Reader.failed sides.reader.reader) (L.Writer.failed sides.writer.writer)) }

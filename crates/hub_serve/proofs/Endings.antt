@@ -4,7 +4,7 @@ use Rattle.std.proofs.Common.{inl, inr}
 use Rattle.std.specs.Prelude.{◌≢◌, IfOk}
 use Rattle.edi_base.specs.Source.{TakesAtMost}
 use Rattle.http_messages.specs.Head.{longest_head}
-use Rattle.hub_http.specs.Answer.{OneStep, Serves, announced_by, passes}
+use Rattle.hub_http.specs.Answer.{OneStep, AnswersBytes, announced_by, passes}
 use Rattle.hub_http.specs.Answer as http
 use Rattle.hub_http.specs.Extent.{TellsEnd}
 use Rattle.hub_http.specs.Question.{Question}
@@ -19,8 +19,8 @@ use Rattle.hub_http.specs.HubCore.Steps.{input_of}
 use Rattle.hub_parties.specs.Rows.{RegisterRows}
 use Rattle.hub_serve.specs.Connections.{Adds, Closed, IsNew, Known, TakesFirst}
 use Rattle.hub_serve.specs.Line.{ending_of}
-use Rattle.hub_serve.specs.One.{Did, ServesOne}
-use Rattle.hub_serve.specs.Serve.{Asked, AskedAt, Connection, FailedSo, IsAsked, IsServed, IsTaken}
+use Rattle.hub_serve.specs.One.{DidAsked, ServesOne}
+use Rattle.hub_serve.specs.Serve.{Exchange, AskedAt, Connection, FailedSo, IsAsked, IsServed, IsTaken}
 use Rattle.hub_serve.specs.declared.line.Ending.TheVariants.{Gone}
 use Rattle.hub_serve.proofs.Passing.{adds_none, takes_none}
 
@@ -61,16 +61,16 @@ module _ (Does : Input → Reply → Type 0) (Same : Type 0) (register : Registe
   Asks question reply = Does (input_of moment question.gln question.key question.request) reply
 
   -- something was asked, or nothing was, if no more is known
-  asked_once : OneStep Asks Same → (asked : Option Asked) × AskedAt moment asked × Did Does Same asked
+  asked_once : OneStep Asks Same → (asked : Option Exchange) × AskedAt moment asked × DidAsked Does Same asked
   asked_once (inl same) = (None, tt, same)
   asked_once (inr step) = (Some (record { moment = moment; question = step.0; reply = step.1 }), refl, step.2)
 
   -- what was asked, from the question of the bytes
-  by_question : (bytes : List ℕ) (left : Option (List ℕ)) (answer : _) (question : _) (asks : asked.Asks register bytes question)
-      → http.Answers Asks Same (passes asks.head) question answer
+  by_question : (bytes : List ℕ) (left : Option (List ℕ)) (answer : _) (question : _) (asks : asked.AsksQuestion register bytes question)
+      → http.AnswersQuestion Asks Same (passes asks.head) question answer
       → TakesAtMost (Some bytes) left (longest_head + announced_by register asks.head)
-      → (asked : Option Asked) × AskedAt moment asked × Serves (IsAsked asked) (asked ≡ None) register bytes left answer
-      × Did Does Same asked
+      → (asked : Option Exchange) × AskedAt moment asked × AnswersBytes (IsAsked asked) (asked ≡ None) register bytes left answer
+      × DidAsked Does Same asked
   by_question bytes left answer (Ok question) asks (inl ends) taken = (
     Some (record { moment = moment; question = question; reply = ends.0 }),
     refl,
@@ -88,9 +88,9 @@ module _ (Does : Input → Reply → Type 0) (Same : Type 0) (register : Registe
   asked_so : (bytes left was is : Option (List ℕ)) (served : Result Served IoFault)
       → Ended Asks Same register bytes left was is served
       → OneStep Asks Same
-      → (asked : Option Asked) × AskedAt moment asked
+      → (asked : Option Exchange) × AskedAt moment asked
       × Ended (IsAsked asked) (asked ≡ None) register bytes left was is served
-      × Did Does Same asked
+      × DidAsked Does Same asked
   asked_so None left was is (Ok served) ended step = let once = asked_once step in (once.0, once.1, tt, once.2)
   asked_so (Some bytes) left was is (Ok served) ended step =
       let by = by_question bytes left ended.0 ended.1.question ended.1.asks ended.1.answers ended.1.taken in
@@ -101,7 +101,7 @@ module _ (Does : Input → Reply → Type 0) (Same : Type 0) (register : Registe
       let by = by_question bytes left ended.0 ended.1.question ended.1.asks ended.1.answers ended.1.taken in
       (by.0, by.1, (ended.0, by.2, ended.2), by.3)
 
-  abbrev so_ended : Option (List ℕ) → Option Asked → Closed → Result Served IoFault → Connection
+  abbrev so_ended : Option (List ℕ) → Option Exchange → Closed → Result Served IoFault → Connection
   so_ended bytes asked closed served = record {
     bytes = bytes;
     moment = Some moment;
@@ -110,7 +110,7 @@ module _ (Does : Input → Reply → Type 0) (Same : Type 0) (register : Registe
     ending = ending_of served;
   }
 
-  is_served : (bytes : Option (List ℕ)) (asked : Option Asked) (closed : Closed) (served : Result Served IoFault)
+  is_served : (bytes : Option (List ℕ)) (asked : Option Exchange) (closed : Closed) (served : Result Served IoFault)
       → IsTaken register (so_ended bytes asked closed served) served
       → IsServed register (so_ended bytes asked closed served)
   is_served bytes asked closed (Ok served) taken = taken

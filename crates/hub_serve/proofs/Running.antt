@@ -8,8 +8,8 @@ use Rattle.hub_http.specs.HubRules.Laws.{SoundHub}
 use Rattle.hub_requests.specs.declared.reply.Reply.{Reply}
 use Rattle.hub_requests.specs.declared.request.Input.{Input}
 use Rattle.hub_http.specs.HubCore.Hub.{RanOver, RunsFrom, StaysSound, SteppedOver, StepsFrom}
-use Rattle.hub_serve.specs.One.{Did}
-use Rattle.hub_serve.specs.Serve.{Asked, Connection, inputs, input_in, inputs_of, replies, replies_of}
+use Rattle.hub_serve.specs.One.{DidAsked}
+use Rattle.hub_serve.specs.Serve.{Exchange, Connection, inputs, input_in, inputs_of, replies, replies_of}
 
 module _ {S : Type 0} (g : Ghosts S) where
   module _
@@ -18,11 +18,11 @@ module _ {S : Type 0} (g : Ghosts S) where
       → RanOver g old between inputs replies
       → SteppedOver g between new input reply
       → RanOver g old new (inputs ++ input ∷ []) (replies ++ reply ∷ [])) where
-    runs_then : (old between new : RegisterRows × S) (earlier : List Input) (told : List Reply) (asked : Option Asked)
+    runs_then : (old between new : RegisterRows × S) (earlier : List Input) (told : List Reply) (asked : Option Exchange)
         → (g.honest new.1 → g.honest between.1)
         → StaysSound g old between
         → RunsFrom g old between earlier told
-        → Did (StepsFrom g between new) (new ≡ between) asked
+        → DidAsked (StepsFrom g between new) (new ≡ between) asked
         → RunsFrom g old new (earlier ++ inputs_of asked) (told ++ replies_of asked)
     runs_then old between new earlier told None was_honest stays ran did =
         subst (λ (xs : List Input). RunsFrom g old new xs (told ++ [])) (sym (append-nil earlier))
@@ -38,7 +38,7 @@ module _ {S : Type 0} (g : Ghosts S) where
         → (g.honest new.1 → g.honest between.1)
         → StaysSound g old between
         → RunsFrom g old between (inputs served) (replies served)
-        → Did (StepsFrom g between new) (new ≡ between) one.asked
+        → DidAsked (StepsFrom g between new) (new ≡ between) one.asked
         → RunsFrom g old new (inputs (served ++ one ∷ [])) (replies (served ++ one ∷ []))
     runs_more old between new served one was_honest stays ran did =
         let asks : inputs served ++ inputs_of one.asked ≡ inputs (served ++ one ∷ []) =

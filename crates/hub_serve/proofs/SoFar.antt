@@ -14,8 +14,8 @@ use Rattle.hub_requests.specs.declared.request.Input.{Input}
 use Rattle.hub_parties.specs.Rows.{RegisterRows}
 use Rattle.hub_serve.specs.Connections.{Coming, Known, TakesFirst}
 use Rattle.hub_serve.specs.Line.{ending_status, line_of}
-use Rattle.hub_serve.specs.Output.{Written}
-use Rattle.hub_serve.specs.Serve.{Connection, IsServed, Passes, Serves, Stops, ends_in, greatest, inputs, lines_from}
+use Rattle.hub_serve.specs.Output.{WrittenWhole}
+use Rattle.hub_serve.specs.Serve.{Connection, IsServed, Passes, ServesConnections, StopsEarly, ends_in, greatest, inputs, lines_from}
 use Rattle.hub_serve.specs.Serve.{moments_in, replies, sent_in}
 use Rattle.hub_serve.proofs.Passing.{adds_still, are_first, passes_more, passes_none, takes_both, takes_still}
 
@@ -27,7 +27,7 @@ pub record SoFar (Runs : List Input → List Reply → Type 0) (Stopped : List C
   pub ran : Runs (inputs served) (replies served)
   pub at_once : Stopped served
   pub counted : length served ≡ number
-  pub written : Written old new failed after (lines_from 1 served)
+  pub written : WrittenWhole old new failed after (lines_from 1 served)
   pub status_is : status ≡ greatest served
 
 -- one more connection
@@ -75,7 +75,7 @@ printed : {E : Type 0} (old new : Option (List ℕ)) (failed after : Bool) (text
     → Writes r old new text
     → Flags r failed after
     → is_err r ≡ false
-    → Written old new failed after text
+    → WrittenWhole old new failed after text
 printed old new failed after text (Ok done) bytes flag e = record { bytes = bytes; flag = flag }
 printed old new failed after text (Err fault) bytes flag e = absurd (true≢false e)
 
@@ -90,8 +90,8 @@ broken old new failed after text (Err fault) bytes flag e = (bytes, flag)
 -- no more connections were served after these
 stops_behind : (Over Unknown : Type 0) (coming between rest : Coming) (sent : List (Option (List ℕ)))
     → TakesFirst coming between sent
-    → Stops Over Unknown between rest []
-    → Stops Over Unknown coming rest sent
+    → StopsEarly Over Unknown between rest []
+    → StopsEarly Over Unknown coming rest sent
 stops_behind Over Unknown coming between rest sent first (inl over) =
     inl (
       over.0,
@@ -108,7 +108,7 @@ module _ {register : RegisterRows} {known : Known} {old : Option (List ℕ)} {fa
       → SoFar Runs Stopped register known rest old new failed after number status
       → Going
       → number ≡ count
-      → Serves Runs Stopped register known rest Going Over Unknown Broke count old new failed after status
+      → ServesConnections Runs Stopped register known rest Going Over Unknown Broke count old new failed after status
   whole s going all = record {
     served = s.served;
     first = are_first known.coming rest.coming (sent_in s.served) s.passed.clients;
@@ -133,11 +133,11 @@ module _ {register : RegisterRows} {known : Known} {old : Option (List ℕ)} {fa
       (s : SoFar Runs Stopped register known rest old new failed after number status)
       → later.closed ≡ rest.closed
       → later.moments ≡ rest.moments
-      → Stops Over Unknown rest.coming later.coming []
+      → StopsEarly Over Unknown rest.coming later.coming []
       → number < count
       → After (inputs s.served) (replies s.served)
       → Later s.served
-      → Serves After Later register known later Going Over Unknown Broke count old new failed after 3
+      → ServesConnections After Later register known later Going Over Unknown Broke count old new failed after 3
   cut_short {Over = Over} {Unknown = Unknown} {count = count} {later = later} s still moments stopped fewer ran at_once = record {
     served = s.served;
     first = are_first known.coming rest.coming (sent_in s.served) s.passed.clients;
@@ -164,7 +164,7 @@ module _ {register : RegisterRows} {known : Known} {old : Option (List ℕ)} {fa
       → Writes line between new (line_of next one.ending)
       → Flags line middle after
       → is_err line ≡ false
-      → Written old new failed after (lines_from 1 (s.served ++ one ∷ []))
+      → WrittenWhole old new failed after (lines_from 1 (s.served ++ one ∷ []))
   written_more {between = between} {new = new} {middle = middle} {after = after} {next = next} s one next_is line bytes flag right =
       let counted = s.counted in
       let at : 1 + length s.served ≡ next = omega (arith, counted, next_is) in
@@ -177,7 +177,8 @@ module _ {register : RegisterRows} {known : Known} {old : Option (List ℕ)} {fa
       }
 
   -- one more connection, with what was printed of its line
-  module _ {E : Type 0} {After : List Input → List Reply → Type 0} {Later : List Connection → Type 0} {later : Known} {between new : Option (List ℕ)}
+  module _ {E : Type 0} {After : List Input → List Reply → Type 0} {Later : List Connection → Type 0} {later : Known}
+      {between new : Option (List ℕ)}
       {middle after : Bool} {next : ℕ} (s : SoFar Runs Stopped register known rest old between failed middle number status)
       (one : Connection) (passes : Passes rest later (one ∷ [])) (is : IsServed register one)
       (ran : After (inputs (s.served ++ one ∷ [])) (replies (s.served ++ one ∷ [])))
@@ -206,7 +207,7 @@ module _ {register : RegisterRows} {known : Known} {old : Option (List ℕ)} {fa
     pub gave_up : {Going Over Unknown : Type 0} {Broke : List Connection → Type 0} {count : ℕ} → is_err line ≡ false → Going
         → number < count
         → Broke (s.served ++ one ∷ [])
-        → Serves After Later register known later Going Over Unknown Broke count old new failed after 3
+        → ServesConnections After Later register known later Going Over Unknown Broke count old new failed after 3
     gave_up {count = count} whole going fewer broke =
         let counted = s.counted in
         let more = length_push s.served one in
@@ -231,7 +232,7 @@ module _ {register : RegisterRows} {known : Known} {old : Option (List ℕ)} {fa
         }
 
     pub lost : {Going Over Unknown : Type 0} {Broke : List Connection → Type 0} {count : ℕ} → is_err line ≡ true → Going → number < count
-        → Serves After Later register known later Going Over Unknown Broke count old new failed after 3
+        → ServesConnections After Later register known later Going Over Unknown Broke count old new failed after 3
     lost {count = count} failed going fewer =
         let counted = s.counted in
         let more = length_push s.served one in

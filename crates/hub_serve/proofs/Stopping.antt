@@ -4,7 +4,7 @@ use Rattle.hub_parties.specs.Rows.{RegisterRows}
 use Rattle.hub_store.specs.declared.store.Store.{Ghosts}
 use Rattle.hub_http.specs.HubCore.Hub.{RunsFrom, StepsFrom}
 use Rattle.hub_serve.specs.Broken.{WasWhole}
-use Rattle.hub_serve.specs.One.{Did}
+use Rattle.hub_serve.specs.One.{DidAsked}
 use Rattle.hub_serve.specs.Serve.{Connection, inputs, replies}
 
 none_of : {X : Type 0} (xs : List X) → length xs ≡ 0 → xs ≡ []
@@ -18,7 +18,7 @@ pub was_whole : {S : Type 0} (g : Ghosts S) (old between new : RegisterRows × S
     → (g.honest new.1 → g.honest between.1)
     → (number ≡ 0) ⊎ (g.broken between.1 ≡ None)
     → RunsFrom g old between (inputs served) (replies served)
-    → Did (StepsFrom g between new) (new ≡ between) one.asked
+    → DidAsked (StepsFrom g between new) (new ≡ between) one.asked
     → WasWhole g old new (served ++ one ∷ [])
 was_whole g old between new served one number counted was_honest whole ran did = record {
   earlier = served;

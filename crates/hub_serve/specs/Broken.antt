@@ -3,7 +3,7 @@ use Rattle.std.specs.Prelude.{◌≡◌, ◌≢◌, ◌⊎◌, List, [], ◌∷�
 use Rattle.hub_parties.specs.Rows.{RegisterRows}
 use Rattle.hub_store.specs.declared.store.Store.{Ghosts}
 use Rattle.hub_http.specs.HubCore.Hub.{RunsFrom, StepsFrom}
-use Rattle.hub_serve.specs.One.{Did}
+use Rattle.hub_serve.specs.One.{DidAsked}
 use Rattle.hub_serve.specs.Serve.{Connection, inputs, replies}
 use Rattle.hub_serve.specs.declared.serve.OnBroken.{OnBroken}
 use Rattle.hub_serve.specs.declared.serve.OnBroken.TheVariants.{Stop}
@@ -19,7 +19,7 @@ module _ {S : Type 0} (g : Ghosts S) where
     pub was_honest : g.honest new.1 → g.honest between.1
     pub ran : RunsFrom g old between (inputs earlier) (replies earlier)
     pub not_yet : (earlier ≡ []) ⊎ (g.broken between.1 ≡ None)
-    pub did : Did (StepsFrom g between new) (new ≡ between) last.asked
+    pub did : DidAsked (StepsFrom g between new) (new ≡ between) last.asked
 
   -- the store has failed for good after the last connection; so it failed at its request, or it had failed before
   -- serving began

@@ -17,10 +17,10 @@ TakesFirst {A} known rest first =
 
 -- The next connection: its reader gives what its client sends. If its client is gone, nothing is known of it. If no
 -- more connections can be taken, all of them still come.
-abbrev pub Takes : {R W : Type 0} → (R → Option (List ℕ)) → Coming → Coming → Result (Sides R W) NoConnection → Type 0
-Takes remaining known rest (Ok sides) = TakesFirst known rest (remaining sides.reader ∷ [])
-Takes remaining known rest (Err Gone) = TakesFirst known rest (None ∷ [])
-Takes remaining known rest (Err Over) = rest ≡ known
+abbrev pub TakesConnection : {R W : Type 0} → (R → Option (List ℕ)) → Coming → Coming → Result (Sides R W) NoConnection → Type 0
+TakesConnection remaining known rest (Ok sides) = TakesFirst known rest (remaining sides.reader ∷ [])
+TakesConnection remaining known rest (Err Gone) = TakesFirst known rest (None ∷ [])
+TakesConnection remaining known rest (Err Over) = rest ≡ known
 
 -- the next moment; if it is not known, all moments still come
 abbrev pub TakesMoment : Option (List ℕ) → Option (List ℕ) → Option ℕ → Type 0

@@ -6,5 +6,6 @@ pub mod Moments
 pub mod One
 pub mod Output
 pub mod Serve
+pub mod Serving
 pub mod Timed
 pub mod Uses

@@ -4,13 +4,13 @@ use Rattle.hub_requests.specs.declared.reply.Reply.{Reply}
 use Rattle.hub_requests.specs.declared.request.Input.{Input}
 use Rattle.hub_parties.specs.Rows.{RegisterRows}
 use Rattle.hub_serve.specs.Connections.{Known}
-use Rattle.hub_serve.specs.Serve.{Asked, Connection, IsServed, Passes, input_in}
+use Rattle.hub_serve.specs.Serve.{Exchange, Connection, IsServed, Passes, input_in}
 use Rattle.hub_serve.specs.declared.line.Ending.{Ending}
 
 -- the request was answered, or there was none
-abbrev pub Did : (Input → Reply → Type 0) → Type 0 → Option Asked → Type 0
-Did Does Same None = Same
-Did Does Same (Some asked) = Does (input_in asked) asked.reply
+abbrev pub DidAsked : (Input → Reply → Type 0) → Type 0 → Option Exchange → Type 0
+DidAsked Does Same None = Same
+DidAsked Does Same (Some asked) = Does (input_in asked) asked.reply
 
 -- a connection was served and has ended
 pub record ServesOne (Does : Input → Reply → Type 0) (Same : Type 0) (register : RegisterRows) (old new : Known)
@@ -19,7 +19,7 @@ pub record ServesOne (Does : Input → Reply → Type 0) (Same : Type 0) (regist
   pub ends : one.ending ≡ ending
   pub passes : Passes old new (one ∷ [])
   pub is : IsServed register one
-  pub did : Did Does Same one.asked
+  pub did : DidAsked Does Same one.asked
 
 -- the next connection was served; if there is none, nothing was done, none has ended, and the moments still come
 abbrev pub ServesNext : {E : Type 0} → (Input → Reply → Type 0) → Type 0 → RegisterRows → Known → Known

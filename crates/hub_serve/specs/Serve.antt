@@ -14,12 +14,12 @@ use Rattle.hub_requests.specs.declared.request.Input.{Input}
 use Rattle.hub_parties.specs.Rows.{RegisterRows}
 use Rattle.hub_serve.specs.Connections.{Adds, Closed, Coming, Known, TakesFirst}
 use Rattle.hub_serve.specs.Line.{ending_of, ending_status, line_of}
-use Rattle.hub_serve.specs.Output.{Written, BrokenOff}
+use Rattle.hub_serve.specs.Output.{WrittenWhole, WrittenInPart}
 use Rattle.hub_serve.specs.declared.line.Ending.{Ending}
 use Rattle.hub_serve.specs.declared.line.Ending.TheVariants.{Answered, Gone, ReadFailed, WriteFailed}
 
 -- what was asked of the hub in a connection, at which moment, and the reply
-pub record Asked : Type 0 where
+pub record Exchange : Type 0 where
   pub moment : ℕ
   pub question : Question
   pub reply : Reply
@@ -29,7 +29,7 @@ pub record Asked : Type 0 where
 pub record Connection : Type 0 where
   pub bytes : Option (List ℕ)
   pub moment : Option ℕ
-  pub asked : Option Asked
+  pub asked : Option Exchange
   pub closed : Option Closed
   pub ending : Ending
 
@@ -50,14 +50,14 @@ abbrev pub ends_in : List Connection → List Closed
 ends_in = flat_map (λ one. listed one.closed)
 
 -- the input to the hub, and its reply
-abbrev pub input_in : Asked → Input
+abbrev pub input_in : Exchange → Input
 input_in asked = input_of asked.moment asked.question.gln asked.question.key asked.question.request
 
-abbrev pub inputs_of : Option Asked → List Input
+abbrev pub inputs_of : Option Exchange → List Input
 inputs_of None = []
 inputs_of (Some asked) = input_in asked ∷ []
 
-abbrev pub replies_of : Option Asked → List Reply
+abbrev pub replies_of : Option Exchange → List Reply
 replies_of None = []
 replies_of (Some asked) = asked.reply ∷ []
 
@@ -77,12 +77,12 @@ abbrev pub greatest : List Connection → ℕ
 greatest served = fold (λ status one. max status (ending_status one.ending)) 0 served
 
 -- this question was asked, and this was the reply
-abbrev pub IsAsked : Option Asked → Question → Reply → Type 0
+abbrev pub IsAsked : Option Exchange → Question → Reply → Type 0
 IsAsked None question reply = ⊥
 IsAsked (Some asked) question reply = (asked.question ≡ question) × (asked.reply ≡ reply)
 
 -- the request was made at this moment
-abbrev pub AskedAt : ℕ → Option Asked → Type 0
+abbrev pub AskedAt : ℕ → Option Exchange → Type 0
 AskedAt moment None = ⊤
 AskedAt moment (Some asked) = asked.moment ≡ moment
 
@@ -137,31 +137,31 @@ pub record Passes (old new : Known) (served : List Connection) : Type 0 where
 
 -- why no more were served, and which still come: no more could be taken, and all others still come; or one more was
 -- taken, its moment is not known, and those after it still come
-abbrev pub Stops : Type 0 → Type 0 → Coming → Coming → List (Option (List ℕ)) → Type 0
-Stops Over Unknown coming rest sent =
+abbrev pub StopsEarly : Type 0 → Type 0 → Coming → Coming → List (Option (List ℕ)) → Type 0
+StopsEarly Over Unknown coming rest sent =
     (Over × TakesFirst coming rest sent)
     ⊎ (Unknown × ((bytes : Option (List ℕ)) × TakesFirst coming rest (sent ++ bytes ∷ [])))
 
 -- as many connections were served as there were to be, and those after them still come
-pub record Whole (known rest : Known) (Going : Type 0) (count : ℕ) (old new : Option (List ℕ)) (failed after : Bool)
+pub record AllServed (known rest : Known) (Going : Type 0) (count : ℕ) (old new : Option (List ℕ)) (failed after : Bool)
     (served : List Connection) (status : ℕ) : Type 0 where
   pub passed : Passes known rest served
   pub going : Going
   pub counted : length served ≡ count
-  pub written : Written old new failed after (lines_from 1 served)
+  pub written : WrittenWhole old new failed after (lines_from 1 served)
   pub status_is : status ≡ greatest served
 
 -- fewer were served, for a reason; all moments but theirs still come
 pub record CutShort (known rest : Known) (Over Unknown : Type 0) (count : ℕ) (old new : Option (List ℕ))
     (failed after : Bool) (served : List Connection) (status : ℕ) : Type 0 where
-  pub stopped : Stops Over Unknown known.coming rest.coming (sent_in served)
+  pub stopped : StopsEarly Over Unknown known.coming rest.coming (sent_in served)
   pub moments : TakesFirst known.moments rest.moments (moments_in served)
   pub fewer : length served < count
-  pub written : Written old new failed after (lines_from 1 served)
+  pub written : WrittenWhole old new failed after (lines_from 1 served)
   pub status_is : status ≡ 3
 
 -- the line of the last connection could not be written; those after it still come
-pub record Lost (known rest : Known) (Going : Type 0) (count : ℕ) (old new : Option (List ℕ)) (after : Bool)
+pub record LineLost (known rest : Known) (Going : Type 0) (count : ℕ) (old new : Option (List ℕ)) (after : Bool)
     (served : List Connection) (status : ℕ) : Type 0 where
   pub passed : Passes known rest served
   pub going : Going
@@ -169,7 +169,7 @@ pub record Lost (known rest : Known) (Going : Type 0) (count : ℕ) (old new : O
   pub last : Connection
   pub are : served ≡ earlier ++ last ∷ []
   pub counted : length served ≤ count
-  pub broken : BrokenOff old new after (lines_from 1 earlier) (line_of (length served) last.ending)
+  pub broken : WrittenInPart old new after (lines_from 1 earlier) (line_of (length served) last.ending)
   pub status_is : status ≡ 3
 
 -- Serving was to end with the connection at which the store failed for good, and this is the last one; those after it
@@ -179,13 +179,13 @@ pub record GaveUp (known rest : Known) (Going Broke : Type 0) (count : ℕ) (old
   pub passed : Passes known rest served
   pub going : Going
   pub counted : length served ≤ count
-  pub written : Written old new failed after (lines_from 1 served)
+  pub written : WrittenWhole old new failed after (lines_from 1 served)
   pub broke : Broke
   pub status_is : status ≡ 3
 
 -- Connections were served in their order: the first of those that come, at the moments that come, and these have ended.
 -- What was asked of the hub in them, with the replies, is a run of it. If serving was to stop, it stopped at once.
-pub record Serves (Runs : List Input → List Reply → Type 0) (Stopped : List Connection → Type 0) (register : RegisterRows)
+pub record ServesConnections (Runs : List Input → List Reply → Type 0) (Stopped : List Connection → Type 0) (register : RegisterRows)
     (known rest : Known) (Going Over Unknown : Type 0) (Broke : List Connection → Type 0) (count : ℕ) (old new : Option (List ℕ))
     (failed after : Bool) (status : ℕ) : Type 0 where
   pub served : List Connection
@@ -195,7 +195,7 @@ pub record Serves (Runs : List Input → List Reply → Type 0) (Stopped : List 
   pub each : AllByRecursion (IsServed register) served
   pub ran : Runs (inputs served) (replies served)
   pub at_once : Stopped served
-  pub ended : Whole known rest Going count old new failed after served status
+  pub ended : AllServed known rest Going count old new failed after served status
       ⊎ (CutShort known rest Over Unknown count old new failed after served status
-      ⊎ (Lost known rest Going count old new after served status
+      ⊎ (LineLost known rest Going count old new after served status
       ⊎ GaveUp known rest Going (Broke served) count old new failed after served status))

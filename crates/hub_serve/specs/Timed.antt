@@ -18,12 +18,12 @@ abbrev pub HasBegun : Time → Type 0
 HasBegun time = IsSome time.0
 
 -- it lasts as long as before, and if it had begun, its beginning is the same
-pub record GoesOn (old new : Time) : Type 0 where
+pub record TimeGoesOn (old new : Time) : Type 0 where
   pub lasts : new.1 ≡ old.1
   pub began : IfSome old.0 (λ begun. new.0 ≡ Some begun)
 
 -- The clock was asked, and this many nanoseconds are left of the time, which began now if it had not before.
-pub record IsLeft (left : ℕ) (old new : Time) (before after : Uses) : Type 0 where
+pub record TimeLeft (left : ℕ) (old new : Time) (before after : Uses) : Type 0 where
   pub now : Instant
   pub asked : Adds before after (told (instant_nanos now) ∷ [])
   pub begun : Instant
@@ -36,7 +36,7 @@ pub record IsLeft (left : ℕ) (old new : Time) (before after : Uses) : Type 0 w
 pub record InTime (wait : ℕ → Use) (call : Use) (old new : Time) (before after : Uses) : Type 0 where
   pub left : ℕ
   pub asked : Uses
-  pub is_left : IsLeft left old new before asked
+  pub is_left : TimeLeft left old new before asked
   pub made : Adds asked after (wait left ∷ call ∷ [])
 
 -- the clock was asked, and nothing else was done

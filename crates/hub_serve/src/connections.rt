@@ -43,7 +43,7 @@ pub trait Connections {
 
     /// Waits for the next connection and returns it. Nothing has been read of it yet, and nothing written to it.
     fn next(&mut self) -> Result<Sides<Self::Reader, Self::Writer>, NoConnection>
-        ensures takes { spec.Takes Self.Reader.remaining (coming self.old) (coming self.new) result }
+        ensures takes { spec.TakesConnection Self.Reader.remaining (coming self.old) (coming self.new) result }
         ensures is_new { IfOk result (λ sides. spec.IsNew (Self.Writer.contents sides.writer)
             (Self.Reader.failed sides.reader) (Self.Writer.failed sides.writer)) }
         ensures closed { closed self.new ≡ closed self.old }

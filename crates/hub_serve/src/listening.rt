@@ -168,7 +168,7 @@ fn last_of<T: Socket>(socket: T, ending: Ending) -> T
 
 impl<L: Listener> Connections for Listening<L> {
     ghost use Rattle.std.specs.Prelude.{◌≡◌, ◌||◌, None, IfOk};
-    ghost use Rattle.hub_serve.specs.Connections.{IsNew, Takes, is_over};
+    ghost use Rattle.hub_serve.specs.Connections.{IsNew, TakesConnection, is_over};
     ghost use Rattle.hub_serve.specs.Listening.{Accepts, AtBegin, BeginsNow, Closes};
 
     ghost failed = { λ l. l.1 };
@@ -178,7 +178,7 @@ impl<L: Listener> Connections for Listening<L> {
     type Writer = OfWrite<Timed<L::Socket>>;
 
     fn next(&mut self) -> Result<Sides<Self::Reader, Self::Writer>, NoConnection>
-        ensures takes { Takes (λ reader. L.Socket.remaining reader.0.0) None None result }
+        ensures takes { TakesConnection (λ reader. L.Socket.remaining reader.0.0) None None result }
         ensures is_new { IfOk result (λ sides. IsNew None sides.reader.1 sides.writer.1) }
         ensures begins { IfOk result (λ sides. AtBegin 10_000_000_000 sides.reader sides.writer) }
         ensures begins_now { IfOk result (λ sides. BeginsNow L.Socket.uses sides.reader) }

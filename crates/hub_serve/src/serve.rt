@@ -1,10 +1,11 @@
 //! Serves connections one after another.
 ghost use Rattle.std.specs.Prelude.{◌≡◌, ◌≢◌, ◌⊎◌, IsTrue, true, false, [], None, OnErr, OnOk};
-ghost use Rattle.hub_http.specs.HubCore.Hub.{RunsFrom, StaysSound, StepsFrom};
-ghost use Rattle.hub_serve.specs.Broken.{BrokeAtLast, StopsAtOnce, StopsBroken};
+ghost use Rattle.hub_http.specs.HubCore.Hub.{StaysSound, StepsFrom};
+ghost use Rattle.hub_serve.specs.Broken.{StopsBroken};
 ghost use Rattle.hub_serve.specs.Connections.{known};
 ghost use Rattle.hub_serve.specs.One.{ServesNext};
-ghost use Rattle.hub_serve.specs.Serve.{Serves, Stops};
+ghost use Rattle.hub_serve.specs.Serve.{StopsEarly};
+ghost use Rattle.hub_serve.specs.Serving.{ServesHub};
 
 use crate::connections::{Connections, Moments, NoConnection};
 use crate::line::{Ending, ending_of, print_line};
@@ -52,7 +53,7 @@ fn serve_next<L: Connections, S: Store, M: Moments>(
         (known (L.coming connections.new) (L.closed connections.new) (M.coming moments.new)) result }
 
     // No more are served only if none could be taken, or the moment of the one that was taken is not known.
-    ensures stopped { OnErr result (Stops (IsTrue (L.failed connections.new)) (IsTrue (M.failed moments.new))
+    ensures stopped { OnErr result (StopsEarly (IsTrue (L.failed connections.new)) (IsTrue (M.failed moments.new))
         (L.coming connections.old) (L.coming connections.new) []) }
     ensures going { OnOk result ((L.failed connections.new ≡ L.failed connections.old)
         × (M.failed moments.new ≡ M.failed moments.old)) }
@@ -98,15 +99,8 @@ pub fn serve_on<L: Connections, S: Store, M: Moments, W: Sink>(
     on_broken: OnBroken,
     out: &mut W,
 ) -> u8
-    ensures served { Serves
-        (RunsFrom S.Store hub.old hub.new)
-        (StopsAtOnce S.Store on_broken hub.old hub.new)
-        hub.old.0 (known (L.coming connections.old) (L.closed connections.old) (M.coming moments.old))
-        (known (L.coming connections.new) (L.closed connections.new) (M.coming moments.new))
-        ((L.failed connections.new ≡ L.failed connections.old)
-        × (M.failed moments.new ≡ M.failed moments.old))
-        (IsTrue (L.failed connections.new)) (IsTrue (M.failed moments.new))
-        (λ served. StopsBroken on_broken (BrokeAtLast S.Store hub.old hub.new served)) count
+    ensures served { ServesHub S.Store L.Connections M.Moments on_broken hub.old hub.new
+        (connections.old, moments.old) (connections.new, moments.new) count
         (W.contents out.old) (W.contents out.new) (W.failed out.old) (W.failed out.new) result }
     ensures goes_on { on_broken ≡ OnBroken.Stop → result ≢ 3 → (count ≡ 0) ⊎ (S.broken hub.new.1 ≡ None) }
     ensures held { StaysSound S.Store hub.old hub.new }

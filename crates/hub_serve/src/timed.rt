@@ -1,7 +1,7 @@
 //! Limits the total time of one side of a connection.
 ghost use Rattle.std.specs.Prelude.{◌≡◌, IfOk, OnErr, Some, None};
 ghost use Rattle.std.specs.Duration.{as_nanos};
-ghost use Rattle.hub_serve.specs.Timed.{AsksOnly, GoesOn, IsLeft};
+ghost use Rattle.hub_serve.specs.Timed.{AsksOnly, TimeGoesOn, TimeLeft};
 
 use crate::sockets::Socket;
 use std::io;
@@ -69,9 +69,9 @@ impl<T: Socket> Timed<T> {
     // left, because a socket takes a timeout of zero as a wait without end.
     fn left(&mut self) -> io::Result<Duration>
         ensures left { IfOk result (λ left.
-            IsLeft (as_nanos left) self.old.1 self.new.1 (T.uses self.old.0) (T.uses self.new.0)) }
+            TimeLeft (as_nanos left) self.old.1 self.new.1 (T.uses self.old.0) (T.uses self.new.0)) }
         ensures asks { OnErr result (AsksOnly (T.uses self.old.0) (T.uses self.new.0)) }
-        ensures time { GoesOn self.old.1 self.new.1 }
+        ensures time { TimeGoesOn self.old.1 self.new.1 }
         ensures remaining { T.remaining self.new.0 ≡ T.remaining self.old.0 }
         ensures contents { T.contents self.new.0 ≡ T.contents self.old.0 }
     {
@@ -90,7 +90,7 @@ impl<T: Socket> Read for Timed<T> {
     ghost use Rattle.std.specs.Prelude.{IfOk};
     ghost use Rattle.std.specs.Io.{ReadsAtMost};
     ghost use Rattle.std.specs.Io.KnownBytes.{ReadConsumes};
-    ghost use Rattle.hub_serve.specs.Timed.{GoesOn, HasBegun, IsTimed};
+    ghost use Rattle.hub_serve.specs.Timed.{TimeGoesOn, HasBegun, IsTimed};
     ghost use Rattle.hub_serve.specs.Uses as uses;
 
     ghost remaining = { λ t. T.remaining t.0 };
@@ -99,7 +99,7 @@ impl<T: Socket> Read for Timed<T> {
     fn read(&mut self, buffer: &mut [u8]) -> io::Result<usize>
         ensures bound { ReadsAtMost result buffer.new }
         ensures bytes { ReadConsumes (T.remaining self.old.0) (T.remaining self.new.0) result buffer.new }
-        ensures time { GoesOn self.old.1 self.new.1 }
+        ensures time { TimeGoesOn self.old.1 self.new.1 }
         ensures begun { IfOk result (λ _. HasBegun self.new.1) }
         ensures timed { IsTimed uses.read_wait uses.read self.old.1 self.new.1
             (T.uses self.old.0) (T.uses self.new.0) result }
@@ -114,7 +114,7 @@ impl<T: Socket> Write for Timed<T> {
     ghost use Rattle.std.specs.Prelude.{◌≡◌, None, IfOk};
     ghost use Rattle.std.specs.Io.{WritesAtMost};
     ghost use Rattle.std.specs.Io.KnownBytes.{Keeps, WriteAppends};
-    ghost use Rattle.hub_serve.specs.Timed.{GoesOn, HasBegun, IsTimed};
+    ghost use Rattle.hub_serve.specs.Timed.{TimeGoesOn, HasBegun, IsTimed};
     ghost use Rattle.hub_serve.specs.Uses as uses;
 
     // Writes to the socket, as long as there is time; the time begins if it has not.
@@ -122,7 +122,7 @@ impl<T: Socket> Write for Timed<T> {
         ensures bound { WritesAtMost result bytes.now }
         ensures bytes { WriteAppends None None result bytes.now }
         ensures handed { WriteAppends (T.contents self.old.0) (T.contents self.new.0) result bytes.now }
-        ensures time { GoesOn self.old.1 self.new.1 }
+        ensures time { TimeGoesOn self.old.1 self.new.1 }
         ensures begun { IfOk result (λ _. HasBegun self.new.1) }
         ensures timed { IsTimed uses.write_wait uses.write self.old.1 self.new.1
             (T.uses self.old.0) (T.uses self.new.0) result }

@@ -11,7 +11,7 @@ returns-in-Ok-clause-or_fails g c =
 
 pub returns-in-Err-Memory-clause-or_fails : goal.returns-in-Err-Memory-clause-or_fails
 returns-in-Err-Memory-clause-or_fails g c =
-    ((Err BadRequest, inr (refl, (refl, c.stopped.ensures))), search rules)
+    ((Err BadRequest, inr (refl, (refl, c.stopped_answer.ensures))), search rules)
 
 pub returns-in-Ok-clause-to_end : goal.returns-in-Ok-clause-to_end
 returns-in-Ok-clause-to_end g c =

@@ -1,6 +1,6 @@
 use Rattle.std.proofs.Common.{◌≡◌, ◌+◌, Bool, false, Err, inl, refl, subst, arith}
 use Rattle.http_messages.specs.Head.{longest_head}
-use Rattle.hub_http.specs.Answer.{AnswersOrFails, Steps, size_asked}
+use Rattle.hub_http.specs.Answer.{AnswersOrFails, HubReplies, size_asked}
 use Rattle.hub_http.specs.Asked.{asked_by, longest_body}
 use Rattle.hub_http.specs.declared.answer.Answered.{Answered}
 use Rattle.hub_http.specs.declared.refusal.Refusal.TheVariants.{BadRequest}
@@ -12,7 +12,7 @@ use Rattle.hub_http.proofs.answer.answer_one.Goals as goal
 pub returns-in-Some-clause-answered : goal.returns-in-Some-clause-answered
 returns-in-Some-clause-answered g c =
     let found = c.in_ok-head.ensures.head in
-    serves_some (Steps g.S.Store c.args.moment c.args.hub.now c.answer_head.new.hub)
+    serves_some (HubReplies g.S.Store c.args.moment c.args.hub.now c.answer_head.new.hub)
     (c.answer_head.new.hub ≡ c.args.hub.now) c.args.hub.now.0 _ _ _ c.in-Some.head c.answer_head.result
     (rw c.in-Some.is at found) c.in_ok-head.ensures.limit
     (body_within (size_asked (asked_by c.args.hub.now.0 c.in-Some.head)) _ _ _ c.answer_head.ensures.front) c.answer_head.ensures.answers
@@ -35,19 +35,19 @@ returns-in-Some-clause-cut g c =
 pub returns-in-None-clause-answered : goal.returns-in-None-clause-answered
 returns-in-None-clause-answered g c =
     let found = c.in_ok-head.ensures.head in
-    serves_none (Steps g.S.Store c.args.moment c.args.hub.now c.args.hub.now)
-    (c.args.hub.now ≡ c.args.hub.now) c.args.hub.now.0 _ _ c.refused.result (rw c.in-None.is at found)
-    c.in_ok-head.ensures.limit (inl (refl, c.refused.ensures))
+    serves_none (HubReplies g.S.Store c.args.moment c.args.hub.now c.args.hub.now)
+    (c.args.hub.now ≡ c.args.hub.now) c.args.hub.now.0 _ _ c.refusal_answer.result (rw c.in-None.is at found)
+    c.in_ok-head.ensures.limit (inl (refl, c.refusal_answer.ensures))
 
 pub returns-in-Some-clause-or_fails : goal.returns-in-Some-clause-or_fails
 returns-in-Some-clause-or_fails g c =
     subst (λ (before : Bool).
-    AnswersOrFails (Steps g.S.Store c.args.moment c.args.hub.now c.answer_head.new.hub)
+    AnswersOrFails (HubReplies g.S.Store c.args.moment c.args.hub.now c.answer_head.new.hub)
     (c.answer_head.new.hub ≡ c.args.hub.now) before (g.R.Source.failed c.answer_head.new.reader) c.answer_head.result)
     c.in_ok-head.ensures.kept c.answer_head.ensures.or_fails
 
 pub returns-in-None-clause-or_fails : goal.returns-in-None-clause-or_fails
-returns-in-None-clause-or_fails g c = ((Err BadRequest, inl (refl, c.refused.ensures)), c.in_ok-head.ensures.kept)
+returns-in-None-clause-or_fails g c = ((Err BadRequest, inl (refl, c.refusal_answer.ensures)), c.in_ok-head.ensures.kept)
 
 pub returns-in-Some-clause-to_end : goal.returns-in-Some-clause-to_end
 returns-in-Some-clause-to_end g c =

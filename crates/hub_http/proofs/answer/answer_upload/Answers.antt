@@ -4,7 +4,7 @@ use Rattle.edi_envelope.specs.Opened.{opened, Opens}
 use Rattle.edi_envelope.specs.declared.fault.OpenFault.{OpenFault}
 use Rattle.edi_envelope.specs.declared.interchange.Interchange.{Interchange}
 use Rattle.http_messages.specs.Body.{TakesExactly, body_in}
-use Rattle.hub_http.specs.Answer.{Steps}
+use Rattle.hub_http.specs.Answer.{HubReplies}
 use Rattle.hub_http.specs.Wording.{asked_as}
 use Rattle.hub_http.specs.Upload.{IsUpload}
 use Rattle.hub_http.specs.declared.refusal.Refusal.TheVariants.{BadRequest}
@@ -14,7 +14,7 @@ use Rattle.hub_http.proofs.answer.answer_upload.Goals as goal
 
 pub returns-in-Ok-Some-clause-answers : goal.returns-in-Ok-Some-clause-answers
 returns-in-Ok-Some-clause-answers g c =
-    answers_upload (Steps g.S.Store c.args.moment c.args.hub.now c.ask_opened.new.hub)
+    answers_upload (HubReplies g.S.Store c.args.moment c.args.hub.now c.ask_opened.new.hub)
     (c.ask_opened.new.hub ≡ c.args.hub.now) (asked_as c.args.asked.now)
     (λ left. body_in c.args.asked.now.size (c.args.front.now ++ left)) _ c.in-Ok-Some.upload c.ask_opened.result c.requires.route
     (subst (λ (u : Option (Result Interchange OpenFault)). IfSome (g.R.Source.remaining c.args.reader.now) (λ left.
@@ -23,7 +23,7 @@ returns-in-Ok-Some-clause-answers g c =
 
 pub returns-in-Ok-Some-clause-or_fails : goal.returns-in-Ok-Some-clause-or_fails
 returns-in-Ok-Some-clause-or_fails g c = (
-  one_upload (Steps g.S.Store c.args.moment c.args.hub.now c.ask_opened.new.hub)
+  one_upload (HubReplies g.S.Store c.args.moment c.args.hub.now c.ask_opened.new.hub)
       (c.ask_opened.new.hub ≡ c.args.hub.now) (asked_as c.args.asked.now) c.in-Ok-Some.upload c.ask_opened.result
       (subst (λ (u : Option (Result Interchange OpenFault)). IfSome u (λ upload. (bytes : List ℕ) × Opens upload (opened bytes)))
       c.in-Ok-Some.field-0-is c.in-Ok-Some.ensures.some) c.ask_opened.ensures.asked,
@@ -38,11 +38,11 @@ returns-in-Ok-Some-clause-stays g c =
     c.ask_opened.ensures.stays some.0 some.1
 
 pub returns-in-Ok-None-clause-or_fails : goal.returns-in-Ok-None-clause-or_fails
-returns-in-Ok-None-clause-or_fails g c = ((Err BadRequest, inl (refl, c.refused.ensures)), search rules)
+returns-in-Ok-None-clause-or_fails g c = ((Err BadRequest, inl (refl, c.refusal_answer.ensures)), search rules)
 
 pub returns-in-Err-Memory-clause-or_fails : goal.returns-in-Err-Memory-clause-or_fails
 returns-in-Err-Memory-clause-or_fails g c =
-    ((Err BadRequest, inr (refl, (refl, c.stopped.ensures))), search rules)
+    ((Err BadRequest, inr (refl, (refl, c.stopped_answer.ensures))), search rules)
 
 pub returns-in-Ok-Some-clause-to_end : goal.returns-in-Ok-Some-clause-to_end
 returns-in-Ok-Some-clause-to_end g c =

@@ -2,7 +2,7 @@ use Rattle.hub_http.proofs.answer.ask_opened.Goals as goal
 
 pub returns-clause-asked : goal.returns-clause-asked
 returns-clause-asked g c bytes opens =
-    (c.step_opened-reply.result, c.step_opened-reply.ensures.stepped bytes opens, c.replied.ensures)
+    (c.step_opened-reply.result, c.step_opened-reply.ensures.stepped bytes opens, c.reply_answer.ensures)
 
 pub returns-clause-stays : goal.returns-clause-stays
 returns-clause-stays g c bytes opens =

@@ -1,4 +1,4 @@
-use Rattle.std.proofs.Common.{◌≡◌, ℕ, inl, inr, List, [], ◌∷◌, length, refl, sym, subst, ap, ◌∙◌, arith}
+use Rattle.std.proofs.Common.{inl, inr, refl, sym, subst, ◌∙◌, arith}
 use Rattle.hub_parties.specs.Rows.{RegisterRows}
 use Rattle.hub_http.specs.HubCore.Hub.{RunsFrom}
 use Rattle.hub_serve.specs.Serve.{IsServed, inputs, replies}

@@ -3,7 +3,7 @@ use Rattle.std.specs.Prelude.{option_map}
 use Rattle.hub_http.specs.Asked.{route_in}
 use Rattle.hub_http.specs.Parts.{parts}
 use Rattle.hub_http.proofs.Judging.{asked_on, asked_single}
-use Rattle.hub_http.proofs.asked.asked_of.Goals as goal
+use Rattle.hub_http.proofs.asked.check_head.Goals as goal
 
 pub returns-in-Some : goal.returns-in-Some
 returns-in-Some g c =
