@@ -185,11 +185,11 @@ module _ {S : Type 0} (g : Ghosts S) (old new : S)
         (sound_rises (apply_all changes (g.content old)) (sound_with register row changes accepted may (g.content old) here of_tables))
 
     -- the join is accepted
-    pub let_in_carried : (reply : Reply) (done : Seen)
+    pub accepted_carried : (reply : Reply) (done : Seen)
         → reply ≡ act_reply (told (Accept changes))
         → (Fit changes (g.content old) → Carried g old new (act (Accept changes)) (λ _. Accepted) (Ok done))
         → Carried g old new (joined register Whole row) as_told (Ok reply)
-    let_in_carried reply done says then = record {
+    accepted_carried reply done says then = record {
       done = λ h. joined_as register row (Accept changes) accepted may (g.content old)
           ∙ (λ i. (sym says i, ((then fits).done h i).1));
       durable = (then fits).durable;
@@ -197,12 +197,12 @@ module _ {S : Type 0} (g : Ghosts S) (old new : S)
     }
 
     -- the store failed to commit the join
-    pub let_in_failed : (fault other : StoreFault) (result : Result Reply StoreFault)
+    pub accepted_failed : (fault other : StoreFault) (result : Result Reply StoreFault)
         → result ≡ Err other
         → (Fit changes (g.content old)
         → Carried {X = Seen} g old new (act (Accept changes)) (λ _. Accepted) (Err fault))
         → Carried g old new (joined register Whole row) as_told result
-    let_in_failed fault other result is then =
+    accepted_failed fault other result is then =
         subst (λ (r : Result Reply StoreFault). Carried g old new (joined register Whole row) as_told r)
         (sym is) (record {
           done = λ h. tt;
@@ -215,11 +215,11 @@ module _ {S : Type 0} (g : Ghosts S) (old new : S)
         })
 
     -- the register is again that of the tables
-    pub let_in_same : (done : Seen)
+    pub accepted_same : (done : Seen)
         → (Fit changes (g.content old) → Carried g old new (act (Accept changes)) (λ _. Accepted) (Ok done))
         → g.honest new
         → joined_by row register ≡ register_of (g.content new)
-    let_in_same done then h =
+    accepted_same done then h =
         of_tables_with register row changes accepted may (g.content old) here of_tables
         ∙ ap register_of (λ i. ((then fits).done h i).1)
 
@@ -232,8 +232,8 @@ module _ (plain : Bool) (old new : Option LastingFault) (may_answer : Reply → 
       always None = tt
       always (Some fault) = may
 
-  pub let_in_fails : (done : Seen) → FailsWith plain ⊥ no_answer old new (Ok done) → FailsWith plain ⊥ may_answer old new (Ok reply)
-  let_in_fails done fails = record {
+  pub accepted_fails : (done : Seen) → FailsWith plain ⊥ no_answer old new (Ok done) → FailsWith plain ⊥ may_answer old new (Ok reply)
+  accepted_fails done fails = record {
     again = never old fails.again;
     after = fails.after;
     only_memory = λ p. ((fails.only_memory p).0, tt);

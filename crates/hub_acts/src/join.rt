@@ -30,7 +30,7 @@ use std::alloc::Global;
 
 // Adds a supplier to the register and to the store with these changes; after a fault, to neither. Memory for the
 // register is taken before the commit, so that nothing can fail after it.
-fn let_in<S: Store>(
+fn add_supplier<S: Store>(
     alloc: Global,
     register: &mut Register,
     store: &mut S,
@@ -103,7 +103,7 @@ fn carry_out_join<S: Store>(
         Verdict::Refuse(_) => return Ok(reply),
         Verdict::Accept(changes) => changes,
     };
-    let_in(alloc, register, store, row, changes.as_slice())?;
+    add_supplier(alloc, register, store, row, changes.as_slice())?;
     Ok(reply)
 }
 

@@ -71,7 +71,7 @@ fn refuse<S: Store>(
 }
 
 // Decides on an ORDERS of the retailer.
-fn judged_order<S: Store>(
+fn decide_order<S: Store>(
     alloc: Global,
     register: &Register,
     store: &mut S,
@@ -101,7 +101,7 @@ fn judged_order<S: Store>(
 }
 
 // Decides on a RECADV of the retailer.
-fn judged_receipt<S: Store>(
+fn decide_receipt<S: Store>(
     alloc: Global,
     register: &Register,
     store: &mut S,
@@ -132,7 +132,7 @@ fn judged_receipt<S: Store>(
 }
 
 // Decides on an ORDRSP of a supplier; `orders` are those kept from earlier messages.
-fn judged_response<S: Store>(
+fn decide_response<S: Store>(
     alloc: Global,
     register: &Register,
     supplier: &SupplierRow,
@@ -185,7 +185,7 @@ fn judged_response<S: Store>(
 }
 
 // Decides on a DESADV of a supplier; `orders` are those kept from earlier messages.
-fn judged_despatch<S: Store>(
+fn decide_despatch<S: Store>(
     alloc: Global,
     register: &Register,
     supplier: &SupplierRow,
@@ -234,7 +234,7 @@ fn judged_despatch<S: Store>(
 }
 
 /// Decides on a message of the retailer: an ORDERS or a RECADV, for the supplier that it names.
-pub(crate) fn judged_of_retailer<S: Store>(
+pub(crate) fn decide_for_retailer<S: Store>(
     alloc: Global,
     register: &Register,
     store: &mut S,
@@ -251,9 +251,9 @@ pub(crate) fn judged_of_retailer<S: Store>(
 {
     let kind = message.kind.as_slice();
     if kind == b"ORDERS".as_slice() {
-        judged_order(alloc, register, store, message, incoming)
+        decide_order(alloc, register, store, message, incoming)
     } else if kind == b"RECADV".as_slice() {
-        judged_receipt(alloc, register, store, message, incoming)
+        decide_receipt(alloc, register, store, message, incoming)
     } else {
         Ok(Judged::Unread(MessageFault::MessageType))
     }
@@ -261,7 +261,7 @@ pub(crate) fn judged_of_retailer<S: Store>(
 
 /// Decides on a message of a supplier: an ORDRSP or a DESADV. Orders that are kept are not looked up again, and those
 /// that the message names are kept too; after a fault they may be forgotten.
-pub(crate) fn judged_of_supplier<S: Store>(
+pub(crate) fn decide_for_supplier<S: Store>(
     alloc: Global,
     register: &Register,
     supplier: &SupplierRow,
@@ -286,9 +286,9 @@ pub(crate) fn judged_of_supplier<S: Store>(
 {
     let kind = message.kind.as_slice();
     if kind == b"ORDRSP".as_slice() {
-        judged_response(alloc, register, supplier, store, message, incoming, orders)
+        decide_response(alloc, register, supplier, store, message, incoming, orders)
     } else if kind == b"DESADV".as_slice() {
-        judged_despatch(alloc, register, supplier, store, message, incoming, orders)
+        decide_despatch(alloc, register, supplier, store, message, incoming, orders)
     } else {
         Ok(Judged::Unread(MessageFault::MessageType))
     }

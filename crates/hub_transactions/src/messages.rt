@@ -16,7 +16,7 @@ ghost use Rattle.hub_acts.specs.HubTexts.Decision.{told_of};
 
 use crate::carrying::{carry_out_judged, told_of_judged};
 use crate::incoming::incoming_of;
-use crate::judged::{Judged, judged_of_retailer, judged_of_supplier};
+use crate::judged::{Judged, decide_for_retailer, decide_for_supplier};
 use crate::keeping::follow_message;
 use edi_envelope::{Interchange, Moment, RawMessage};
 use hub_acts::texts::{Decision, STOPPED, message_line};
@@ -79,7 +79,7 @@ pub fn take_retailers_message<S: Store>(
     ensures reply { AddsLine message.now reply.old reply.new result }
 {
     let came = incoming_of(alloc, moment, interchange, message)?;
-    let judged = judged_of_retailer(alloc, register, store, message, came)?;
+    let judged = decide_for_retailer(alloc, register, store, message, came)?;
     commit_and_report(alloc, store, message, &judged, reply)
 }
 
@@ -113,7 +113,7 @@ pub fn take_suppliers_message<S: Store>(
     ensures reply { AddsLine message.now reply.old reply.new result }
 {
     let came = incoming_of(alloc, moment, interchange, message)?;
-    let judged = judged_of_supplier(alloc, register, supplier, store, message, came, orders)?;
+    let judged = decide_for_supplier(alloc, register, supplier, store, message, came, orders)?;
     let told = commit_and_report(alloc, store, message, &judged, reply);
     follow_message(&judged, orders);
     told

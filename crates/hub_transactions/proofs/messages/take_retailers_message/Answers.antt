@@ -19,7 +19,7 @@ returns-clause-carried g c = λ hub rise.
     let came = incoming c.args.moment c.args.interchange.now message in
     let t = g.S.Store.content c.args.store.now in
     after_looking g.S.Store c.args.store.now
-    c.judged_of_retailer.new.store c.commit_and_report.new.store
+    c.decide_for_retailer.new.store c.commit_and_report.new.store
     (deliver_named register (message, came)) (act_of c.in_ok-judged.judged) told_of (JudgedFits c.in_ok-judged.judged)
     c.in_ok-judged.ensures.stays c.commit_and_report.ensures.unharmed.was_honest
     (λ honest. ap (λ one. deliver_named register (message, one) t) (sym c.in_ok-came.ensures)
@@ -33,7 +33,7 @@ returns-clause-fails g c =
     let message = c.args.message.now in
     let came = incoming c.args.moment c.args.interchange.now message in
     let old = g.S.Store.broken c.args.store.now in
-    let middle = g.S.Store.broken c.judged_of_retailer.new.store in
+    let middle = g.S.Store.broken c.decide_for_retailer.new.store in
     let judged = c.in_ok-judged.judged in
     after_judging g.S.Store.plain ⊥ ⊥ old middle (g.S.Store.broken c.commit_and_report.new.store)
     (deliver_named register (message, came)) judged
@@ -47,7 +47,7 @@ pub returns-clause-clean : goal.returns-clause-clean
 returns-clause-clean g c = λ here rise within.
     let message = c.args.message.now in
     clean_after_looking g.S.Store c.args.store.now
-    c.judged_of_retailer.new.store c.commit_and_report.new.store
+    c.decide_for_retailer.new.store c.commit_and_report.new.store
     c.in_ok-judged.ensures.stays c.commit_and_report.ensures.unharmed.was_honest c.in_ok-judged.ensures.fails.after
     (JudgedFits c.in_ok-judged.judged) (JudgedClean c.in_ok-judged.judged)
     (λ honest. c.in_ok-judged.ensures.judged.fit honest here rise)
@@ -60,6 +60,6 @@ returns-in_err-judged-clause-clean g c = λ here rise within.
     let message = c.args.message.now in
     let fault = c.in_err-judged.field-0.0 in
     let is : c.from_residual-in_err-judged.result ≡ Err fault = search rules in
-    failed_stays g.S.Store c.args.store.now c.judged_of_retailer.new.store ⊥ (λ no. no) fault
+    failed_stays g.S.Store c.args.store.now c.decide_for_retailer.new.store ⊥ (λ no. no) fault
     (c.in_err-judged.ensures.clean here (subst (WithinMessage message) (sym c.in_ok-came.ensures) within)).never
     c.from_residual-in_err-judged.result is c.in_err-judged.ensures.stays.content_stays

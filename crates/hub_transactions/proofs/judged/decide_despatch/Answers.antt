@@ -22,7 +22,7 @@ use Rattle.hub_acts.proofs.HubClean.Verdicts.{despatch_clean}
 use Rattle.hub_transactions.proofs.Judging.{failed_clean}
 use Rattle.hub_transactions.proofs.Fitted.{verdict_fits}
 use Rattle.hub_transactions.proofs.Reading.{act_of_read, act_refused}
-use Rattle.hub_transactions.proofs.judged.judged_despatch.Goals as goal
+use Rattle.hub_transactions.proofs.judged.decide_despatch.Goals as goal
 
 pub returns-clause-judged : goal.returns-clause-judged
 returns-clause-judged g c = λ old. record {

@@ -4,7 +4,7 @@ use Rattle.hub_parties.specs.Rows.{IsRegister}
 use Rattle.hub_register.specs.Joined.{joined_by, left_by}
 use Rattle.hub_store.specs.Clean.{are_clean}
 use Rattle.hub_clean.proofs.Verdicts.{row_there}
-use Rattle.hub_acts.proofs.join.let_in.Goals as goal
+use Rattle.hub_acts.proofs.join.add_supplier.Goals as goal
 
 -- it leaves as it came
 pub leave-requires : goal.leave-requires

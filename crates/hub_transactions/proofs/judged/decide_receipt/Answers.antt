@@ -19,7 +19,7 @@ use Rattle.hub_acts.proofs.HubClean.Verdicts.{receipt_clean}
 use Rattle.hub_transactions.proofs.Fitted.{named_fits, refused_fits}
 use Rattle.hub_acts.proofs.HubClean.Names.{receipt_names}
 use Rattle.hub_transactions.proofs.Reading.{act_of_read}
-use Rattle.hub_transactions.proofs.judged.judged_receipt.Goals as goal
+use Rattle.hub_transactions.proofs.judged.decide_receipt.Goals as goal
 
 pub returns-clause-judged : goal.returns-clause-judged
 returns-clause-judged g c = record {

@@ -23,7 +23,7 @@ use Rattle.hub_acts.proofs.HubClean.Verdicts.{response_clean}
 use Rattle.hub_transactions.proofs.Judging.{failed_clean}
 use Rattle.hub_transactions.proofs.Fitted.{verdict_fits}
 use Rattle.hub_transactions.proofs.Reading.{act_of_read, act_refused}
-use Rattle.hub_transactions.proofs.judged.judged_response.Goals as goal
+use Rattle.hub_transactions.proofs.judged.decide_response.Goals as goal
 
 pub returns-clause-judged : goal.returns-clause-judged
 returns-clause-judged g c = λ old. record {
