@@ -24,7 +24,8 @@ pub fn query<S: Alter>(
         (bound params.now) (state S.Store conn.old) (state S.Store conn.new) result }
     ensures fails { IfErr result (λ fault. (fault ≡ StoreFault.Memory) ⊎ (fault ≡ StoreFault.Disk)) }
 {
-    let _ = conn.is_autocommit();
+    // This contract says whether a transaction is open.
+    let _was_idle = conn.is_autocommit();
     match conn.query_all(text, params) {
         Ok(rows) => Ok(rows),
         Err(error) => Err(fault_by(&error)),

@@ -80,7 +80,7 @@ fn over_sql(rt: &HostRuntime) -> Result<(), ScriptFault> {
     over_tables::<MemStore, InMemory>(rt, InMemory)
 }
 
-// Runs it on SQL tables, wherever they are kept.
+// Runs the script on SQL tables, wherever they are kept.
 fn over_tables<A: Alter + Drop, O: Opener<SqliteStore<A>>>(
     rt: &HostRuntime,
     opener: O,
@@ -109,7 +109,7 @@ fn over_stopping<D: Stopping>(
     )
 }
 
-// Runs it on files of which one stops after this many calls. The database file holds these bytes at first.
+// Runs the script on files of which one stops after this many calls. The database file holds these bytes at first.
 fn over_stopped(
     rt: &HostRuntime,
     word: &str,
@@ -130,7 +130,7 @@ fn bytes_of(rt: &HostRuntime, path: &str) -> Result<Vec<u8>, ScriptFault> {
     Ok(read_to_limit(rt.alloc(), &mut OfRead::new(file), SCRIPT_LIMIT)?)
 }
 
-// Runs it on the store that the arguments name.
+// Runs the script on the store that the arguments name.
 fn over_named(rt: &HostRuntime, words: &[String]) -> Result<(), ScriptFault> {
     match words {
         [] | [_] => over_lists(rt),
