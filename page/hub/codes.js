@@ -12,8 +12,8 @@ export const CODES = {
   },
   E02: {
     meaning: "The service string (UNA) at the beginning is wrong or cut off.",
-    cause: "The sender's program uses one character for two separators, or one that is not allowed.",
-    remedy: "Set it to the usual separators, which are : + . ? and the apostrophe.",
+    cause: "The sender's program uses one character for two separators, or a wrong one.",
+    remedy: "Use the usual separators: + . ? and the apostrophe.",
   },
   E03: {
     meaning: "The file has a character that is not allowed in an interchange.",
@@ -28,7 +28,7 @@ export const CODES = {
   E05: {
     meaning: "The file has something other than a segment's tag where one has to be.",
     cause: "It is not an EDIFACT file, or a text has an apostrophe without a release character.",
-    remedy: "Check that it is the right file, and write each apostrophe in a text as ?'.",
+    remedy: "Send the right file, and write each apostrophe in a text as ?'.",
   },
   E06: {
     meaning: "The file does not begin with UNB and end with UNZ, or has one of them twice.",
@@ -37,27 +37,27 @@ export const CODES = {
   },
   E07: {
     meaning: "The header (UNB) is wrong: its syntax, sender, recipient, date, time or reference.",
-    cause: "The sender's program is set to another syntax, version or qualifier.",
-    remedy: "Set it to UNOC and version 3, with GLN and qualifier 14 for sender and recipient.",
+    cause: "The sender's program has another syntax, version or qualifier.",
+    remedy: "Set it to UNOC and version 3, and qualifier 14 for both GLNs.",
   },
   E08: {
     meaning: "The sender in the file is not the company that is signed in.",
-    cause: "The file is another company's, or the sender's program has the wrong GLN for it.",
+    cause: "The file is another company's, or the sender's program has a wrong GLN.",
     remedy: "Sign in as the sender, or correct the sender in UNB.",
   },
   E09: {
     meaning: "The recipient in the file is not this hub.",
     cause: "The sender's program has the wrong GLN for the hub.",
-    remedy: "Correct the recipient in UNB: the hub's GLN; a supplier may also give the retailer's.",
+    remedy: "Give the hub's GLN; a supplier may also give the retailer's.",
   },
   E10: {
     meaning: "The messages are not each one UNH, its segments and one UNT.",
-    cause: "A UNH or UNT is missing, or the sender's program writes functional groups (UNG and UNE).",
+    cause: "A UNH or UNT is missing, or there are groups (UNG and UNE).",
     remedy: "Write the file again, without groups.",
   },
   E11: {
     meaning: "A message's header (UNH) is wrong, or the count in its UNT is not a number.",
-    cause: "The message reference is missing or longer than 14 characters, or the type is incomplete.",
+    cause: "The message reference is missing or too long, or the type is incomplete.",
     remedy: "Correct UNH: a reference, and a type such as ORDRSP:D:01B:UN.",
   },
   E12: {
@@ -88,7 +88,7 @@ export const CODES = {
   E17: {
     meaning: "The file is marked as a test, and the hub takes no tests.",
     cause: "The sender's program is still set to testing.",
-    remedy: "Leave the test indicator out, and send the file again.",
+    remedy: "Leave the test indicator out.",
   },
   E18: {
     meaning: "The file has more than 999 messages.",
@@ -107,22 +107,22 @@ export const CODES = {
   },
   M01: {
     meaning: "The hub does not take this type of message, or not from this side.",
-    cause: "The other side sends such messages, or the sender's program writes another version than D.01B.",
-    remedy: "The retailer sends ORDERS and RECADV, a supplier ORDRSP and DESADV, each as D:01B:UN.",
+    cause: "The other side sends such messages, or the version is not D.01B.",
+    remedy: "The retailer sends ORDERS and RECADV, a supplier ORDRSP and DESADV, as D:01B:UN.",
   },
   M02: {
     meaning: "The beginning (BGM) or the document number is wrong.",
-    cause: "The document number is missing, longer than 35 characters, or has an umlaut or an accent.",
+    cause: "The document number is missing, too long, or has an umlaut or an accent.",
     remedy: "Give it 1 to 35 plain letters, digits or signs.",
   },
   M03: {
     meaning: "The hub does not take this function of a message.",
     cause: "The sender's program sends a copy, a change or a cancellation.",
-    remedy: "Send originals (function 9). An answer may also have 4, 27 or 29, a receipt 5.",
+    remedy: "Send function 9; an answer may also have 4, 27 or 29, a receipt 5.",
   },
   M04: {
     meaning: "The document date is missing, there are two, or it is not a date.",
-    cause: "The sender's program writes another format, or a day that does not exist.",
+    cause: "Another format is written, or a day that does not exist.",
     remedy: "Give exactly one date (DTM 137), in format 102 or 203.",
   },
   M05: {
@@ -137,18 +137,18 @@ export const CODES = {
   },
   M07: {
     meaning: "A line is wrong: its number, its article or its answer.",
-    cause: "The check digit of a GTIN is wrong, or a company's own article number is given instead.",
+    cause: "The GTIN's check digit is wrong, or it is a company's own article number.",
     remedy: "Give each line its number and the GTIN of its article.",
   },
   M08: {
     meaning: "A quantity is missing, there are two, or it is not valid.",
-    cause: "It is not a whole number, not in pieces, or zero in an order or a despatch.",
+    cause: "It is not a whole number, not in pieces, or zero.",
     remedy: "Give each quantity once, in whole pieces, at most 999,999,999.",
   },
   M09: {
     meaning: "The reference to an order is missing or wrong.",
-    cause: "The sender's program leaves the order number out, or an answer names two orders.",
-    remedy: "Give the order's number (RFF+ON) as it is in the order; answer each order by itself.",
+    cause: "The order number is left out, or an answer names two orders.",
+    remedy: "Give the order's number (RFF+ON); answer each order by itself.",
   },
   M10: {
     meaning: "A pallet is wrong: its SSCC is missing or not valid, or two pallets have it.",
@@ -158,12 +158,12 @@ export const CODES = {
   M11: {
     meaning: "The count of lines (CNT+2) is wrong.",
     cause: "A line is missing, or the sender's program counts something else.",
-    remedy: "Write the message again; the count may also be left out.",
+    remedy: "Write the message again, perhaps without the count.",
   },
   M12: {
     meaning: "The message has no line.",
     cause: "The document was still empty.",
-    remedy: "Send at least one line; only an answer to a whole order (function 27 or 29) needs none.",
+    remedy: "Send at least one line, except with function 27 or 29.",
   },
   B01: {
     meaning: "The buyer in the message is not this hub's retailer.",
@@ -172,7 +172,7 @@ export const CODES = {
   },
   B02: {
     meaning: "The supplier is not registered in the hub, or is not the one that is signed in.",
-    cause: "The GLN is wrong, or the retailer has not registered the supplier yet.",
+    cause: "The GLN is wrong, or the supplier is not registered yet.",
     remedy: "Check the GLN. Once the supplier is registered, send the message again.",
   },
   B03: {
@@ -182,17 +182,17 @@ export const CODES = {
   },
   B04: {
     meaning: "The supplier already has an order of this number.",
-    cause: "The order was sent before, or its number was used for another one.",
+    cause: "The order was sent before, or its number was used again.",
     remedy: "If it is a new order, give it another number.",
   },
   B05: {
     meaning: "The supplier has no such order.",
-    cause: "The order number is mistyped, or is the supplier's own number for it.",
+    cause: "The order number is mistyped, or is the supplier's own.",
     remedy: "Give the number as it is in the order.",
   },
   B06: {
     meaning: "The order has no such line, or it is not clear which line is meant.",
-    cause: "The line number is wrong; or it is missing, and the article is on no line or on several.",
+    cause: "The line number is wrong; or it is missing, and the article is on no line or several.",
     remedy: "Give the line's number as it is in the order.",
   },
   B07: {
@@ -218,16 +218,16 @@ export const CODES = {
   B11: {
     meaning: "The SSCC is under none of the supplier's company prefixes.",
     cause: "The SSCC is another company's, or the prefix is not registered.",
-    remedy: "Use the prefix that GS1 gave you, and ask the retailer which are registered.",
+    remedy: "Use your GS1 prefix, and ask the retailer which are registered.",
   },
   B12: {
     meaning: "The SSCC was used before.",
-    cause: "The despatch was sent before, or the sender's program began its serial numbers again.",
+    cause: "The despatch was sent before, or serial numbers began again.",
     remedy: "Take a new one: an SSCC is used only once.",
   },
   B13: {
     meaning: "The supplier has sent a despatch advice of this number before.",
-    cause: "The despatch was sent before, or its number was used for another one.",
+    cause: "The despatch was sent before, or its number was used again.",
     remedy: "If it is a new despatch, give it another number.",
   },
   B14: {

@@ -336,7 +336,7 @@ JOURNAL = {"before": f"printf '%s\\n' '{REFUSED}' '{LISTED}' '{TIMED_OUT}' > jou
 BLOCKS = {
     "README.md": {"UNH+1": "an order", "UNB+UNOC:3": "its mail", "make try": looked_up},
     "docs/ARCHITECTURE.md": {"doors ": PICTURE},
-    "docs/CONTRIBUTING.md": {"grep -rn 'MailboxFull'": looked_up, "grep -rn 'WithoutLines'": looked_up},
+    "docs/CONTRIBUTING.md": {"grep -rn 'MailboxFull'": looked_up},
     "docs/FORMATS.md": {"UNA:": "the form of mail", "service component": shown_lines},
     "docs/INSTALL.md": {
         "make edihub": looked_up,
@@ -356,7 +356,6 @@ BLOCKS = {
         "join: accepted": "what the script prints",
         "edihub check": Run(prints=told(TWO, TWO), says=(TWO,)),
         "cp -p hub.db": Run(**OLD, prints=told(TWO, TWO), says=(TWO,), leaves={"hub.db.before": text_of(OLD_FILE)}),
-        "sqlite3 hub.db 'SELECT": Run(**OLD, prints=told(ALPHA, f"{ALPHA}|{PALLET}", f"{ALPHA}|{OTHER_PALLET}")),
         "umask 077\ncat": Run(instead={f"cat > {it}.key": f"echo {KEYS[gln]} > {it}.key" for it, gln in KEPT.items()}),
         "umask 077\nhead -c 18 /dev/urandom | base64 > gamma.key": Run(prints=told("accepted"), says=("accepted",)),
         "umask 077\nhead -c 18 /dev/urandom | base64 > alpha-new.key": Run(FOUND, True, prints=told("ok"), says=("ok",)),
@@ -365,7 +364,6 @@ BLOCKS = {
         "grep -E '^[^ ]+": Run(**JOURNAL, prints=told(TIMED_OUT)),
         "python3 feed.py": Run(served=True, prints=told("done 1.edi", "done 2.edi"), says=("done 1.edi",), leaves=FED),
         "python3 apart.py": Run(prints=told(HUBS), says=(HUBS,)),
-        "kill -STOP PID": Run("mkdir backup", served=True, prints="", then="cmp hub.db backup/hub.db; cmp hub.db-wal backup/hub.db-wal"),
         "sh backup.sh PID": Run("mkdir new", served=True, instead={"/var/backups/edihub": "new"}, then="mv PRINTED copy"),
         "edihub status --db copy": Run(prints=STATUS + told("ok")),
         "sqlite3 hub.db 'PRAGMA": Run(prints=told("ok", "128576|1|48|14|C")),
@@ -373,13 +371,9 @@ BLOCKS = {
     "docs/PAGE.md": {"root /srv": NGINX, "GLN;Name": "a list of suppliers", "location = /suppliers.csv": NGINX},
     "docs/PROMISES.md": {
         "pub fn step": quoted("crates", "hub_core", "src", "hub.rt"),
-        "pub record AnswersInput": quoted("crates", "hub_core", "specs", "Hub.antt"),
-        "SteppedOver old": quoted("crates", "hub_core", "specs", "Hub.antt"),
         "pub record Stepped": quoted("crates", "hub_core", "specs", "Steps.antt"),
         "ghost content": quoted("crates", "hub_store", "src", "store.rt"),
         "fn pallet": quoted("crates", "hub_store", "src", "store.rt"),
-        "fn commit": quoted("crates", "hub_store", "src", "store.rt"),
-        "pub done": quoted("crates", "hub_store", "specs", "Calls.antt"),
     },
     "docs/REGISTER.md": {"hub = ": a_register, "edihub check": Run(prints=told(TWO))},
     "docs/SERVING.md": {
@@ -396,13 +390,10 @@ BLOCKS = {
         f"HUB=http://127.0.0.1:8080/p/{RETAILER}": Run(FOUND_WITH_HEADER, True, True, prints=UPLOADED),
         f"GET /p/{ALPHA}/mail/after/0": exchanged,
         f"GET /p/{ALPHA}/mail/item/1": exchanged,
-        f"POST /p/{ALPHA}/mail/item/1/taken": exchanged,
         f"POST /p/{ALPHA}/interchanges HTTP/1.1\nContent-Length: 297": exchanged,
         f"POST /p/{ALPHA}/interchanges HTTP/1.1\nContent-Length: 398": exchanged,
         f"GET /p/{ALPHA}/status": exchanged,
         "interchange A1": partly_refused,
-        f"POST /p/{RETAILER}/cancellations": exchanged,
-        f"GET /p/{RETAILER}/status": exchanged,
     },
     "docs/TESTING.md": {"file: src/answers.rt": "an edit"},
 }
