@@ -6,8 +6,7 @@ use crate::tell;
 use edi_base::exit::FAILED;
 use edi_base::{OfWrite, write_bytes};
 use hub_app::VerifyWords;
-use hub_audit::{Audit, check_database, report_status, report_text};
-use hub_sql::open_file;
+use hub_audit::{Audit, check_file, report_status, report_text};
 use hub_store::StoreFault;
 use sqlite_disk::{Start, Unknown};
 use std::fs;
@@ -17,8 +16,7 @@ fn audit_file<S: Start>(rt: &HostRuntime, path: &str, start: S) -> Result<Audit,
     if is_missing(rt, path) {
         return Err(StoreFault::Version);
     }
-    let conn = open_file(rt, path, start).map_err(|(fault, _left)| fault)?;
-    let (audit, _conn) = check_database(rt.alloc(), conn)?;
+    let (audit, _conn) = check_file(rt, path, start)?;
     Ok(audit)
 }
 
