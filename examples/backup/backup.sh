@@ -45,14 +45,15 @@ mark_of_halted() {
     grep ctxt_switches "/proc/$pid/status"
 }
 
-# Whether the program can open a copy, which reads all of it. No party has an empty key, so the answer is `denied` if it can. Opening
-# changes the files, so it opens a copy of the copy. Once the program has the command, this line is enough:
-#     edihub verify --db "$1/${file##*/}"
+# Whether the rows of a copy are a sound start. The program reads them all, and moves the log into the file, so it gets a copy of the copy.
 is_sound() {
     cp -R "$1" "$made.check" || return 1
-    answer=$(edihub status --db "$made.check/${file##*/}" --as 0000000000000 --key-file /dev/null) || test $? -eq 1 || return 1
+    answer=$(edihub verify --db "$made.check/${file##*/}") || {
+        test -z "$answer" || echo "backup.sh: $answer" >&2
+        return 1
+    }
     rm -r "$made.check"
-    test "$answer" = denied
+    case $answer in ok*) ;; *) return 1 ;; esac
 }
 
 # Deletes the oldest copies until KEEP are left, but never the new one, which is first if the clock was set back.
@@ -115,7 +116,7 @@ kill -CONT "$pid"
 halt=
 
 sync "$made.part"/* "$made.part"
-is_sound "$made.part" || fail "the program cannot open the copy: look at $file, and keep the older copies"
+is_sound "$made.part" || fail "the copy is not sound: look at $file, and keep the older copies"
 mv "$made.part" "$made"
 sync "$folder"
 trap - EXIT

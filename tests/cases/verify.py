@@ -41,10 +41,19 @@ def damaged(why, line, *changes):
     return verified(f"verify: {why}", data, told(line), 1)
 
 
-# the name of each case, what is printed, and the statements that damaged the rows
+def blob(text):
+    return f"CAST('{text}' AS BLOB)"
+
+
+def receipt_of(article):
+    """A statement that puts a receipt of the announced pallet."""
+    return f"INSERT INTO receipt VALUES ({blob(PALLET)}, {blob(article)}, 12, 0, 0)"
+
+
+# the name of each case, what is printed, and the statement that damages the rows
 UNCLEAN = [
     ("a key of 65 bytes", f"hub {HUB}", "UPDATE hub SET \"key\" = zeroblob(65)"),
-    ("a key of 7 bytes", f"supplier {ALPHA}", f"UPDATE supplier SET \"key\" = x'61626364656667' WHERE supplier = CAST('{ALPHA}' AS BLOB)"),
+    ("a key of 7 bytes", f"supplier {ALPHA}", f"UPDATE supplier SET \"key\" = x'61626364656667' WHERE supplier = {blob(ALPHA)}"),
     ("a prefix of 3 digits", "prefix 401", "UPDATE prefix SET prefix = CAST('401' AS BLOB) WHERE prefix = CAST('40123455' AS BLOB)"),
     ("a text in the place of a GLN", "order nobody 128576", "UPDATE \"order\" SET supplier = CAST('nobody' AS BLOB)"),
     ("less than nothing open", f"line {ALPHA} 128576 1", "UPDATE line SET open_qty = -1"),
@@ -57,7 +66,7 @@ UNCLEAN = [
     ("a check digit that is wrong", "pallet 340123450000000013", "UPDATE pallet SET sscc = CAST('340123450000000013' AS BLOB)"),
     ("a pallet neither announced nor received", f"pallet {PALLET}", "UPDATE pallet SET received = 3"),
     ("a place of zero", f"content {PALLET} 0", "UPDATE content SET place = 0"),
-    ("an article of 13 digits", f"receipt {PALLET} {ITEM[1:]}", f"INSERT INTO receipt VALUES (CAST('{PALLET}' AS BLOB), CAST('{ITEM[1:]}' AS BLOB), 1, 0, 0)"),
+    ("an article of 13 digits", f"receipt {PALLET} {ITEM[1:]}", receipt_of(ITEM[1:])),
     ("a message of no side", f"remembered {ALPHA} 88 1001 1", "UPDATE remembered SET side = 88 WHERE side = 82"),
     ("a cancellation with a message reference", f"remembered {ALPHA} 67 1001 1", "UPDATE remembered SET side = 67 WHERE side = 82"),
     ("an entry with another decimal mark", f"mail {ALPHA} 1", "UPDATE mail SET decimal = 45"),
@@ -65,12 +74,12 @@ UNCLEAN = [
 ]
 UNSOUND = [
     ("no register", "hub", "DELETE FROM hub"),
-    ("a prefix that begins another's", "hub", f"INSERT INTO prefix VALUES (CAST('4012' AS BLOB), CAST('{BETA}' AS BLOB))"),
+    ("a prefix that begins another's", "hub", f"INSERT INTO prefix VALUES (CAST('4012' AS BLOB), {blob(BETA)})"),
     ("a prefix of nobody", "hub", "INSERT INTO prefix VALUES (CAST('7612345' AS BLOB), CAST('7612345000008' AS BLOB))"),
-    ("a pallet under another's prefix", f"pallet {PALLET}", f"UPDATE pallet SET supplier = CAST('{BETA}' AS BLOB)"),
+    ("a pallet under another's prefix", f"pallet {PALLET}", f"UPDATE pallet SET supplier = {blob(BETA)}"),
     ("a line without its order", f"line {ALPHA} 128576 1", "DELETE FROM \"order\""),
     ("contents without their pallet", f"content {PALLET} 1", "DELETE FROM pallet"),
-    ("a receipt of an announced pallet", f"receipt {PALLET} {ITEM}", f"INSERT INTO receipt VALUES (CAST('{PALLET}' AS BLOB), CAST('{ITEM}' AS BLOB), 12, 0, 0)"),
+    ("a receipt of an announced pallet", f"receipt {PALLET} {ITEM}", receipt_of(ITEM)),
     ("a gap in a mailbox", f"mail {ALPHA} 2", "UPDATE mail SET number = 2"),
     ("contents that exceed a line", f"line {ALPHA} 128576 1", "UPDATE content SET quantity = 13"),
     ("contents without their line", f"content {PALLET} 1", "UPDATE content SET line = 2"),
@@ -114,6 +123,10 @@ def of_sound_files():
     ]
 
 
+def has_no_file(folder):
+    return "a file was made" if NAME in os.listdir(folder) else None
+
+
 def of_other_files():
     """Files of earlier schemas, and such as hold no hub."""
     first, second = older_file("schema1_received")[0], older_file("schema2_received")[0]
@@ -129,7 +142,7 @@ def of_other_files():
         verified("verify: a file of schema 1", empty, told("schema 1"), 1),
         verified("verify: a file of schema 1 with its pallets", first, told("schema 1"), 1),
         verified("verify: a file of schema 2", second, told("schema 2"), 1),
-        steps("verify: no file", step(VERIFY, "", 3, "store version\n", after=lambda folder: "a file was made" if NAME in os.listdir(folder) else None)),
+        steps("verify: no file", step(VERIFY, "", 3, "store version\n", after=has_no_file)),
         steps("verify: a folder that is not there", step(["verify", "--db", "none/hub.db"], "", 3, "store disk\n")),
         *(verified(f"verify: {name}", data, "", 3, error) for name, data, error in nothing),
     ]

@@ -55,7 +55,7 @@ class Stage:
             os.mkdir(it)
         self.child = subprocess.Popen([sys.executable, "-c", WRITER, self.file, f"{self.file}-wal"], stdout=subprocess.PIPE)
         self.child.stdout.readline()
-        for name, text in {"edihub": "echo denied; exit 1", **instead}.items():
+        for name, text in {"edihub": "echo ok", **instead}.items():
             self.put(name, text)
 
     def put(self, name, text):
@@ -258,7 +258,7 @@ def older_copies(_program, top):
     old = [f"2020010{k}T000000.000000000Z" for k in range(1, 5)]
     with Stage(top) as stage:
         copied_to(stage, *old)
-        for answer, status in (("echo denied; exit 1", 0), ("echo 'store disk' >&2; exit 3", 1), ("exit 0", 1)):
+        for answer, status in (("echo ok", 0), ("echo 'unsound hub'; exit 1", 1), ("echo 'store disk' >&2; exit 3", 1), ("exit 0", 1)):
             stage.put("edihub", answer)
             before = set(os.listdir(stage.copies))
             found, here = stage.backed_up(more=["3"])[0], set(os.listdir(stage.copies))
@@ -318,7 +318,7 @@ def other_users(_program, top):
     if os.getuid():
         return None
     script, file, copies = shutil.copy(BACKUP, top), os.path.join(top, NAME), os.path.join(top, "copies")
-    put(top, {NAME: "1", LOG: "1", "programs/edihub": "#!/bin/sh\necho denied\nexit 1\n"})
+    put(top, {NAME: "1", LOG: "1", "programs/edihub": "#!/bin/sh\necho ok\n"})
     os.chmod(os.path.join(top, "programs", "edihub"), 0o755)
     os.mkdir(copies)
     for it in (top, file, f"{file}-wal", copies):
