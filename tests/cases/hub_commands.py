@@ -2,7 +2,7 @@
 import os
 import re
 
-from tests.cases import hub_files, key_files, rekey, usage
+from tests.cases import hub_files, key_files, rekey, unopened, usage
 from tests.cases.corrections import CORRECTED, CORRECTION, FOURTH_MAIL, TWELVE, corrected
 from tests.cases.registers import REGISTERS
 from tests.harness import database_files, hub_scripts
@@ -485,4 +485,5 @@ COMMANDS = [
     *key_files.CASES,
     *rekey.CASES,
     *usage.CASES,
+    *unopened.CASES,
 ]

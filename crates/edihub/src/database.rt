@@ -7,16 +7,15 @@ use crate::keys::Asked;
 use crate::serve::serve_over;
 use crate::tasks::obey;
 use crate::tell;
+use crate::unopened::fault_at;
 use edi_base::exit::FAILED;
 use hub_app::ServeWords;
 use hub_commands::Hub;
 use hub_sql::SqliteStore;
-use hub_store::StoreFault;
 use sqlite::Alter;
 use sqlite_disk::{Start, Unknown};
 use sqlite_std_file::FileFrom;
 use sqlite_store::FileStore;
-use std::path::Path;
 
 /// What to do with the hub.
 #[derive(Drop)]
@@ -33,16 +32,6 @@ fn db_of<'a>(work: &Work<'a>) -> &'a str {
         Work::Command(asked) => asked.db,
         Work::Serve(words) => words.db,
     }
-}
-
-/// Whether a file can be opened in the folder of a path, and does not exist. Opening it would make one.
-pub(crate) fn is_missing(rt: &HostRuntime, path: &str) -> bool {
-    let path = Path::new(path);
-    let folder = match path.parent() {
-        Some(folder) if folder.as_str() != "" => folder,
-        _ => Path::new("."),
-    };
-    folder.is_dir(rt) && matches!(path.try_exists(rt), Ok(false))
 }
 
 // Does the work over the hub in these tables, and gives them back, even if nothing was done.
@@ -69,8 +58,8 @@ fn over_tables<A: Alter + Drop>(
 // what was accepted is kept. No file is made: only `init` founds a hub.
 fn over_file<S: Start>(rt: &HostRuntime, work: Work<'_>, start: S) -> Result<u8, BeginFault> {
     let db = db_of(&work);
-    if is_missing(rt, db) {
-        return Err(BeginFault::Store(StoreFault::Version));
+    if let Some(fault) = fault_at(rt, db) {
+        return Err(BeginFault::Store(fault));
     }
     let tables = SqliteStore::at_path(rt, db, start).map_err(|(fault, _left)| fault)?;
     let (status, tables) = over_tables::<FileStore<FileFrom<S>>>(rt, tables, work);

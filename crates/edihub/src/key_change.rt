@@ -1,9 +1,9 @@
 //! Changes the key of one party.
-use crate::database::is_missing;
 use crate::fault::BeginFault;
 use crate::keys::key_at;
 use crate::tasks::written;
 use crate::tell;
+use crate::unopened::fault_at;
 use edi_base::OfWrite;
 use edi_base::exit::FAILED;
 use hub_app::RekeyWords;
@@ -24,8 +24,8 @@ fn rekey_file<S: Start>(
     key: Key,
     start: S,
 ) -> Result<Rekeyed, StoreFault> {
-    if is_missing(rt, path) {
-        return Err(StoreFault::Version);
+    if let Some(fault) = fault_at(rt, path) {
+        return Err(fault);
     }
     let mut tables = SqliteStore::<FileStore<FileFrom<S>>>::at_path(rt, path, start).map_err(|(
         fault,

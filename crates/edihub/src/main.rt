@@ -10,6 +10,7 @@ mod keys;
 mod register;
 mod serve;
 mod tasks;
+mod unopened;
 mod verify;
 
 use clap::Error;

@@ -1,8 +1,8 @@
 //! Checking whether a database is a sound start.
-use crate::database::is_missing;
 use crate::fault::BeginFault;
 use crate::tasks::written;
 use crate::tell;
+use crate::unopened::fault_at;
 use edi_base::exit::FAILED;
 use edi_base::{OfWrite, write_bytes};
 use hub_app::VerifyWords;
@@ -13,8 +13,8 @@ use std::fs;
 
 // Reads all that is in the database file. No file is made, and no row is changed.
 fn audit_file<S: Start>(rt: &HostRuntime, path: &str, start: S) -> Result<Audit, StoreFault> {
-    if is_missing(rt, path) {
-        return Err(StoreFault::Version);
+    if let Some(fault) = fault_at(rt, path) {
+        return Err(fault);
     }
     let (audit, _conn) = check_file(rt, path, start)?;
     Ok(audit)
