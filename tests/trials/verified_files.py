@@ -1,4 +1,4 @@
-"""Trials of `verify`: with each allocation refused in turn, while another program has the file, and of a copy with its log."""
+"""Trials of `verify`: with allocations refused in turn, while another program has the file, and of a copy with its log."""
 import os
 import shutil
 import signal
@@ -15,8 +15,8 @@ from tests.harness.shims import REFUSE, built
 
 # how it says that memory ran out
 OUT_OF_MEMORY = {(3, b"", b"memory\n"), (3, b"", b"store memory\n")}
-# the fewest allocations of a run
-FEWEST = 100
+# the fewest allocations of a run, and about how many of them are refused
+FEWEST, MOST = 100, 600
 
 
 def run(program, folder, words=VERIFY, **variables):
@@ -40,14 +40,15 @@ def refused(program):
             allocations = int(file.read())
         if allocations < FEWEST:
             return f"{allocations} allocations alone"
-        for number in range(1, allocations + 1):
+        turns = range(1, allocations + 1, max(1, allocations // MOST))
+        for number in turns:
             ran = run(program, folder, LD_PRELOAD=shim, REFUSE=str(number))
             if ran != right and ran not in OUT_OF_MEMORY:
                 return f"allocation {number} of {allocations} refused: {ran}"
             with open(path, "rb") as file:
                 if file.read() != data:
                     return f"allocation {number} of {allocations} refused: the file changed"
-        print(f"verify with each of {allocations} allocations refused")
+        print(f"verify with {len(turns)} of {allocations} allocations refused")
     return None
 
 
