@@ -4,10 +4,12 @@
 import { phrases } from "../language.js";
 import { numberInWords } from "./order_number.js";
 
-/** What is sent.
- * @param {{ order: string, line: number | string, quantity: number | string }} cancellation */
-export const cancellationInWords = ({ order, line, quantity }) =>
-  phrases.cancellationWords.yours(quantity, numberInWords(order), line);
+/** What is sent, or typed and not complete yet: a number that is missing is NaN.
+ * @param {{ order: string, line: number, quantity: number }} cancellation */
+export function cancellationInWords({ order, line, quantity }) {
+  const { yours, unfinished } = phrases.cancellationWords;
+  return order && line && quantity ? yours(quantity, numberInWords(order), line) : unfinished;
+}
 
 /** Several at once, such as `3 lines of 2 orders, 52 pieces in all`.
  * @param {{ order: string, quantity: number }[]} cancellations */

@@ -1,6 +1,7 @@
 // @ts-check
 // A cancellation: a quantity of an order line that is still open.
 
+import { gtinAsPrinted } from "../edi/identifiers.js";
 import { cancellationText } from "../hub/cancellation.js";
 import { phrases } from "../language.js";
 import { cancellationInWords } from "../parts/cancellation_words.js";
@@ -11,6 +12,8 @@ import { wrongGln } from "../parts/gln.js";
 import { documentNumber } from "../parts/order_number.js";
 import { sendingForm } from "../parts/sending_form.js";
 
+/** @typedef {import("../hub/replies.js").StatusLine} StatusLine */
+
 /** @type {Record<string, "supplier" | "order" | "line" | "quantity">} */
 const PLACES = { B02: "supplier", B05: "order", B06: "line", B17: "quantity" };
 
@@ -19,8 +22,8 @@ export async function cancelScreen(context, ...words) {
   const { session, go } = context;
   const [supplier = session.supplier, order = "", line = ""] = words;
   const wrong = supplier && wrongGln(supplier);
-  const open = supplier && order && !wrong ? await openOf(session, supplier, order, Number(line)) : null;
-  const hint = open === null ? phrases.cancel.atMostOpen : phrases.cancel.areOpen(open);
+  let known = supplier && order && !wrong ? await lineOf(session, supplier, order, Number(line)) : null;
+  const hint = known ? phrases.cancel.areOpen(gtinAsPrinted(known.gtin), known.open) : phrases.cancel.atMostOpen;
   const short = { inputmode: "numeric", class: "short" };
   const { supplier: ofSupplier, order: ofOrder, line: ofLine, quantity: ofQuantity } = phrases.cancel;
   const fields = {
@@ -35,12 +38,18 @@ export async function cancelScreen(context, ...words) {
   const form = await sendingForm({
     context,
     kind: "cancellation",
-    what: () => cancellationInWords({ order: fields.order.value, line: fields.line.trimmed, quantity: fields.quantity.trimmed }),
+    what: () => cancellationInWords(typedIn(fields)),
     noun: phrases.cancel.noun,
     draft: ["cancel", ...words].join("/"),
     content: all.map((it) => it.element),
     check: () => checked(fields, all),
-    summary: () => summaryOf(fields, open),
+    // what is typed may be another line than that of the address, and something may have changed since
+    look: async () => {
+      known = null;
+      const typed = typedIn(fields);
+      known = await lineOf(session, typed.supplier, typed.order, typed.line);
+    },
+    summary: () => summaryOf(fields, known),
     write: ({ reference }) => bodyOf(fields, reference),
     settled: ({ outcome, code }) => {
       if (outcome !== "refused") next.replaceChildren(nextSteps(fields.supplier.trimmed, go));
@@ -60,18 +69,29 @@ function nextSteps(supplier, go) {
   );
 }
 
-/** @param {Record<"supplier" | "order" | "line" | "quantity", Field>} fields @param {number | null} open
+/** What is typed; a number that is missing is NaN.
+ * @param {Record<"supplier" | "order" | "line" | "quantity", Field>} fields */
+const typedIn = ({ supplier, order, line, quantity }) => ({
+  supplier: supplier.trimmed,
+  order: order.value,
+  line: wholeNumber(line.value),
+  quantity: wholeNumber(quantity.value),
+});
+
+/** @param {Record<"supplier" | "order" | "line" | "quantity", Field>} fields @param {StatusLine | null} known the line, if it was found
  * @returns {import("../parts/summary.js").SummaryWords} */
-function summaryOf({ supplier, order, line, quantity }, open) {
-  const [ofLine, pieces] = [wholeNumber(line.value), wholeNumber(quantity.value)].map(figure);
-  const left = open === null ? "" : ` ${phrases.cancel.wereOpen(open)}`;
-  return { lead: [...phrases.cancel.lead(pieces, documentNumber(order.value), ofLine, supplier.trimmed), left] };
+function summaryOf(fields, known) {
+  const { supplier, order, line, quantity } = typedIn(fields);
+  const article = known ? gtinAsPrinted(known.gtin) : "";
+  const left = known ? ` ${phrases.cancel.nowOpen(known.open)}` : "";
+  return { lead: [...phrases.cancel.lead(quantity, article, documentNumber(order), figure(line), supplier), left] };
 }
 
-/** @param {import("../session.js").Session} session @param {string} supplier @param {string} order @param {number} line */
-async function openOf(session, supplier, order, line) {
+/** @param {import("../session.js").Session} session @param {string} supplier @param {string} order @param {number} line
+ * @returns {Promise<StatusLine | null>} */
+async function lineOf(session, supplier, order, line) {
   const { lines } = await session.status(supplier);
-  return lines.find((it) => !it.unsure && it.order === order && it.line === line)?.open ?? null;
+  return lines.find((it) => !it.unsure && it.order === order && it.line === line) ?? null;
 }
 
 /** @param {Record<"supplier" | "order" | "line" | "quantity", Field>} fields @param {Field[]} all */
@@ -89,8 +109,8 @@ function checked(fields, all) {
 
 // Null while a number is missing.
 /** @param {Record<"supplier" | "order" | "line" | "quantity", Field>} fields @param {string} reference */
-function bodyOf({ supplier, order, line, quantity }, reference) {
-  const [ofLine, pieces] = [wholeNumber(line.value), wholeNumber(quantity.value)];
-  if (Number.isNaN(ofLine) || Number.isNaN(pieces) || !order.value) return null;
-  return cancellationText({ supplier: supplier.trimmed, reference, order: order.value, line: ofLine, quantity: pieces });
+function bodyOf(fields, reference) {
+  const typed = typedIn(fields);
+  if (Number.isNaN(typed.line) || Number.isNaN(typed.quantity) || !typed.order) return null;
+  return cancellationText({ ...typed, reference });
 }

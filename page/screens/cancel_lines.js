@@ -2,6 +2,7 @@
 // Cancels several lines of a supplier: how many of each is typed and summed up, and a second press sends them one after another.
 
 import { Articles } from "../articles.js";
+import { gtinAsPrinted } from "../edi/identifiers.js";
 import { cancelQueueOf } from "../hub/cancel_queue.js";
 import { phrases } from "../language.js";
 import { cancellationInWords, severalInWords } from "../parts/cancellation_words.js";
@@ -143,7 +144,7 @@ class CancelForm {
   inSummary() {
     const { given } = this;
     const rows = given.map(({ line, quantity }) => [
-      phrases.cancelLines.inSummary(orderInWords(line), line.line, quantity, line.open),
+      phrases.cancelLines.inSummary(orderInWords(line), line.line, gtinAsPrinted(line.gtin), quantity, line.open),
     ]);
     return { lead: [phrases.cancelLines.lead(severalInWords(given), this.named)], rows };
   }

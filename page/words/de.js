@@ -128,11 +128,11 @@ export const de = {
     colours: "Farben der Balken",
   },
   cancel: {
-    wereOpen: (pieces) => `${figure(pieces)} ${plural(pieces, "war", "waren")} offen, als Sie diese Ansicht geöffnet haben.`,
-    lead: (pieces, order, line, supplier) => [
-      `Sie stornieren ${pieces} Stück von Bestellung `,
+    nowOpen: (pieces) => `Zurzeit ${plural(pieces, "ist", "sind")} ${figure(pieces)} Stück offen.`,
+    lead: (pieces, article, order, line, supplier) => [
+      `Sie stornieren ${figure(pieces)} Stück${article && ` des Artikels ${article}`}: Bestellung `,
       order,
-      `, Position ${line}, des Lieferanten ${supplier}.`,
+      `, Position ${line}, beim Lieferanten ${supplier}.`,
     ],
     supplier: "GLN des Lieferanten",
     order: "Bestellnummer",
@@ -141,7 +141,7 @@ export const de = {
     title: "Stornieren",
     noun: "Stornierung",
     atMostOpen: "Höchstens das, was offen ist.",
-    areOpen: (open) => `${figure(open)} ${plural(open, "ist", "sind")} offen.`,
+    areOpen: (article, open) => `Von Artikel ${article} ${plural(open, "ist", "sind")} ${figure(open)} Stück offen.`,
     hubRefused: (code) => `Der Hub hat das abgelehnt (${code}).`,
     heading: "Eine Menge stornieren",
     another: "Noch eine Stornierung",
@@ -160,7 +160,8 @@ export const de = {
     caption: "Zu stornierende Positionen",
     quantityOf: (order, line) => `Zu stornierende Menge von Bestellung ${order}, Position ${line}`,
     giveOne: "Geben Sie für mindestens eine Position eine Menge ein.",
-    inSummary: (order, line, quantity, open) => `Bestellung ${order}, Position ${line}: ${figure(quantity)} von ${figure(open)} offenen`,
+    inSummary: (order, line, article, quantity, open) =>
+      `Bestellung ${order}, Position ${line}, Artikel ${article}: ${figure(quantity)} von ${figure(open)} offenen Stück`,
     lead: (given, named) => `Sie stornieren ${given}, beim Lieferanten ${named}.`,
     giveANumber: (open) => `Geben Sie eine ganze Zahl von 1 bis ${figure(open)} ein.`,
     toCancel: "Zu stornieren",
@@ -180,7 +181,8 @@ export const de = {
   cancellationWords: {
     several: (lines, orders, pieces) =>
       `${counted(lines, "Position", "Positionen")} von ${counted(orders, "Bestellung", "Bestellungen")}, insgesamt ${figure(pieces)} Stück`,
-    yours: (quantity, order, line) => `Ihre Stornierung von ${quantity} Stück der Bestellung ${order}, Position ${line}`,
+    yours: (pieces, order, line) => `Ihre Stornierung von ${figure(pieces)} Stück der Bestellung ${order}, Position ${line}`,
+    unfinished: "Ihre Stornierung",
   },
   characteristics: { 13: "Qualität", 35: "Farbe", 38: "Güteklasse", 98: "Größe" },
   characters: {

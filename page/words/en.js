@@ -138,9 +138,18 @@ export const en = {
     colours: "Colours of the bars",
   },
   cancel: {
-    wereOpen: (/** @type {number} */ pieces) => `${figure(pieces)} ${plural(pieces, "was", "were")} open when this screen was opened.`,
-    lead: (/** @type {string} */ pieces, /** @type {Child} */ order, /** @type {string} */ line, /** @type {string} */ supplier) =>
-      [`You are cancelling ${pieces} of order `, order, `, line ${line}, of supplier ${supplier}.`],
+    nowOpen: (/** @type {number} */ pieces) => `${counted(pieces, "piece is", "pieces are")} open at the moment.`,
+    lead: (
+      /** @type {number} */ pieces,
+      /** @type {string} */ article,
+      /** @type {Child} */ order,
+      /** @type {string} */ line,
+      /** @type {string} */ supplier,
+    ) => [
+      `You are cancelling ${counted(pieces, "piece", "pieces")}${article && ` of article ${article}`}: order `,
+      order,
+      `, line ${line}, of supplier ${supplier}.`,
+    ],
     supplier: "The supplier's GLN",
     order: "Order number",
     line: "Line",
@@ -148,7 +157,8 @@ export const en = {
     title: "Cancel",
     noun: "cancellation",
     atMostOpen: "At most what is open.",
-    areOpen: (/** @type {number} */ open) => `${figure(open)} ${plural(open, "is", "are")} open.`,
+    areOpen: (/** @type {string} */ article, /** @type {number} */ open) =>
+      `Of article ${article}, ${counted(open, "piece is", "pieces are")} open.`,
     hubRefused: (/** @type {string | number} */ code) => `The hub refused this (${code}).`,
     heading: "Cancel a quantity",
     another: "Another cancellation",
@@ -171,10 +181,11 @@ export const en = {
     inSummary: (
       /** @type {string | number} */ order,
       /** @type {string | number} */ line,
+      /** @type {string} */ article,
       /** @type {number} */ quantity,
       /** @type {number} */ open,
     ) =>
-      `Order ${order}, line ${line}: ${figure(quantity)} of ${figure(open)} that are open`,
+      `Order ${order}, line ${line}, article ${article}: ${figure(quantity)} of ${counted(open, "open piece", "open pieces")}`,
     lead: (/** @type {string | number} */ given, /** @type {string | number} */ named) => `You cancel ${given}, of supplier ${named}.`,
     giveANumber: (/** @type {number} */ open) => `Give a whole number from 1 to ${figure(open)}.`,
     toCancel: "To cancel",
@@ -192,8 +203,9 @@ export const en = {
   cancellationWords: {
     several: (/** @type {number} */ lines, /** @type {number} */ orders, /** @type {number} */ pieces) =>
       `${counted(lines, "line", "lines")} of ${counted(orders, "order", "orders")}, ${counted(pieces, "piece", "pieces")} in all`,
-    yours: (/** @type {string | number} */ quantity, /** @type {string | number} */ order, /** @type {string | number} */ line) =>
-      `Your cancellation of ${quantity} of order ${order}, line ${line}`,
+    yours: (/** @type {number} */ pieces, /** @type {string | number} */ order, /** @type {string | number} */ line) =>
+      `Your cancellation of ${counted(pieces, "piece", "pieces")} of order ${order}, line ${line}`,
+    unfinished: "Your cancellation",
   },
   characteristics: /** @type {Record<string, string>} */ ({ 13: "Quality", 35: "Colour", 38: "Grade", 98: "Size" }),
   characters: {

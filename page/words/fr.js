@@ -129,9 +129,12 @@ export const fr = {
     colours: "Couleurs des barres",
   },
   cancel: {
-    wereOpen: (pieces) => `${figure(pieces)} ${plural(pieces, "était ouverte", "étaient ouvertes")} à l'ouverture de cet écran.`,
-    lead: (pieces, order, line, supplier) =>
-      [`Vous annulez ${pieces} de la commande `, order, `, ligne ${line}, du fournisseur ${supplier}.`],
+    nowOpen: (pieces) => `${counted(pieces, "pièce est ouverte", "pièces sont ouvertes")} en ce moment.`,
+    lead: (pieces, article, order, line, supplier) => [
+      `Vous annulez ${counted(pieces, "pièce", "pièces")}${article && ` de l'article ${article}`} : commande `,
+      order,
+      `, ligne ${line}, chez le fournisseur ${supplier}.`,
+    ],
     supplier: "GLN du fournisseur",
     order: "Numéro de commande",
     line: "Ligne",
@@ -139,7 +142,7 @@ export const fr = {
     title: "Annuler",
     noun: "l'annulation",
     atMostOpen: "Au plus ce qui est ouvert.",
-    areOpen: (open) => `${figure(open)} ${plural(open, "est ouverte", "sont ouvertes")}.`,
+    areOpen: (article, open) => `De l'article ${article}, ${counted(open, "pièce est ouverte", "pièces sont ouvertes")}.`,
     hubRefused: (code) => `Le hub a refusé ceci (${code}).`,
     heading: "Annuler une quantité",
     another: "Autre annulation",
@@ -158,8 +161,8 @@ export const fr = {
     caption: "Lignes à annuler",
     quantityOf: (order, line) => `Quantité à annuler de la commande ${order}, ligne ${line}`,
     giveOne: "Indiquez une quantité pour au moins une ligne.",
-    inSummary: (order, line, quantity, open) =>
-      `Commande ${order}, ligne ${line} : ${figure(quantity)} sur ${counted(open, "ouverte", "ouvertes")}`,
+    inSummary: (order, line, article, quantity, open) =>
+      `Commande ${order}, ligne ${line}, article ${article} : ${figure(quantity)} sur ${counted(open, "pièce ouverte", "pièces ouvertes")}`,
     lead: (given, named) => `Vous annulez ${given}, chez le fournisseur ${named}.`,
     giveANumber: (open) => `Indiquez un nombre entier de 1 à ${figure(open)}.`,
     toCancel: "À annuler",
@@ -180,7 +183,8 @@ export const fr = {
   cancellationWords: {
     several: (lines, orders, pieces) =>
       `${counted(lines, "ligne", "lignes")} de ${counted(orders, "commande", "commandes")}, ${counted(pieces, "pièce", "pièces")} en tout`,
-    yours: (quantity, order, line) => `Votre annulation de ${quantity} de la commande ${order}, ligne ${line}`,
+    yours: (pieces, order, line) => `Votre annulation de ${counted(pieces, "pièce", "pièces")} de la commande ${order}, ligne ${line}`,
+    unfinished: "Votre annulation",
   },
   characteristics: { 13: "Qualité", 35: "Couleur", 38: "Catégorie", 98: "Taille" },
   characters: {

@@ -128,9 +128,12 @@ export const nl = {
     colours: "Kleuren van de balken",
   },
   cancel: {
-    wereOpen: (pieces) => `Er ${plural(pieces, "stond", "stonden")} er ${figure(pieces)} open toen u dit scherm opende.`,
-    lead: (pieces, order, line, supplier) =>
-      [`U annuleert ${pieces} van bestelling `, order, `, regel ${line}, van leverancier ${supplier}.`],
+    nowOpen: (pieces) => `Op dit moment ${plural(pieces, "staat", "staan")} er ${counted(pieces, "stuk", "stuks")} open.`,
+    lead: (pieces, article, order, line, supplier) => [
+      `U annuleert ${counted(pieces, "stuk", "stuks")}${article && ` van artikel ${article}`}: bestelling `,
+      order,
+      `, regel ${line}, bij leverancier ${supplier}.`,
+    ],
     supplier: "GLN van de leverancier",
     order: "Bestelnummer",
     line: "Regel",
@@ -138,7 +141,7 @@ export const nl = {
     title: "Annuleren",
     noun: "Annulering",
     atMostOpen: "Hoogstens wat openstaat.",
-    areOpen: (open) => `Er ${plural(open, "staat", "staan")} er ${figure(open)} open.`,
+    areOpen: (article, open) => `Van artikel ${article} ${plural(open, "staat", "staan")} er ${counted(open, "stuk", "stuks")} open.`,
     hubRefused: (code) => `De hub heeft dit geweigerd (${code}).`,
     heading: "Een aantal annuleren",
     another: "Nog een annulering",
@@ -157,8 +160,8 @@ export const nl = {
     caption: "Te annuleren regels",
     quantityOf: (order, line) => `Te annuleren aantal van bestelling ${order}, regel ${line}`,
     giveOne: "Geef voor minstens één regel een aantal.",
-    inSummary: (order, line, quantity, open) =>
-      `Bestelling ${order}, regel ${line}: ${figure(quantity)} van de ${figure(open)} die openstaan`,
+    inSummary: (order, line, article, quantity, open) =>
+      `Bestelling ${order}, regel ${line}, artikel ${article}: ${figure(quantity)} van ${counted(open, "openstaand stuk", "openstaande stuks")}`,
     lead: (given, named) => `U annuleert ${given}, bij leverancier ${named}.`,
     giveANumber: (open) => `Geef een geheel getal van 1 tot en met ${figure(open)}.`,
     toCancel: "Te annuleren",
@@ -177,7 +180,8 @@ export const nl = {
     several: (lines, orders, pieces) =>
       `${counted(lines, "regel", "regels")} van ${counted(orders, "bestelling", "bestellingen")}, ` +
       `in totaal ${counted(pieces, "stuk", "stuks")}`,
-    yours: (quantity, order, line) => `Uw annulering van ${quantity} van bestelling ${order}, regel ${line}`,
+    yours: (pieces, order, line) => `Uw annulering van ${counted(pieces, "stuk", "stuks")} van bestelling ${order}, regel ${line}`,
+    unfinished: "Uw annulering",
   },
   characteristics: { 13: "Kwaliteit", 35: "Kleur", 38: "Klasse", 98: "Maat" },
   characters: {

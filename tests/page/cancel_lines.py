@@ -6,7 +6,7 @@ from tests.page.drafts import back_in
 from tests.page.driver import wait
 from tests.page.forms import ASKED, asked
 from tests.page.screens import furnished
-from tests.page.stage import ALPHA, RETAILER, Stage, interchange, order, signed_in
+from tests.page.stage import ALPHA, RETAILER, Stage, gtin, interchange, order, signed_in
 
 OPEN = {("128590", "2"): 60, ("128590", "4"): 24, ("128591", "1"): 50}
 MOST = 100
@@ -98,7 +98,7 @@ def summed_up(browser, stage):
     back_in(browser, RETAILER)
     browser.press("Check cancellations")
     browser.until_says(f"You cancel 3 lines of 2 orders, 52 pieces in all, of supplier {ALPHA}.", ".summary")
-    browser.until_says("Order 128590, line 2: 12 of 60 that are open", ".summary")
+    browser.until_says(f"Order 128590, line 2, article {gtin(2)}: 12 of 60 open pieces", ".summary")
     assert browser.run(FOCUSED) == "Before you send it" and stage.sent == [], stage.sent
     browser.press("Change something")
     browser.press("Check cancellations")
@@ -126,7 +126,7 @@ def one_after_another(browser, stage):
     assert browser.run("return Object.keys(sessionStorage).filter(it => it.includes('.draft.'))") == []
     browser.press("Sent", "a")
     for number, line, count in (("128590", 2, 12), ("128590", 4, 10), ("128591", 1, 30)):
-        browser.until_says(f"Your cancellation of {count} of order {number}, line {line}", "table.sent")
+        browser.until_says(f"Your cancellation of {count} pieces of order {number}, line {line}", "table.sent")
 
 
 def some_refused(browser, stage):

@@ -124,7 +124,7 @@ def answer_whole_and_cancel(browser, stage):
     browser.type(browser.labelled("The supplier's GLN"), BETA)
     browser.press("Show status")
     browser.press("Cancel…", "a")
-    browser.until_says("60 are open")
+    browser.until_says("60 pieces are open")
     browser.type(browser.labelled("Quantity to cancel"), "10")
     send(browser, "cancellation")
     browser.until_says("Accepted: the hub has taken it")

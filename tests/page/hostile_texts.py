@@ -71,7 +71,7 @@ def cancelled(browser, stage, numbers):
         browser.one("table.lines a")
         its_link = "[...document.querySelectorAll('table.lines a')].find(it => it.getAttribute('aria-label').includes(arguments[0]))"
         browser.run(f"{its_link}.click()", number)
-        browser.until_says("7 are open")
+        browser.until_says("7 pieces are open")
         browser.type(browser.labelled("Quantity to cancel"), "2")
         stage.sent.clear()
         send(browser, "cancellation")

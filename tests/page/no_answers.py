@@ -106,7 +106,7 @@ def denied_after_a_break(browser, stage):
     browser.until_says("Denied: the hub does not know this GLN with this key")
     wait(lambda: browser.run("return document.querySelector('form fieldset').disabled") is False, "a form that can be changed")
     check(browser, "cancellation")
-    browser.until_says("You are cancelling 1 of order N1", ".summary")
+    browser.until_says("You are cancelling 1 piece", ".summary")
     assert cancelled(stage) == PIECES + 4, cancelled(stage)
 
 

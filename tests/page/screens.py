@@ -183,7 +183,7 @@ SCREENS = {
     "open-lines": (RETAILER, "overview", "Overview", open_lines),
     "search": (RETAILER, "overview", "Overview", searched),
     "cancel-lines": (RETAILER, f"supplier/{ALPHA}", "Cancel…", lines_checked),
-    "cancel": (RETAILER, f"cancel/{ALPHA}/128591/2", "25 are open", cancel),
+    "cancel": (RETAILER, f"cancel/{ALPHA}/128591/2", "25 pieces are open", cancel),
 }
 
 

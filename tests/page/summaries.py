@@ -2,7 +2,7 @@
 from tests.page.driver import ELEMENT, wait
 from tests.page.forms import check
 from tests.page.screens import furnished
-from tests.page.stage import ALPHA, RETAILER, Stage, signed_in
+from tests.page.stage import ALPHA, RETAILER, Stage, gtin, signed_in
 
 FOCUSED = "const it = document.activeElement; return (it.labels?.[0] ?? it).textContent.trim()"
 
@@ -26,13 +26,25 @@ def cancellation(browser, stage):
         focus(browser, then)
     # a second Enter shows the summary, and a third one does nothing: the button that sends has not the focus
     browser.keys("enter")
-    browser.until_says("You are cancelling 5 of order 128591, line 2, of supplier 4012345500004.", ".summary")
+    of_it = f"of article {gtin(2)}: order 128591, line 2, of supplier {ALPHA}. 25 pieces are open at the moment."
+    browser.until_says(f"You are cancelling 5 pieces {of_it}", ".summary")
     focus(browser, "Before you send it")
     browser.keys("enter", "enter")
     browser.press("Change something")
     browser.type(browser.labelled("Quantity to cancel"), "6")
     check(browser, "cancellation")
-    browser.until_says("You are cancelling 6 of order 128591, line 2")
+    browser.until_says(f"You are cancelling 6 pieces {of_it}")
+    # of a line that the hub does not know the summary says what was typed
+    browser.press("Change something")
+    browser.type(browser.labelled("Line"), "77")
+    browser.type(browser.labelled("Quantity to cancel"), "1")
+    check(browser, "cancellation")
+    browser.until_says(f"You are cancelling 1 piece: order 128591, line 77, of supplier {ALPHA}.", ".summary")
+    browser.press("Change something")
+    browser.type(browser.labelled("Line"), "2")
+    browser.type(browser.labelled("Quantity to cancel"), "6")
+    check(browser, "cancellation")
+    browser.until_says("You are cancelling 6 pieces")
     # the second click of a double click on the button before does not send
     browser.run("[...document.querySelectorAll('.summary button')][0].dispatchEvent(new MouseEvent('click', { detail: 2, bubbles: true }))")
     assert stage.sent == [], stage.sent
