@@ -21,16 +21,18 @@ const EVERY = 5 * 60_000;
 const LOOK = 1_000;
 const MOST_ROWS = 100;
 
-/** A part of the screen: its heading and its table.
+/** A part of the screen: its heading and its table, or what it says if nothing waits.
  * @template Row */
 class Part {
   /** @param {{ title: string, empty: string, columns: import("../parts/table.js").Column<Row>[] }} words */
   constructor({ title, empty, columns }) {
     this.title = title;
     this.heading = element("h2", { tabindex: "-1" }, title);
-    this.table = new Table({ caption: title, columns, rows: /** @type {Row[]} */ ([]), empty, kind: "today" });
+    this.table = new Table({ caption: title, columns, rows: /** @type {Row[]} */ ([]), kind: "today" });
+    this.empty = element("p", { class: "nothing" }, empty);
     this.more = element("p", { class: "hint" });
-    this.element = element("section", {}, this.heading, this.table.element, this.more);
+    this.element = element("section", {}, this.heading, this.empty, this.table.element, this.more);
+    this.table.element.hidden = true;
     this.drawn = "[]";
   }
 
@@ -43,6 +45,8 @@ class Part {
     const focused = this.table.element.contains(document.activeElement) ? document.activeElement : null;
     this.heading.textContent = rows.length ? `${this.title} (${figure(rows.length)})` : this.title;
     this.table.show(rows.slice(0, MOST_ROWS));
+    this.table.element.hidden = !rows.length;
+    this.empty.hidden = rows.length > 0;
     this.more.textContent = rows.length > MOST_ROWS ? phrases.today.first(MOST_ROWS) : "";
     if (!focused || focused.isConnected) return;
     const again = [...this.table.element.querySelectorAll("a")].find((it) => it.getAttribute("href") === focused.getAttribute("href"));
@@ -61,6 +65,8 @@ class Today {
     this.title = phrases.today.title;
     this.lookedAt = 0;
     this.isLooking = false;
+    // until the mailbox was searched, no link stands in for one that comes a moment later at the same place
+    this.isSearching = true;
     /** @type {{ lines: import("../hub/replies.js").StatusLine[], pallets: import("../hub/replies.js").StatusPallet[] }} */
     this.status = { lines: [], pallets: [] };
   }
@@ -74,7 +80,7 @@ class Today {
 
   /** Searches the mailbox for what the status does not say: entries, dates and advices. */
   async complete() {
-    await this.session.mail.search(ordersWanted(this.status), hasShort(this.status));
+    await this.session.mail.search(ordersWanted(this.status), hasShort(this.status)).finally(() => (this.isSearching = false));
     this.draw();
     this.asOf.replaceChildren(`${phrases.today.asOf(clockTime(this.lookedAt))} ${phrases.today.refreshed(MOST_REQUESTS)}`);
     this.problem.replaceChildren(...(this.session.mail.isComplete ? [] : [saying("plain", phrases.today.leftOver)]));
@@ -88,6 +94,7 @@ class Today {
       await act();
     } catch (why) {
       if (!(why instanceof Broken)) throw why;
+      this.draw();
       this.problem.replaceChildren(saying("warn", phrases.today.noAnswer(clockTime(this.lookedAt))));
     } finally {
       this.isLooking = false;
@@ -103,8 +110,9 @@ class Today {
 
   draw() {
     const rows = rowsOf(this.session, this.status, day(new Date()));
-    this.parts.orders.show(rows.orders);
-    this.parts.lines.show(rows.lines);
+    const { isSearching } = this;
+    this.parts.orders.show(rows.orders.map((it) => ({ ...it, isSearching })));
+    this.parts.lines.show(rows.lines.map((it) => ({ ...it, isSearching })));
     this.parts.pallets.show(rows.pallets);
     this.parts.short.show(rows.short);
     sayOnce(this.lead, inWords(rows));
@@ -154,9 +162,10 @@ function inWords({ orders, lines, pallets, short }) {
   return found.length ? `${found.join(", ")}.` : nothing;
 }
 
-/** A link to a screen of the entry, or to the mailbox if it is not known.
- * @param {string} label @param {string} screen @param {number | null} entry @param {string} what */
-function action(label, screen, entry, what) {
+/** A link to a screen of the entry, or to the mailbox if it was not found.
+ * @param {string} label @param {string} screen @param {{ entry: number | null, isSearching: boolean }} row @param {string} what */
+function action(label, screen, { entry, isSearching }, what) {
+  if (entry === null && isSearching) return "…";
   if (entry === null) return link(phrases.mailbox.title, "mailbox", { "aria-label": phrases.today.lookFor(what) });
   return link(label, `${screen}/${entry}`, { "aria-label": `${label} ${what}` });
 }
@@ -164,7 +173,7 @@ function action(label, screen, entry, what) {
 /** @param {number | null} entry @param {{ order: string, unsure?: number }} line */
 const orderLink = (entry, line) => (entry === null ? orderNumber(line) : link(orderNumber(line), `entry/${entry}`));
 
-/** @returns {Part<import("../today_rows.js").OrderRow>} */
+/** @returns {Part<import("../today_rows.js").OrderRow & { isSearching: boolean }>} */
 const ordersPart = () =>
   new Part({
     title: phrases.today.ordersTitle,
@@ -174,11 +183,11 @@ const ordersPart = () =>
       { title: phrases.today.lines, cell: (it) => figure(it.lines), value: (it) => it.lines, number: true },
       { title: phrases.today.pieces, cell: (it) => figure(it.open), value: (it) => it.open, number: true },
       dueColumn((it) => it),
-      { title: "", cell: (it) => action(phrases.today.answer, "answer", it.entry, phrases.today.order(orderInWords(it))), kind: "action" },
+      { title: "", cell: (it) => action(phrases.today.answer, "answer", it, phrases.today.order(orderInWords(it))), kind: "action" },
     ],
   });
 
-/** @returns {Part<import("../today_rows.js").LineRow>} */
+/** @returns {Part<import("../today_rows.js").LineRow & { isSearching: boolean }>} */
 const linesPart = () =>
   new Part({
     title: phrases.today.linesTitle,
@@ -189,7 +198,7 @@ const linesPart = () =>
       { title: phrases.common.articleGtin, cell: (it) => gtinAsPrinted(it.line.gtin), value: (it) => it.line.gtin, kind: "digits" },
       { title: phrases.common.open, cell: (it) => figure(it.line.open), value: (it) => it.line.open, number: true },
       dueColumn((it) => it),
-      { title: "", cell: (it) => action(phrases.today.despatch, "despatch", it.entry, lineInWords(it)), kind: "action" },
+      { title: "", cell: (it) => action(phrases.today.despatch, "despatch", it, lineInWords(it)), kind: "action" },
     ],
   });
 

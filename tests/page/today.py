@@ -122,17 +122,37 @@ def actions(browser):
             assert browser.run("return [...document.querySelectorAll('.orders :checked')].map(it => it.value)") == ["T2"]
         if heading == "Status":
             assert [it[0] for it in browser.rows("table.pallet-rows tbody")] == [PALLETS[0]]
-    # once the advice is marked as taken, the pallet is done
+    # once the advice is marked as taken, the pallet is done, and there is no table without rows
     browser.press("Mark as taken")
     browser.until_says("Marked as taken")
     browser.press("Today", "a")
     assert shown(browser)["Received short"] == []
+    browser.until_says("Nothing new was received short.")
+    seen = "return [...document.querySelectorAll('main table')].filter(it => it.checkVisibility()).map(it => it.tBodies[0].rows.length)"
+    assert browser.run(seen) == [2, 5, 1], browser.run(seen)
     assert browser.run(TITLE) == "(7) Today · edihub", browser.run(TITLE)
+
+
+def while_searching(browser, stage):
+    """Until the mailbox was searched a row has no link, so that none becomes another one under the hand."""
+    gate = threading.Event()
+    path = f"/p/{ALPHA}/mail/after/0"
+    stage.proxy.instead[path] = lambda handler, body: gate.wait(60) and handler.passed(body)
+    sign_in(browser, stage, ALPHA, screen=TODAY)
+    browser.until_says("Orders to answer (2)")
+    assert browser.run("return [...document.querySelectorAll('main section:nth-of-type(-n + 2) .action')].map(it => it.textContent)") == [
+        *["", "…", "…"],
+        *["", *["…"] * 5],
+    ]
+    gate.set()
+    browser.until_says(DONE)
+    del stage.proxy.instead[path]
 
 
 def of_today(browser, program):
     with Stage(program) as stage:
         furnished(stage)
+        while_searching(browser, stage)
         browser.stop_clock(milliseconds(2025, 6, 10, 9, 30))
         count = parts(browser, stage)
         actions(browser)
