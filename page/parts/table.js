@@ -33,7 +33,7 @@ export class Table {
     this.sortedBy = -1;
     this.falls = false;
     this.heads = columns.map((column, place) => this.#head(column, place));
-    this.body = element("tbody", { role: "rowgroup" });
+    this.body = /** @type {HTMLTableSectionElement} */ (element("tbody", { role: "rowgroup" }));
     this.foot = sums ? element("tfoot", { role: "rowgroup" }) : null;
     const head = element("thead", { role: "rowgroup" }, element("tr", { role: "row" }, ...this.heads));
     const caption_ = element("caption", { class: "spoken" }, caption);

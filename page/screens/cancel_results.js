@@ -21,8 +21,9 @@ export class CancelResults {
     this.said = element("div", { class: "happened", role: "status", tabindex: "-1" });
     this.table = new Table({ caption: phrases.cancelResults.caption, kind: "sent", columns: columns(), rows: queue.of(supplier) });
     const next = actions(link(phrases.common.statusOfThisSupplier, `supplier/${supplier}`, { class: "button" }));
-    this.body = element("div", { hidden: true }, element("h2", {}, phrases.cancelResults.title), this.said, this.table.element, next);
-    this.element = element("section", {}, this.body);
+    this.title = element("h2", { hidden: true }, phrases.cancelResults.title);
+    this.body = element("div", { hidden: true }, this.table.element, next);
+    this.element = element("section", {}, this.title, this.said, this.body);
     this.drawn = "";
     this.draw();
   }
@@ -38,8 +39,8 @@ export class CancelResults {
     const items = this.queue.of(this.supplier);
     const isOther = items.length !== this.table.rows.length || items.some((it, at) => it !== this.table.rows[at]);
     if (isOther) this.table.show(items);
-    this.body.hidden = !items.length;
-    const drawn = `${this.queue.state} ${inWords(items)}`;
+    this.title.hidden = this.body.hidden = !items.length;
+    const drawn = items.length ? `${this.queue.state} ${inWords(items)}` : "";
     if (drawn === this.drawn) return;
     this.drawn = drawn;
     const focused = this.said.contains(document.activeElement);

@@ -44,12 +44,13 @@ async function content(context, entry) {
 
 /** @param {import("../start.js").Context} context @param {import("../session.js").Entry} entry */
 function actions({ session }, entry) {
-  const said = element("span", { class: "said", role: "status" });
+  const said = element("span", { class: "said", role: "status", tabindex: "-1" });
   const take = button(phrases.common.markAsTaken, async () => {
     await session.hub.takeMail(entry.number);
     session.taken.add(entry.number);
-    take.disabled = true;
     said.textContent = phrases.entry.marked;
+    said.focus();
+    take.disabled = true;
   });
   const file = `${entry.order ? "order" : "entry"}-${entry.number}.edi`;
   return element(

@@ -28,16 +28,20 @@ export async function mailboxScreen({ session }) {
   // the table may have been sorted by dates that were not there yet
   fillDates(session, rows).then(() => table.sortAgain());
 
+  // The focus goes to the entry that takes the place of the one that is gone.
   /** @param {Row} row */
   async function take(row) {
     await session.hub.takeMail(row.number);
     session.taken.add(row.number);
+    const place = table.shown.indexOf(row);
     rows.splice(rows.indexOf(row), 1);
     table.show(rows);
     count.textContent = newOnes(rows.length);
+    const links = table.body.querySelectorAll("a");
+    (links[Math.min(place, links.length - 1)] ?? count).focus();
   }
 
-  const count = element("p", { class: "lead", role: "status" }, newOnes(rows.length));
+  const count = element("p", { class: "lead happened", role: "status", tabindex: "-1" }, newOnes(rows.length));
   return {
     title: phrases.mailbox.title,
     content: [
@@ -102,10 +106,24 @@ function takenPart(session, untaken) {
   table.element.hidden = true;
   let next = 0;
   let begun = false;
+  let isShowing = false;
   const more = button(phrases.mailbox.showTaken, show);
 
   async function show() {
-    more.disabled = true;
+    if (isShowing) return;
+    isShowing = true;
+    const before = rows.length;
+    await readMore().finally(() => (isShowing = false));
+    table.show(rows);
+    table.element.hidden = false;
+    more.textContent = phrases.mailbox.showEarlier;
+    more.hidden = next === 0;
+    // the first of those that were found, if the person is not elsewhere by now
+    const first = table.body.rows[before]?.querySelector("a") ?? title;
+    if (document.activeElement === more || document.activeElement === document.body) first.focus();
+  }
+
+  async function readMore() {
     if (!begun) next = await lastEntry(session, Math.max(0, ...untaken));
     begun = true;
     for (let found = 0; next > 0 && found < AT_ONCE; next -= 1) {
@@ -113,15 +131,11 @@ function takenPart(session, untaken) {
       rows.push(rowOf(await session.entry(next), next));
       found += 1;
     }
-    table.show(rows);
-    table.element.hidden = false;
-    more.textContent = phrases.mailbox.showEarlier;
-    more.disabled = false;
-    more.hidden = next === 0;
   }
 
+  const title = element("h2", { tabindex: "-1" }, phrases.mailbox.taken);
   const hint = element("p", { class: "hint" }, phrases.mailbox.takenHint);
-  return element("section", { class: "taken" }, element("h2", {}, phrases.mailbox.taken), hint, table.element, more);
+  return element("section", { class: "taken" }, title, hint, table.element, more);
 }
 
 /** @param {import("../session.js").Entry | null} entry @param {number} number @returns {Row} */

@@ -39,19 +39,19 @@ export async function uploadScreen({ session }) {
   const zone = dropZone(choice(), (files) => queue.choose(files));
   const check = element("p", {}, ...phrases.explain.without(link(phrases.explain.title, "explain")));
   const { title } = phrases.upload;
-  return { title, content: [heading(title), zone, check, ...queueView(queue, (gln) => list.nameOf(gln))] };
+  return { title, content: [heading(title), zone, check, ...queueView(queue, zone, (gln) => list.nameOf(gln))] };
 }
 
-/** @param {UploadQueue} queue @param {(gln: string) => string} nameOf */
-function queueView(queue, nameOf) {
-  const summary = element("div", { role: "status", tabindex: "-1" });
+/** @param {UploadQueue} queue @param {HTMLElement} zone where files are chosen @param {(gln: string) => string} nameOf */
+function queueView(queue, zone, nameOf) {
+  const summary = element("div", { class: "happened", role: "status", tabindex: "-1" });
   const list = element("div", { class: "uploads" });
   /** @type {Map<Item, HTMLElement>} */
   const rows = new Map();
   let said = "";
   const draw = () => {
     for (const item of queue.items) if (!rows.has(item)) rows.set(item, itemRow(queue, item, nameOf));
-    for (const [item, row] of rows) if (!queue.items.includes(item)) rows.delete(item) && row.remove();
+    for (const [item, row] of rows) if (!queue.items.includes(item)) rows.delete(item) && takeOut(row, zone);
     const missing = queue.items.map((it) => /** @type {HTMLElement} */ (rows.get(it))).filter((it) => it.parentElement !== list);
     missing.forEach((it) => list.prepend(it));
     const says = `${queue.state} ${queue.ready.length} ${queue.wrong}`;
@@ -59,11 +59,23 @@ function queueView(queue, nameOf) {
     said = says;
     const focused = summary.contains(document.activeElement);
     summary.replaceChildren(...whatNext(queue));
-    if (focused) summary.focus({ preventScroll: true });
+    // once there is nothing to press, the next file that is sent says what happens
+    const next = rows.get(queue.waiting[0] ?? queue.items[queue.items.length - 1]);
+    const place = summary.childElementCount ? summary : next?.querySelector(".delivery");
+    if (focused) /** @type {HTMLElement | null} */ (place)?.focus({ preventScroll: true });
   };
   queue.addEventListener("change", draw);
   draw();
   return [summary, list];
+}
+
+/** Removes a file from the list; if it had the focus, the next one gets it, or else the place where files are chosen.
+ * @param {HTMLElement} row @param {HTMLElement} zone */
+function takeOut(row, zone) {
+  const focused = row.contains(document.activeElement);
+  const near = [row.nextElementSibling, row.previousElementSibling].flatMap((it) => it?.querySelector("button") ?? []);
+  row.remove();
+  if (focused) (near[0] ?? zone.querySelector("input"))?.focus();
 }
 
 /** The summary with the press that sends, and the one that continues.
@@ -86,16 +98,20 @@ function whatNext(queue) {
  * @param {UploadQueue} queue @param {Item} item @param {(gln: string) => string} nameOf */
 function itemRow(queue, item, nameOf) {
   const region = sendingRegion();
-  const row = element("section", { class: "card upload" }, element("h2", {}, item.name), region);
+  // what it is before it is sent, which nobody has to be told of at once
+  const before = element("div", {});
+  const row = element("section", { class: "card upload" }, element("h2", {}, item.name), before, region);
   const { sending } = item;
   const label = phrases.upload.removeOne(item.name);
   const remove = button(phrases.upload.remove, () => queue.remove(item), { class: "quiet", "aria-label": label });
-  if (!sending) region.replaceChildren(saying("bad", item.wrong === "unreadable" ? phrases.upload.unreadable : denial("413")), remove);
+  if (!sending) before.replaceChildren(saying("bad", item.wrong === "unreadable" ? phrases.upload.unreadable : denial("413")), remove);
   else {
     const draw = () => {
-      if (sending.state !== "review") tell(region, sending, (it) => answered(it, nameOf));
-      else if (queue.waiting.includes(item)) region.replaceChildren(element("p", {}, phrases.common.waits));
-      else if (!remove.isConnected) region.replaceChildren(element("p", {}, contentOf(item)), remove);
+      if (sending.state !== "review") {
+        before.replaceChildren();
+        tell(region, sending, (it) => answered(it, nameOf));
+      } else if (queue.waiting.includes(item)) before.replaceChildren(element("p", {}, phrases.common.waits));
+      else if (!remove.isConnected) before.replaceChildren(element("p", {}, contentOf(item)), remove);
     };
     sending.addEventListener("change", draw);
     queue.addEventListener("change", () => sending.state === "review" && draw());

@@ -86,12 +86,18 @@ class Keeping(proxy.Handler):
 
 
 class Stage:
+    # by program the files of a hub that was founded and did nothing yet
+    founded = {}
+
     def __init__(self, program):
         self.program = program
         self.folder = tempfile.mkdtemp()
         self.file = os.path.join(self.folder, "hub.db")
         self.hub = None
-        self.command("init", "--register", os.path.join(EXAMPLES, "register.toml"))
+        if program not in Stage.founded:
+            self.command("init", "--register", os.path.join(EXAMPLES, "register.toml"))
+            Stage.founded[program] = self.files()
+        self.put(Stage.founded[program])
         self.begin_hub()
         self.proxy = proxy.Proxy(0, self.hub_port, Keeping, program=program)
         self.proxy.sent, self.proxy.asked, self.proxy.posted, self.proxy.breaks = [], [], [], []
@@ -128,6 +134,36 @@ class Stage:
         """What a command over the hub's file prints; the hub must not run."""
         ran = subprocess.run([self.program, name, "--db", self.file, *words], stdout=subprocess.PIPE, check=True)
         return ran.stdout.decode("latin-1")
+
+    def files(self):
+        """The hub's files, by their names; the hub must not run."""
+        found = {}
+        for name in os.listdir(self.folder):
+            if name.startswith("hub.db"):
+                with open(os.path.join(self.folder, name), "rb") as file:
+                    found[name] = file.read()
+        return found
+
+    def put(self, files):
+        """Takes these files as the hub's, in the place of all others; the hub must not run."""
+        for name in self.files():
+            os.remove(os.path.join(self.folder, name))
+        for name, content in files.items():
+            with open(os.path.join(self.folder, name), "wb") as file:
+                file.write(content)
+
+    def keep(self):
+        """The hub as it is now, for `back_to`."""
+        self.end_hub()
+        found = self.files()
+        self.begin_hub()
+        return found
+
+    def back_to(self, files):
+        """Takes the hub back to what it was."""
+        self.end_hub()
+        self.put(files)
+        self.begin_hub()
 
     def begin_hub(self):
         self.hub_port = free_port()

@@ -9,7 +9,7 @@ import time
 import traceback
 
 from tests.page import access, agreement, answers_meanwhile, blank_ends, breaks, clocks, csv_files, day, days, drafts, headers
-from tests.page import explain, hostile_texts, keys, languages
+from tests.page import explain, focus, hostile_texts, keys, languages
 from tests.page import locks, many_lines, many_pallets, menu, no_answers, nothing_silent, pallet_numbers, refusals_told, sending_life, sent_list
 from tests.page import cancel_lines, labels, open_lines, order_details, overview, small_parts, summaries, today, trying
 from tests.page import show_front, upload_names, uploads
@@ -21,7 +21,7 @@ ALONE = {**small_parts.TRIALS, **sending_life.TRIALS, **trying.TRIALS, **headers
 ALONE |= {**order_details.ALONE, **labels.ALONE, **explain.ALONE, **show_front.TRIALS, **languages.ALONE}
 PARTS = (day, keys, breaks, hostile_texts, refusals_told, many_lines, access, days, answers_meanwhile, pallet_numbers, blank_ends)
 PARTS += (clocks, nothing_silent, locks, summaries, drafts, sent_list, uploads, no_answers, menu, csv_files, today)
-PARTS += (order_details, labels, overview, open_lines, cancel_lines, upload_names, many_pallets, explain, languages)
+PARTS += (order_details, labels, overview, open_lines, cancel_lines, upload_names, many_pallets, explain, focus, languages)
 IN_BROWSER = {name: trial for part in PARTS for name, trial in part.TRIALS.items()}
 
 
