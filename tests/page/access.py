@@ -1,6 +1,11 @@
 """Whether each screen can be used without a mouse, by who listens, by who sees little, and on a phone: what Lighthouse would look at,
 looked at here."""
+import base64
+import os
+import subprocess
+
 from tests.page.driver import wait
+from tests.page.pictures import rows_of
 from tests.page.screens import SCREENS, furnished, opened
 from tests.page.stage import ALPHA, Stage
 
@@ -54,10 +59,16 @@ STRUCTURE = """const all = it => [...document.querySelectorAll(it)];
         wide: document.documentElement.scrollWidth - document.documentElement.clientWidth,
         language: document.documentElement.lang, title: document.title }"""
 
-# of what has the focus: its name, and whether a ring is seen round it
+# of what has the focus: its name, whether a ring is seen round it, and whether it is in sight itself, under nothing else
 FOCUS = """const it = document.activeElement; const style = getComputedStyle(it);
     const ring = style.outlineStyle !== 'none' && parseFloat(style.outlineWidth) >= 2;
-    return [it.tagName, (it.labels?.[0] ?? it).textContent.trim().slice(0, 30), ring]"""
+    const at = rect => document.elementFromPoint(rect.x + rect.width / 2, rect.y + rect.height / 2);
+    const isSeen = [...it.getClientRects()].some(rect => it.contains(at(rect)) || it.labels?.[0]?.contains(at(rect)));
+    return [it.tagName, (it.labels?.[0] ?? it).textContent.trim().slice(0, 30), ring, isSeen]"""
+# a wide window, a phone, and a window of 1,280 pixels that is enlarged to 200 %: width, height, and whether it is a phone
+WIDE, PHONE, ENLARGED = (1280, 900, False), (360, 740, True), (640, 450, False)
+# and the narrowest
+NARROW = ((320, 640, True), ENLARGED)
 
 
 def names(browser, screen):
@@ -76,19 +87,20 @@ def sound(browser, screen):
     assert it["wide"] <= 0 and it["cut"] == [], f"{screen} is wider than the page by {it['wide']}, or its cells {it['cut']}"
 
 
-def rings(browser, screen):
-    """Each control is reached by the tabulator, and shows that it has the focus."""
-    browser.run("document.activeElement.blur(); scrollTo(0, 0)")
-    browser.run("document.body.setAttribute('tabindex', '-1'); document.body.focus(); document.body.removeAttribute('tabindex')")
+def rings(browser, screen, size):
+    """Each control that can be seen is reached by the tabulator, and no other; and it shows that it has the focus."""
+    width, height, is_phone = size
+    browser.look(width, height, narrow=is_phone)
+    browser.to_start()
     reached = 0
     for _ in range(80):
         browser.keys("tab")
-        tag, name, ringed = browser.run(FOCUS)
+        tag, name, ringed, seen = browser.run(FOCUS)
         if tag == "BODY":
             break
-        assert ringed, (screen, tag, name)
+        assert ringed and seen, (screen, size, tag, name, ringed, seen)
         reached += 1
-    assert reached >= 3, (screen, reached)
+    assert reached >= 3, (screen, size, reached)
     return reached
 
 
@@ -106,8 +118,11 @@ def access(browser, program):
                 found = browser.run(CONTRAST)
                 assert found[0] >= 4.5, (name, "dark" if dark else "light", found)
                 least = min(least, found)
+            for width, height, is_phone in NARROW:
+                browser.look(width, height, narrow=is_phone)
+                sound(browser, name)
+            reached += sum(rings(browser, name, it) for it in (WIDE, PHONE, ENLARGED))
             browser.look()
-            reached += rings(browser, name)
     return f"{len(SCREENS)} screens, {controls} controls with names, {reached} rings seen, least contrast {least[0]:.1f} ({least[1]})"
 
 
@@ -168,4 +183,74 @@ def by_keyboard(browser, program):
     return f"an order of ten lines answered by {pressed} keys after signing in"
 
 
-TRIALS = {"accessibility": access, "bars of a status": bars, "the keyboard alone": by_keyboard}
+# a bar of which some is despatched and some open: where it is in the picture of the window
+BAR_AT = """const it = [...document.querySelectorAll('table.lines .bar')].find(bar => {
+        const end = part => parseFloat(bar.style.getPropertyValue(`--end-of-${part}`));
+        return end('despatched') > 20 && end('despatched') < 60 && end('open') > 90;
+    });
+    it.scrollIntoView({ block: 'center' });
+    const { x, y, width, height } = it.getBoundingClientRect();
+    return [x, y, width, height]"""
+
+
+def light(pixel):
+    parts = [it / 255 for it in pixel]
+    r, g, b = [it / 12.92 if it <= 0.04045 else ((it + 0.055) / 1.055) ** 2.4 for it in parts]
+    return 0.2126 * r + 0.7152 * g + 0.0722 * b
+
+
+def contrast(one, other):
+    high, low = sorted((light(one), light(other)), reverse=True)
+    return (high + 0.05) / (low + 0.05)
+
+
+def of_bar(rows, x, y, width, height):
+    """The least contrast of a drawn bar: what is despatched and the edge beside what is open, which is empty."""
+    across = rows[int(y + height / 2)]
+    despatched, empty, edge = across[int(x + 4)], across[int(x + width - 5)], across[int(x)]
+    return min(contrast(despatched, empty), contrast(edge, empty))
+
+
+def in_picture(browser, folder, **features):
+    """A bar as it is drawn in the window, where the reader has these wishes."""
+    wishes = [{"name": name.replace("_", "-"), "value": value} for name, value in features.items()]
+    browser.developer("Emulation.setEmulatedMedia", features=wishes)
+    place = browser.run(BAR_AT)
+    file = os.path.join(folder, "bar.png")
+    browser.picture(file)
+    with open(file, "rb") as opened_file:
+        return of_bar(rows_of(opened_file.read())[2], *place)
+
+
+def on_paper(browser, folder):
+    """The same on paper, where a browser leaves out grounds unless the page says that they count."""
+    printed = browser.developer("Page.printToPDF", printBackground=False)
+    files = [os.path.join(folder, it) for it in ("bars.pdf", "bars.png")]
+    with open(files[0], "wb") as file:
+        file.write(base64.b64decode(printed["data"]))
+    words = ["-dBATCH", "-dNOPAUSE", "-dFirstPage=1", "-dLastPage=1", "-r72", "-sDEVICE=png16m", f"-sOutputFile={files[1]}"]
+    subprocess.run(["gs", *words, files[0]], stdout=subprocess.DEVNULL, check=True)
+    with open(files[1], "rb") as file:
+        found = {it for row in rows_of(file.read())[2] for it in row}
+    wanted = browser.run("return getComputedStyle(document.documentElement).getPropertyValue('--despatched').trim()")
+    pixel = bytes.fromhex(wanted[1:])
+    assert any(max(abs(a - b) for a, b in zip(it, pixel)) <= 8 for it in found), f"no bar of {wanted} on paper"
+    return contrast(pixel, (255, 255, 255))
+
+
+def drawn_bars(browser, program):
+    """What a reader sees of a bar: on screen, in colours of the reader's own choice, and on paper."""
+    with Stage(program) as stage:
+        furnished(stage)
+        opened(browser, stage, "status")
+        found = {}
+        for name, wishes in (("day", {}), ("chosen colours", {"forced_colors": "active"})):
+            found[name] = in_picture(browser, stage.folder, **wishes)
+        found["chosen dark ones"] = in_picture(browser, stage.folder, forced_colors="active", prefers_color_scheme="dark")
+        browser.developer("Emulation.setEmulatedMedia", features=[])
+        found["paper"] = on_paper(browser, stage.folder)
+        assert all(it >= 3 for it in found.values()), found
+    return "contrast: " + ", ".join(f"{name} {it:.1f}" for name, it in found.items())
+
+
+TRIALS = {"accessibility": access, "bars of a status": bars, "bars as they are drawn": drawn_bars, "the keyboard alone": by_keyboard}

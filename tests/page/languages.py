@@ -10,7 +10,7 @@ from glob import glob
 
 from tests.harness.tree import ROOT
 from tests.page import hostile_texts
-from tests.page.access import STRUCTURE
+from tests.page.access import NARROW, STRUCTURE
 from tests.page.agreement import by_node
 from tests.page.driver import wait
 from tests.page.screens import SCREENS, furnished, opened
@@ -20,8 +20,6 @@ from tests.page.words import LANGUAGES, Spoken, literals, patterns, tables
 HERE = os.path.dirname(os.path.abspath(__file__))
 # names of things that are the same in the language, or that are not words
 ALIKE = re.compile(r"[^a-z]*|.*\b(GLN|SSCC|GTIN|UNB|UNT|CSV|edi|txt)\b.*")
-# by a phone, and a window of 1,280 pixels that is enlarged to 200 %
-NARROW = ((320, 640, True), (640, 450, False))
 # all that a person reads or hears, but for what stands in files, orders and answers of the hub as it is
 SAID = """const skipped = 'script, style, pre, code, .exact, .free-text, .code-words code, noscript, #foot option, h2.file-name';
     const walker = document.createTreeWalker(document.documentElement, NodeFilter.SHOW_TEXT);
