@@ -2,13 +2,16 @@
 import base64
 import http.client
 import json
+import os
 import shutil
 import socket
 import subprocess
 import time
 
-# how long a thing of the page is waited for
-PATIENCE = 60
+# how many seconds a thing of the page is waited for; a loaded machine may take more
+PATIENCE = float(os.environ.get("PAGE_PATIENCE", 20))
+# and how long the driver's own answer, which may have to wait until a page is there
+ANSWERS = 6 * PATIENCE
 # by which an element is named in JSON
 ELEMENT = "element-6066-11e4-a52e-4f735466cecf"
 KEYS = {"tab": "\ue004", "enter": "\ue007", "space": "\ue00d", "escape": "\ue00c"}
@@ -68,7 +71,7 @@ class Browser:
             self.driver.wait()
 
     def ask(self, method, path, body=None):
-        connection = http.client.HTTPConnection("127.0.0.1", self.port, timeout=120)
+        connection = http.client.HTTPConnection("127.0.0.1", self.port, timeout=ANSWERS)
         data = json.dumps({} if body is None else body).encode() if method == "POST" else None
         connection.request(method, self.session + path, data, {"Content-Type": "application/json"})
         answer = json.loads(connection.getresponse().read())["value"]
@@ -146,6 +149,11 @@ class Browser:
             const words = { dataTransfer: data, bubbles: true, cancelable: true };
             document.querySelector('.drop').dispatchEvent(new DragEvent('drop', words));"""
         self.run(script, name, text)
+
+    def to_start(self):
+        """Takes the focus to the start of the page: the tabulator reaches the first thing of it next."""
+        self.run("document.activeElement.blur(); scrollTo(0, 0)")
+        self.run("document.body.setAttribute('tabindex', '-1'); document.body.focus(); document.body.removeAttribute('tabindex')")
 
     def keys(self, *names):
         """Keys, pressed one after another."""

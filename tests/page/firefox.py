@@ -8,7 +8,7 @@ import subprocess
 import tempfile
 import time
 
-from tests.page.driver import ELSEWHERE, Browser, DriverFault, NotHere, free_port
+from tests.page.driver import ANSWERS, ELSEWHERE, Browser, DriverFault, NotHere, free_port
 
 PREFERENCES = {
     "marionette.port": 0,
@@ -23,6 +23,8 @@ PREFERENCES = {
     "dom.security.https_first": False,
     "dom.disable_beforeunload": True,
     "layout.css.prefers-color-scheme.content-override": 1,
+    # Firefox sends a request by itself again whose connection broke, so that trials could not count what the page sends
+    "network.http.request.max-attempts": 1,
 }
 # the commands of Marionette by method and path of WebDriver; what stands in a path is a word of the command
 COMMANDS = {
@@ -35,6 +37,9 @@ COMMANDS = {
     ("POST", "/elements"): ("FindElements", lambda body: body),
     ("POST", "/actions"): ("PerformActions", lambda body: body),
     ("GET", "/screenshot"): ("TakeScreenshot", lambda _: {"full": False}),
+    ("POST", "/refresh"): ("Refresh", None),
+    ("POST", "/back"): ("Back", None),
+    ("POST", "/execute/async"): ("ExecuteAsyncScript", lambda body: {"script": body["script"], "args": body["args"], "sandbox": None}),
     ("POST", "/execute/sync"): ("ExecuteScript", lambda body: {"script": body["script"], "args": body["args"], "sandbox": None}),
     ("POST", "/print"): ("Print", lambda body: body),
 }
@@ -80,7 +85,7 @@ class Firefox(Browser):
     def connected(self, port):
         for _ in range(300):
             try:
-                return socket.create_connection(("127.0.0.1", port), timeout=120)
+                return socket.create_connection(("127.0.0.1", port), timeout=ANSWERS)
             except OSError:
                 time.sleep(0.2)
         raise DriverFault("Firefox does not answer")
@@ -130,9 +135,21 @@ class Firefox(Browser):
 
     def developer(self, command, **words):
         """What trials ask of Chromium's developer tools, as far as Firefox can do it."""
-        if command not in DEVELOPER:
+        if command not in DEVELOPER or "features" in words:
             raise NotHere(f"Firefox has no {command}")
         return self.chrome(DEVELOPER[command], words)
+
+    def to_start(self):
+        self.chrome("gBrowser.selectedBrowser.focus()")
+        super().to_start()
+
+    def keys(self, *names):
+        """From the last thing of a page the tabulator goes on to Firefox's own buttons. Its driver presses keys in the page even then, but
+        nothing of the page has the focus and its ring: so the round begins again at the start of the page, as a person comes to it."""
+        for name in names:
+            if not self.run("return document.hasFocus()"):
+                self.to_start()
+            super().keys(name)
 
     def complaints(self):
         return self.chrome(CONSOLE)

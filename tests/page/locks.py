@@ -9,7 +9,7 @@ from tests.page.stage import ALPHA, BETA, KEYS, RETAILER, Stage, interchange, or
 LATER = "const [then, from] = [Date.now() + arguments[0], performance.now()]; window.Date.now = () => then + performance.now() - from"
 TEN = 600_000
 LOCKED = "it has forgotten your key"
-HEADING = "return document.querySelector('h1').textContent"
+HEADING = "return document.querySelector('h1')?.textContent ?? ''"
 FIELDS = ("Number of the despatch", "SSCC", "Quantity of order K1, line 1")
 
 

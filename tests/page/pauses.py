@@ -6,7 +6,9 @@ MOST = 100
 
 # does something, and waits until something else is true and nothing moves any more; answers the longest pause, the longest in the same time
 # with nothing to do, and how long a table took to be built and drawn
-MEASURE = """const [act, isDone, done] = arguments;
+MEASURE = """const [done] = arguments;
+    const change = () => { %s };
+    const until = () => %s;
     const table = () => {
         const begun = performance.now();
         const made = document.createElement('table');
@@ -34,8 +36,6 @@ MEASURE = """const [act, isDone, done] = arguments;
         };
         port2.postMessage(0);
     });
-    // the page's policy forbids to compile them later
-    const [change, until] = [new Function(act), new Function(`return ${isDone}`)];
     (async () => {
         const watched = longest((all, quiet) => all > 10_000 || (quiet > 250 && until()));
         await new Promise(begun => setTimeout(begun));
@@ -51,7 +51,7 @@ MEASURE = """const [act, isDone, done] = arguments;
 
 def pause(browser, act, until="true"):
     """The longest pause, and how long one may be now."""
-    found = browser.ask("POST", "/execute/async", {"script": MEASURE, "args": [act, until]})
+    found = browser.ask("POST", "/execute/async", {"script": MEASURE % (act, until), "args": []})
     assert found, f"{act}: it has no end"
     longest, idle, table = found
     return longest, MOST * max(1, table / USUAL) + idle, table
