@@ -13,6 +13,9 @@ from tests.harness.tree import ROOT
 # what a trial stands on, beside the program
 COPIED = ("page", "tests", "examples", "docs")
 
+# a live region that comes with its words, so that a screen reader may not say them
+REGION = 'said.append(element("b", { role: "status" }, phrases.entry.marked));'
+
 # a trial, the file, a text that stands in it once, and what is there instead
 BUGS = [
     ("functions of the page", "edi/identifiers.js", "place % 2 ? 1 : 3", "place % 2 ? 3 : 1"),
@@ -89,6 +92,16 @@ BUGS = [
     ("accessibility", "style/controls.css", "outline: 3px solid var(--focus)", "outline: none"),
     ("accessibility", "parts/field.js", "{ for: id, class", "{ class"),
     ("accessibility", "style/tables.css", "flex-wrap: wrap;\n    justify-content: space-between;", "justify-content: space-between;"),
+    ("accessibility", "style/tables.css", "  thead {\n    display: none;", "  thead {\n    position: absolute;\n    clip-path: inset(50%);"),
+    ("bars as they", "style/tables.css", "  print-color-adjust: exact;\n", ""),
+    ("bars as they", "style/tables.css", "  forced-color-adjust: none;\n", ""),
+    ("the focus is not", "screens/entry.js", "    said.focus();\n", ""),
+    ("the focus is not", "screens/mailbox.js", "    (links[Math.min(place, links.length - 1)] ?? count).focus();\n", ""),
+    ("the focus is not", "screens/entry.js", "said.textContent = phrases.entry.marked;", REGION),
+    ("enter moves", "screens/cancel.js", "known = await lineOf(session, typed.supplier, typed.order, typed.line);", ""),
+    ("uploads in", "screens/upload.js", '  if (focused) (near[0] ?? zone.querySelector("input"))?.focus();\n', ""),
+    ("today's four", "screens/today.js", "    this.table.element.hidden = !rows.length;\n", ""),
+    ("today's four", "screens/today.js", '  if (entry === null && isSearching) return "…";\n', ""),
     ("bars of a status", "style/colours.css", "  --cancelled: #b98a12;", "  --cancelled: #d9aa42;"),
     ("bars of a status", "style/tables.css", "  forced-color-adjust: none;\n", ""),
     ("the keyboard alone", "start.js", "first?.focus({ preventScroll: true });", ""),

@@ -61,6 +61,11 @@ class Keeping(proxy.Handler):
         self.connection.close()
         raise ConnectionAbortedError
 
+    def send_header(self, name, value):
+        # modules do not change while a trial runs, so they are not fetched again each time somebody signs in
+        is_module = self.path.endswith((".js", ".css", ".svg"))
+        super().send_header(name, "max-age=3600" if name == "Cache-Control" and is_module else value)
+
     def handle(self):
         # a connection that a trial cut has nothing more to be flushed
         try:

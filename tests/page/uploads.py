@@ -11,6 +11,8 @@ UNREADABLE = """const real = Blob.prototype.arrayBuffer;
         return this.name.startsWith('gone') ? Promise.reject(new DOMException('gone', 'NotReadableError')) : real.call(this);
     }"""
 
+LABEL = "return document.activeElement?.getAttribute('aria-label')"
+
 
 def file(number):
     return interchange(RETAILER, number, order(number, [5], supplier=BETA))
@@ -51,7 +53,10 @@ def listed_first(browser, stage):
     says(browser, "wrong.txt", "in a spelling that the page does not read")
     browser.until_says("You are sending 3 files. What is sent cannot be taken back.")
     assert stage.sent == [], stage.sent
-    browser.run("document.querySelector('[aria-label=\"Remove wrong.txt\"]').click()")
+    removing = "const it = document.querySelector('[aria-label=\"Remove wrong.txt\"]'); it.focus(); it.click()"
+    # the focus goes to what a person can remove next
+    browser.run(removing)
+    wait(lambda: browser.run(LABEL) == "Remove c.edi", "focus on the next file", lambda: browser.run(LABEL))
     wait(lambda: not card(browser, "wrong.txt"), "file taken back")
     # they are there when the screen is left and opened again
     browser.press("Sent", "a")
