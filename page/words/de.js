@@ -347,7 +347,7 @@ export const de = {
   leaving: { stay: "Bleiben" },
   leftLines: {
     left: (pieces, some, lines) => `Übrig: ${figure(pieces)} Stück von ${figure(some)} von ${counted(lines, "Position", "Positionen")}`,
-    nothing: "Nichts ist übrig",
+    nothing: "Übrig: nichts",
     tooMuch: (lines) => `zu viel von ${counted(lines, "Position", "Positionen")}`,
     caption: "Was von den Positionen übrig ist",
     empty: "Alles Offene ist auf Ihren Paletten.",

@@ -381,7 +381,7 @@ export const en = {
   leftLines: {
     left: (/** @type {number} */ pieces, /** @type {number} */ some, /** @type {number} */ lines) =>
       `Left: ${counted(pieces, "piece", "pieces")} of ${figure(some)} of ${counted(lines, "line", "lines")}`,
-    nothing: "Nothing is left",
+    nothing: "Left: nothing",
     tooMuch: (/** @type {number} */ lines) => `too much of ${counted(lines, "line", "lines")}`,
     caption: "What is left of the lines",
     empty: "All that is open is on your pallets.",

@@ -349,7 +349,7 @@ export const fr = {
   leftLines: {
     left: (pieces, some, lines) =>
       `Reste : ${counted(pieces, "pièce", "pièces")} de ${figure(some)} sur ${counted(lines, "ligne", "lignes")}`,
-    nothing: "Il ne reste rien",
+    nothing: "Reste : rien",
     tooMuch: (lines) => `trop de ${counted(lines, "ligne", "lignes")}`,
     caption: "Ce qui reste des lignes",
     empty: "Tout ce qui est ouvert est sur vos palettes.",

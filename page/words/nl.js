@@ -344,7 +344,7 @@ export const nl = {
   leaving: { stay: "Blijven" },
   leftLines: {
     left: (pieces, some, lines) => `Over: ${counted(pieces, "stuk", "stuks")} van ${figure(some)} van ${counted(lines, "regel", "regels")}`,
-    nothing: "Er is niets over",
+    nothing: "Over: niets",
     tooMuch: (lines) => `te veel van ${counted(lines, "regel", "regels")}`,
     caption: "Wat er van de regels over is",
     empty: "Alles wat openstaat, staat op uw pallets.",

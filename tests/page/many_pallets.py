@@ -120,7 +120,7 @@ def split(browser):
     """What is on a pallet is dealt out evenly, each line and all pieces together."""
     pressed(browser, 0, "Put all that is open on it")
     on(browser, ["4 lines, 370 pieces", "1 line, 60 pieces", "1 line, 10 pieces"])
-    assert browser.run(LEFT) == "Nothing is left", browser.run(LEFT)
+    assert browser.run(LEFT) == "Left: nothing", browser.run(LEFT)
     for text, said in (("1", "Give a whole number from 2 to 500."), ("371", "Only 370 pieces are on it.")):
         browser.type(browser.labelled("Split evenly over how many pallets"), text)
         pressed(browser, 0, "Split")
