@@ -55,10 +55,9 @@ class SendingForm {
     this.caller = words.context.session.hub.caller;
     this.sending = this.begin();
     const checkButton = button(phrases.sendingForm.check(words.noun), () => this.review(), { class: "primary" });
-    const shown = preview(() => words.write(this.stamp()));
-    this.fields = /** @type {HTMLFieldSetElement} */ (
-      element("fieldset", { class: "bare" }, ...words.content, shown, actions(checkButton))
-    );
+    // what is of no use any more once it is sent
+    this.before = [preview(() => words.write(this.stamp())), actions(checkButton)];
+    this.fields = /** @type {HTMLFieldSetElement} */ (element("fieldset", { class: "bare" }, ...words.content, ...this.before));
     this.summary = new Summary(words.noun, () => this.send(), () => this.edit());
     this.restored = element("div", { role: "status" });
     this.first = element("div", { role: "alert" });
@@ -179,7 +178,7 @@ class SendingForm {
   /** The hub answered: what it did not take is typed work again, with a new reference.
    * @param {import("../hub/sending.js").Sending} sending */
   end(sending) {
-    if (sending.state === "accepted") this.fields.querySelector("details.raw-details")?.removeAttribute("open");
+    if (sending.state === "accepted") for (const it of this.before) it.hidden = true;
     else {
       this.sending = this.begin();
       this.sending.happen("type");
