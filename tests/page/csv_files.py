@@ -11,6 +11,8 @@ from tests.page.screens import furnished, opened
 from tests.page.stage import ALPHA, RETAILER, Stage, gtin, interchange, order, signed_in
 from tests.page.words import Spoken
 
+# titles of what is for the eye or the hand alone
+NOT_IN_FILES = ("", "Shares", "Anteile", "Cancel", "Stornieren")
 # what a spreadsheet would run or change, in the numbers of orders
 SCREENS_WITH_TABLES = ("today", "mailbox", "order", "answer", "despatch", "pallets", "receipt", "status", "upload", "supplier")
 SCREENS_WITH_TABLES += ("overview", "open-lines", "search")
@@ -62,7 +64,7 @@ def compared(browser, separator=","):
     for caption, titles, rows in browser.run(SHOWN):
         if rows and len(rows[0]) == 1:
             continue
-        places = [place for place, it in enumerate(titles) if it not in ("", "Shares", "Anteile")]
+        places = [place for place, it in enumerate(titles) if it not in NOT_IN_FILES]
         found = file_of(browser, caption, separator)
         assert all(harmless(it) for row in found for it in row), found
         wanted = [[as_written(titles[place], row[place]) for place in places] for row in rows]

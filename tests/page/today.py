@@ -137,8 +137,14 @@ def while_searching(browser, stage):
     """Until the mailbox was searched a row has no link, so that none becomes another one under the hand."""
     gate = threading.Event()
     path = f"/p/{ALPHA}/mail/after/0"
-    stage.proxy.instead[path] = lambda handler, body: gate.wait(60) and handler.passed(body)
-    sign_in(browser, stage, ALPHA, screen=TODAY)
+
+    def held(handler, body):
+        gate.wait()
+        return handler.passed(body)
+
+    signed_in(browser, stage, ALPHA, "#sent")
+    stage.proxy.instead[path] = held
+    browser.run("location.hash = 'today'")
     browser.until_says("Orders to answer (2)")
     assert browser.run("return [...document.querySelectorAll('main section:nth-of-type(-n + 2) .action')].map(it => it.textContent)") == [
         *["", "…", "…"],
