@@ -21,6 +21,8 @@ class Proxy(ThreadingHTTPServer):
     """Listens on a port of 127.0.0.1 (0: a free one), in front of a hub on another."""
 
     daemon_threads = True
+    # a browser asks for many modules at once, and waits a second for each connection that finds no room
+    request_queue_size = 128
 
     def __init__(self, port, hub_port, handler=None, suppliers=None, program=None):
         super().__init__(("127.0.0.1", port), handler or Handler)

@@ -102,7 +102,7 @@ def only_in_the_tab(browser, stage):
         assert stores == [0, ""], stores
         assert browser.developer("Network.getAllCookies")["cookies"] == []
         # the tab goes on where it was
-        browser.run("document.body.dataset.before = 1; location.reload()")
+        browser.run("document.body.dataset.before = 1; setTimeout(() => location.reload())")
         wait(lambda: browser.run(RELOADED) == screen, f"the screen {screen}")
         one = browser.tab()
         browser.new_tab()

@@ -8,7 +8,7 @@ import shutil
 import subprocess
 import tempfile
 
-from tests.page.access import CONTRAST, names, rings, sound
+from tests.page.access import CONTRAST, WIDE, names, rings, sound
 from tests.page.agreement import by_node
 from tests.page.driver import wait
 from tests.page.forms import send
@@ -285,7 +285,7 @@ def usable(browser):
         assert found[0] >= 4.5, found
     browser.look()
     names(browser, "labels")
-    rings(browser, "labels")
+    rings(browser, "labels", WIDE)
 
 
 def found_again(browser, stage):
@@ -293,7 +293,7 @@ def found_again(browser, stage):
     browser.press("Sent", "a")
     browser.one("table.sent")
     browser.go(browser.address())
-    browser.run("location.reload()")
+    browser.ask("POST", "/refresh")
     browser.press("Labels", "a")
     browser.until_says(f"Despatch note {NUMBER}")
     texts(browser)

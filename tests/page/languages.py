@@ -161,7 +161,7 @@ def choice(browser, program):
         browser.until_says("Dieser Tab behält GLN und Schlüssel")
         browser.close_tab(one)
         # numbers and dates are those of the language
-        browser.run("sessionStorage.clear(); location.hash = ''; location.reload()")
+        browser.run("sessionStorage.clear(); location.hash = ''; setTimeout(() => location.reload())")
         browser.until_says("Anmelden")
         choose(browser, "fr")
         browser.until_says("Se connecter")

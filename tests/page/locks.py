@@ -74,12 +74,12 @@ def ended(browser, stage):
     signed_in(browser, stage, ALPHA)
     browser.run(LATER, TEN)
     browser.until_says(LOCKED)
-    browser.run("location.reload()")
+    browser.run("setTimeout(() => location.reload())")
     wait(lambda: browser.run(HEADING) == "Sign in", "signing in")
     assert browser.run("return document.querySelector('input').value") == ALPHA
     signed_in(browser, stage, ALPHA)
     old = "const it = JSON.parse(sessionStorage.getItem(arguments[1])); it.used = Date.now() - arguments[0]; "
-    browser.run(old + "sessionStorage.setItem(arguments[1], JSON.stringify(it)); location.reload()", TEN, NAME)
+    browser.run(old + "sessionStorage.setItem(arguments[1], JSON.stringify(it)); setTimeout(() => location.reload())", TEN, NAME)
     wait(lambda: browser.run(HEADING) == "Sign in", "signing in")
     assert not browser.all("nav a")
     # signing out of a locked tab
@@ -104,7 +104,7 @@ def locked_with_draft(browser, stage):
 
 def reloaded(browser):
     """The locked tab is loaded again: it asks for a key, and says that it keeps a draft, but not what is in it."""
-    browser.run("location.reload()")
+    browser.run("setTimeout(() => location.reload())")
     wait(lambda: browser.run(HEADING) == "Sign in", "signing in")
     browser.until_says("This tab still has what you typed")
     assert left_behind(browser, "TYPED-7") == [] and len(browser.run(DRAFTS)) == 1
