@@ -59,12 +59,22 @@ STRUCTURE = """const all = it => [...document.querySelectorAll(it)];
         wide: document.documentElement.scrollWidth - document.documentElement.clientWidth,
         language: document.documentElement.lang, title: document.title }"""
 
-# of what has the focus: its name, whether a ring is seen round it, and whether it is in sight itself, under nothing else
-FOCUS = """const it = document.activeElement; const style = getComputedStyle(it);
-    const ring = style.outlineStyle !== 'none' && parseFloat(style.outlineWidth) >= 2;
-    const at = rect => document.elementFromPoint(rect.x + rect.width / 2, rect.y + rect.height / 2);
-    const isSeen = [...it.getClientRects()].some(rect => it.contains(at(rect)) || it.labels?.[0]?.contains(at(rect)));
-    return [it.tagName, (it.labels?.[0] ?? it).textContent.trim().slice(0, 30), ring, isSeen]"""
+# notes of whatever gets the focus its name, whether a ring is seen round it, and whether it is in sight itself, under nothing else; and
+# when the focus leaves the page
+NOTE = """const [first] = [window.reached === undefined, window.reached = []];
+    if (!first) return;
+    const note = () => {
+        const it = document.activeElement; const style = getComputedStyle(it);
+        const ring = style.outlineStyle !== 'none' && parseFloat(style.outlineWidth) >= 2;
+        const at = rect => document.elementFromPoint(rect.x + rect.width / 2, rect.y + rect.height / 2);
+        const isSeen = [...it.getClientRects()].some(rect => it.contains(at(rect)) || it.labels?.[0]?.contains(at(rect)));
+        window.reached.push([it.tagName, (it.labels?.[0] ?? it).textContent.trim().slice(0, 30), ring, isSeen]);
+    };
+    addEventListener('focusin', () => setTimeout(note));
+    addEventListener('blur', it => it.target === window && window.reached.push(null));"""
+# the thing that the tabulator reaches first
+FIRST = "Skip to the content"
+AT_ONCE, MOST = 40, 160
 # a wide window, a phone, and a window of 1,280 pixels that is enlarged to 200 %: width, height, and whether it is a phone
 WIDE, PHONE, ENLARGED = (1280, 900, False), (360, 740, True), (640, 450, False)
 # and the narrowest
@@ -92,16 +102,22 @@ def rings(browser, screen, size):
     width, height, is_phone = size
     browser.look(width, height, narrow=is_phone)
     browser.to_start()
-    reached = 0
-    for _ in range(80):
-        browser.keys("tab")
-        tag, name, ringed, seen = browser.run(FOCUS)
-        if tag == "BODY":
-            break
+    browser.run(NOTE)
+    reached = []
+    while one_round(reached) is None and len(reached) < MOST:
+        browser.tab_through(AT_ONCE)
+        reached = browser.run("return window.reached")
+    found = one_round(reached) or reached
+    for tag, name, ringed, seen in found:
         assert ringed and seen, (screen, size, tag, name, ringed, seen)
-        reached += 1
-    assert reached >= 3, (screen, size, reached)
-    return reached
+    assert len(found) >= 3 and found[0][1] == FIRST, (screen, size, found)
+    return len(found)
+
+
+def one_round(reached):
+    """What is reached until the focus leaves the page or begins again; None if it does not yet."""
+    ends = [place for place, it in enumerate(reached) if place and (it is None or it[1] == FIRST)]
+    return reached[: ends[0]] if ends else None
 
 
 def access(browser, program):

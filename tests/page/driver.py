@@ -14,6 +14,8 @@ PATIENCE = float(os.environ.get("PAGE_PATIENCE", 20))
 ANSWERS = 6 * PATIENCE
 # by which an element is named in JSON
 ELEMENT = "element-6066-11e4-a52e-4f735466cecf"
+# how many milliseconds a page has between two keys
+MOMENT = 30
 KEYS = {"tab": "\ue004", "enter": "\ue007", "space": "\ue00d", "escape": "\ue00c"}
 ARGUMENTS = ["--headless=new", "--no-sandbox", "--disable-gpu", "--disable-dev-shm-usage", "--hide-scrollbars", "--no-first-run"]
 # this machine by a name that no browser knows as its own
@@ -141,6 +143,12 @@ class Browser:
 
     def choose_file(self, element, *files):
         self.ask("POST", f"/element/{element}/value", {"text": "\n".join(files)})
+
+    def tab_through(self, count):
+        """Presses the tabulator this often, with a moment for the page after each."""
+        tab = [{"type": kind, "value": KEYS["tab"]} for kind in ("keyDown", "keyUp")]
+        actions = [*tab, {"type": "pause", "duration": MOMENT}] * count
+        self.ask("POST", "/actions", {"actions": [{"type": "key", "id": "keyboard", "actions": actions}]})
 
     def drop(self, name, text):
         """Drops a file upon the page's place for files."""
