@@ -25,7 +25,7 @@ pub fn query<S: Alter>(
     ensures fails { IfErr result (λ fault. (fault ≡ StoreFault.Memory) ⊎ (fault ≡ StoreFault.Disk)) }
 {
     // This contract says whether a transaction is open.
-    let _was_idle = conn.is_autocommit();
+    let _ = conn.is_autocommit();
     match conn.query_all(text, params) {
         Ok(rows) => Ok(rows),
         Err(error) => Err(fault_by(&error)),
