@@ -1,6 +1,7 @@
 -- What a database holds.
 use Rattle.std.specs.Prelude.{◌≡◌, ◌⊎◌, true, false}
 use Rattle.sqlite.specs.Effect.{Database}
+use Rattle.sqlite.specs.State.{State, HasCleanDisk}
 use Rattle.hub_schema.specs.Rows.{tables_in}
 use Rattle.hub_sound.specs.HubRules.Laws.{SoundHub}
 use Rattle.hub_sound.specs.Showing.{ShowsUnclean, ShowsUnsound}
@@ -28,3 +29,10 @@ IsAuditIfRising t audit = Rising t → IsAudit t audit
 abbrev pub Audits : Database → Audit → Type 0
 Audits db (Earlier number) = ((number ≡ 1) × HoldsTables First db) ⊎ ((number ≡ 2) × HoldsTables Second db)
 Audits db audit = HoldsTables Third db × IsAudit (tables_in db.trees) audit
+
+-- A connection was checked: the disk had returned what was written to it, this is found of the database that it showed,
+-- and afterwards it shows the same rows.
+pub record Checks (was now : State) (audit : Audit) : Type 0 where
+  pub clean : HasCleanDisk was
+  pub audits : Audits was.now audit
+  pub same : tables_in now.now.trees ≡ tables_in was.now.trees

@@ -6,7 +6,7 @@ use Rattle.sqlite_disk.specs.declared.Disk as disk
 use Rattle.sqlite_store.specs.declared.store.FileStore.{FileStore}
 use Rattle.sqlite_wal.specs.Recovery.{Image}
 use Rattle.hub_sql.specs.File.{IsOver}
-use Rattle.hub_audit.specs.Audit.{Audits}
+use Rattle.hub_audit.specs.Audit.{Checks}
 use Rattle.hub_audit.specs.declared.audit.Audit.{Audit}
 
 module _ {D : Type 0} {g : disk.Ghosts D} where
@@ -15,4 +15,4 @@ module _ {D : Type 0} {g : disk.Ghosts D} where
   abbrev pub ChecksFile : Image → Audit × Held (FileStore D g) → Type 0
   ChecksFile image found =
       (conn : Held (FileStore D g)) × IsOver image conn
-      × (HasCleanDisk (file_state found.1) → Audits (file_state conn).now found.0)
+      × (HasCleanDisk (file_state found.1) → Checks (file_state conn) (file_state found.1) found.0)

@@ -1,6 +1,6 @@
 //! Decides what a database holds: whether its rows are a sound start, and how many there are.
 ghost use Rattle.std.specs.Prelude.{◌≡◌, false, IfOk, IsTrue};
-ghost use Rattle.hub_audit.specs.Audit.{Audits, IsAudit, IsAuditIfRising};
+ghost use Rattle.hub_audit.specs.Audit.{Checks, IsAudit, IsAuditIfRising};
 ghost use Rattle.hub_audit.specs.Rows.{content, honest};
 ghost use Rattle.hub_schema.specs.Rows.{tables_in};
 ghost use Rattle.hub_schema.specs.State.{IsHub};
@@ -55,7 +55,8 @@ fn audit_hub<S: Alter + Drop>(
     requires hub { HasCleanDisk (state S.Store conn) → IsHub (state S.Store conn) }
     requires ready { HasCleanDisk (state S.Store conn) → IsReady (state S.Store conn) }
     ensures { IfOk result (λ found. HasCleanDisk (state S.Store found.1) →
-        HasCleanDisk (state S.Store conn) × IsAudit (tables_in (state S.Store conn).now.trees) found.0) }
+        HasCleanDisk (state S.Store conn) × IsAudit (tables_in (state S.Store conn).now.trees) found.0
+        × (tables_in (state S.Store found.1).now.trees ≡ tables_in (state S.Store conn).now.trees)) }
 {
     let mut rows = HubRows { conn, alloc };
     let audit = audit_rows(&mut rows, alloc)?;
@@ -66,7 +67,7 @@ fn audit_hub<S: Alter + Drop>(
 fn audit_earlier<S: Alter + Drop>(conn: Connection<S>) -> Result<(Audit, Connection<S>), StoreFault>
     requires idle { conn.in_transaction ≡ false }
     ensures { IfOk result (λ found. HasCleanDisk (state S.Store found.1) →
-        HasCleanDisk (state S.Store conn) × Audits (state S.Store conn).now found.0) }
+        Checks (state S.Store conn) (state S.Store found.1) found.0) }
 {
     match of_version(conn, Version::First) {
         Ok(conn) => Ok((Audit::Earlier(1), conn)),
@@ -89,8 +90,8 @@ pub fn check_database<S: Alter + Drop>(
     requires ready { HasCleanDisk (state S.Store conn) → IsReady (state S.Store conn) }
     requires rising { HasCleanDisk (state S.Store conn) →
         AreRising (state S.Store conn).now.trees conn.schema.tables }
-    ensures { IfOk result (λ found.
-        HasCleanDisk (state S.Store found.1) → Audits (state S.Store conn).now found.0) }
+    ensures { IfOk result (λ found. HasCleanDisk (state S.Store found.1) →
+        Checks (state S.Store conn) (state S.Store found.1) found.0) }
 {
     match of_hub(conn) {
         Ok((conn, Version::Third)) => audit_hub(alloc, conn),
