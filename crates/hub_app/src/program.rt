@@ -377,7 +377,7 @@ what it counted:
 Otherwise it prints one line with a row that shows what is wrong, by its table and its key:
 
   unclean line 4012345500004 128576 1  the row does not have the form of its kind
-  unsound pallet 340123450000000016    the row does not fit the others
+  unsound pallet 340123455000000012    the row does not fit the others
   unsound hub                          the rows hold no register
 
 In a key, each byte that is not a visible character is written as % and two hexadecimal digits, and % itself
