@@ -354,7 +354,7 @@ fn rekey_command<'a>(alloc: Global) -> Result<Command<'a>, AllocError>
 const VERIFY: &str = "Checks whether all rows of a database are a sound start";
 
 const VERIFY_HELP: &str =
-    "It reads every row, changes nothing and asks for no key. Stop the hub before, or verify a copy:
+    "It reads every row, changes none and asks for no key. Stop the hub before, or verify a copy:
 
   edihub verify --db hub.db
 

@@ -34,8 +34,8 @@ module _ {S : Type 0} (g : Ghosts S) (was now : State) where
       → (HasCleanDisk now → HoldsTables version was.now × IsAsBefore was now) → (HasCleanDisk now → HasCleanDisk was)
       → (result : Result (Audit × Held S) StoreFault)
       → IfOk result (λ found. HasCleanDisk (state g found.1) →
-        HasCleanDisk now × IsAudit (tables_in now.now.trees) found.0
-        × (tables_in (state g found.1).now.trees ≡ tables_in now.now.trees))
+      HasCleanDisk now × IsAudit (tables_in now.now.trees) found.0
+      × (tables_in (state g found.1).now.trees ≡ tables_in now.now.trees))
       → IfOk result (λ found. HasCleanDisk (state g found.1) → Checks was (state g found.1) found.0)
   third_audited version third holds before (Ok found) h =
       λ clean.
@@ -44,8 +44,9 @@ module _ {S : Type 0} (g : Ghosts S) (was now : State) where
       record {
         clean = before it.0;
         audits = of_third was.now found.0 (subst (λ v. HoldsTables v was.now) third as_before.0)
-          (subst (λ (db : Database). IsAudit (tables_in db.trees) found.0) as_before.1.shown it.1);
-        same = subst (λ (db : Database). tables_in (state g found.1).now.trees ≡ tables_in db.trees) as_before.1.shown it.2 }
+            (subst (λ (db : Database). IsAudit (tables_in db.trees) found.0) as_before.1.shown it.1);
+        same = subst (λ (db : Database). tables_in (state g found.1).now.trees ≡ tables_in db.trees) as_before.1.shown it.2;
+      }
   third_audited version third holds before (Err fault) h = tt
 
   pub earlier_audited : (HasCleanDisk now → IsAsBefore was now) → (HasCleanDisk now → HasCleanDisk was)
@@ -59,7 +60,8 @@ module _ {S : Type 0} (g : Ghosts S) (was now : State) where
       record {
         clean = before it.clean;
         audits = subst (λ (db : Database). Audits db found.0) shown it.audits;
-        same = subst (λ (db : Database). tables_in (state g found.1).now.trees ≡ tables_in db.trees) shown it.same }
+        same = subst (λ (db : Database). tables_in (state g found.1).now.trees ≡ tables_in db.trees) shown it.same;
+      }
   earlier_audited as_before before (Err fault) h = tt
 
 -- of a connection that was opened over files

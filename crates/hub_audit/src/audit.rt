@@ -63,7 +63,7 @@ fn audit_hub<S: Alter + Drop>(
     Ok((audit, rows.conn))
 }
 
-// The number of schema 1, if the tables are its.
+// The number of schema 1, if the tables are those of schema 1.
 fn audit_earlier<S: Alter + Drop>(conn: Connection<S>) -> Result<(Audit, Connection<S>), StoreFault>
     requires idle { conn.in_transaction ≡ false }
     ensures { IfOk result (λ found. HasCleanDisk (state S.Store found.1) →

@@ -16,8 +16,8 @@ use sqlite_store::FileStore;
 ///
 /// # Errors
 ///
-/// `Memory`; `Disk` if the file cannot be opened or read, is no database, or another program has it open; `Version` if it
-/// has no tables, others than a hub's or another number of the schema.
+/// `Memory`; `Disk` if the file cannot be opened or read, is no database, or another program has it open; `Version` if
+/// it has no tables, others than a hub's or another number of the schema.
 pub fn check_file<S: Start>(
     rt: &HostRuntime,
     path: &str,

@@ -2,7 +2,7 @@
 ghost use Rattle.std.specs.Prelude.{◌≡◌};
 ghost use Rattle.hub_schema.specs.State.{LooksFor, Never};
 ghost use Rattle.hub_tables.specs.Sets.{Rising};
-ghost use Rattle.hub_verify.specs.AllRows.{IsRegistered};
+ghost use Rattle.hub_founding.specs.Founding.{IsHeldBy};
 ghost use Rattle.sqlite.specs.Held.{state};
 
 use crate::kinds::{every_hub, every_prefix, every_supplier};
@@ -22,7 +22,7 @@ fn register_by<S: Alter>(
     keys: &[KeyRow],
 ) -> Result<Option<Register>, StoreFault>
     ensures { LooksFor
-        (λ t register. t.hubs ≡ hubs.now → t.keys ≡ keys.now → Rising t → IsRegistered t register) Never
+        (λ t register. t.hubs ≡ hubs.now → t.keys ≡ keys.now → Rising t → IsHeldBy t register) Never
         (state S.Store conn.old) (state S.Store conn.new) result }
 {
     match every_prefix(conn, alloc)? {
@@ -37,7 +37,7 @@ fn register_of_hubs<S: Alter>(
     alloc: Global,
     hubs: &[HubRow],
 ) -> Result<Option<Register>, StoreFault>
-    ensures { LooksFor (λ t register. t.hubs ≡ hubs.now → Rising t → IsRegistered t register) Never
+    ensures { LooksFor (λ t register. t.hubs ≡ hubs.now → Rising t → IsHeldBy t register) Never
         (state S.Store conn.old) (state S.Store conn.new) result }
 {
     match every_supplier(conn, alloc)? {
@@ -46,12 +46,13 @@ fn register_of_hubs<S: Alter>(
     }
 }
 
-/// Returns the register that the rows hold; `None` if they hold none, as if one of them lacks the form of its kind.
+/// Returns the register that the rows hold; `None` if they hold none, for example if one of them lacks
+/// the form of its kind.
 pub(crate) fn register<S: Alter>(
     conn: &mut Connection<S>,
     alloc: Global,
 ) -> Result<Option<Register>, StoreFault>
-    ensures { LooksFor IsRegistered Never (state S.Store conn.old) (state S.Store conn.new) result }
+    ensures { LooksFor IsHeldBy Never (state S.Store conn.old) (state S.Store conn.new) result }
 {
     match every_hub(conn, alloc)? {
         Read::Rows(hubs) => register_of_hubs(conn, alloc, hubs.as_slice()),

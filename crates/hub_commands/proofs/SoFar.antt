@@ -12,7 +12,7 @@ use Rattle.hub_requests.specs.declared.request.Input.{Input}
 use Rattle.edi_base.specs.declared.source.ReadFault.{ReadFault}
 use Rattle.edi_base.specs.declared.source.ReadFault.TheVariants.{Read, Memory}
 use Rattle.hub_commands.specs.Files.{Gave, FaultComesOf, GivenAs, GivesFile}
-use Rattle.hub_commands.specs.Import.{Looked, Answered, Unread, NoMemory, Unprinted, Of, TakesFile, ImportGoesOn, ImportEnds}
+use Rattle.hub_commands.specs.Import.{Looked, Answered, Unread, NoMemory, Unprinted, Of, TakesFiles, ImportGoesOn, ImportEnds}
 use Rattle.hub_commands.specs.Import.{Imported, StillCome, WasGiven}
 use Rattle.hub_commands.specs.Import.{uploads, replies, import_text, greatest, line_of, text_of, file_status}
 use Rattle.hub_commands.specs.Import as looked_at
@@ -25,7 +25,7 @@ use Rattle.hub_commands.proofs.Output.{written_then, written_as}
 pub record Taken {B : Type 0} (remaining : B → Option (List ℕ)) (broken : B → Type 0) (known rest : Option (List (NextFile B)))
     (looked : List Looked) : Type 0 where
   pub others : List (NextFile B)
-  pub taken : IfSome known (λ files. TakesFile remaining broken files looked others × (rest ≡ Some others))
+  pub taken : IfSome known (λ files. TakesFiles remaining broken files looked others × (rest ≡ Some others))
 
 -- the import goes on after all files that were looked at
 pub record SoFar {B : Type 0} (remaining : B → Option (List ℕ)) (broken : B → Type 0) (Runs : List Input → List Reply → Type 0)
@@ -65,11 +65,11 @@ read_not_memory e = absurd cc
 
 module _ {B : Type 0} (remaining : B → Option (List ℕ)) (broken : B → Type 0) where
   takes_more : (files : List (NextFile B)) (looked : List Looked) (file : NextFile B) (one : Looked) (others : List (NextFile B))
-      → TakesFile remaining broken files looked (file ∷ others)
+      → TakesFiles remaining broken files looked (file ∷ others)
       → Of remaining broken file one
-      → TakesFile remaining broken files (looked ++ one ∷ []) others
+      → TakesFiles remaining broken files (looked ++ one ∷ []) others
   takes_more files [] file one others takes is =
-      subst (λ (fs : List (NextFile B)). TakesFile remaining broken fs (one ∷ []) others) (sym takes) (is, refl)
+      subst (λ (fs : List (NextFile B)). TakesFiles remaining broken fs (one ∷ []) others) (sym takes) (is, refl)
   takes_more [] (first ∷ looked) file one others takes is = absurd takes
   takes_more (f ∷ files) (first ∷ looked) file one others takes is = (takes.0, takes_more files looked file one others takes.1 is)
 
@@ -133,7 +133,7 @@ module _ {B : Type 0} (remaining : B → Option (List ℕ)) (broken : B → Type
     others = gives.1;
     taken = (
       takes_more files looked gives.0 one gives.1
-          (subst (λ (fs : List (NextFile B)). TakesFile remaining broken files looked fs)
+          (subst (λ (fs : List (NextFile B)). TakesFiles remaining broken files looked fs)
           (sym (ap (λ (r : Option (List (NextFile B))). unwrap_or r rest) t.taken.1) ∙ gives.2) t.taken.0)
           (given_is gives.0 given one gives.4 is),
       gives.3,
@@ -145,13 +145,13 @@ module _ {B : Type 0} (remaining : B → Option (List ℕ)) (broken : B → Type
       → Taken remaining broken known rest looked
       → IfSome rest (λ files. (file : NextFile B) × (others : List (NextFile B)) × (files ≡ file ∷ others))
       → left ≡ rest
-      → (others : List (NextFile B)) × IfSome known (λ files. TakesFile remaining broken files (looked ++ NoMemory None ∷ []) others)
+      → (others : List (NextFile B)) × IfSome known (λ files. TakesFiles remaining broken files (looked ++ NoMemory None ∷ []) others)
       × IfSome known (λ files. StillCome remaining broken files looked (NoMemory None) others left)
   taken_no_memory None rest left looked t gives same = ([], tt, tt)
   taken_no_memory (Some files) None left looked t gives same = absurd cc
   taken_no_memory (Some files) (Some rest) left looked t gives same =
-      let takes : TakesFile remaining broken files looked (gives.0 ∷ gives.1) =
-      subst (λ (fs : List (NextFile B)). TakesFile remaining broken files looked fs)
+      let takes : TakesFiles remaining broken files looked (gives.0 ∷ gives.1) =
+      subst (λ (fs : List (NextFile B)). TakesFiles remaining broken files looked fs)
       (sym (ap (λ (r : Option (List (NextFile B))). unwrap_or r rest) t.taken.1) ∙ gives.2) t.taken.0 in (
         gives.1,
         takes_more files looked gives.0 (NoMemory None) gives.1 takes tt,
@@ -159,7 +159,7 @@ module _ {B : Type 0} (remaining : B → Option (List ℕ)) (broken : B → Type
       )
 
   pub taken_known : (known rest : Option (List (NextFile B))) (looked : List Looked) (t : Taken remaining broken known rest looked)
-      → IfSome known (λ files. TakesFile remaining broken files looked t.others)
+      → IfSome known (λ files. TakesFiles remaining broken files looked t.others)
   taken_known None rest looked t = tt
   taken_known (Some files) rest looked t = t.taken.0
 
@@ -194,11 +194,11 @@ module _ {B : Type 0} (remaining : B → Option (List ℕ)) (broken : B → Type
   none_left : (known rest left : Option (List (NextFile B))) (looked : List Looked)
       → Taken remaining broken known rest looked
       → IfSome rest (λ files. (files ≡ []) × (left ≡ Some []))
-      → IfSome known (λ files. TakesFile remaining broken files looked [])
+      → IfSome known (λ files. TakesFiles remaining broken files looked [])
   none_left None rest left looked t none = tt
   none_left (Some files) None left looked t none = absurd cc
   none_left (Some files) (Some rest) left looked t none =
-      subst (λ (fs : List (NextFile B)). TakesFile remaining broken files looked fs)
+      subst (λ (fs : List (NextFile B)). TakesFiles remaining broken files looked fs)
       (sym (ap (λ (r : Option (List (NextFile B))). unwrap_or r rest) t.taken.1) ∙ none.0) t.taken.0
 
   taken_none : (known : Option (List (NextFile B))) → Taken remaining broken known known []
@@ -272,7 +272,7 @@ module _ {B : Type 0} (remaining : B → Option (List ℕ)) (broken : B → Type
     })
 
     pub early : (left : Option (List (NextFile B))) (others : List (NextFile B))
-        → IfSome known (λ files. TakesFile remaining broken files (s.looked ++ one ∷ []) others)
+        → IfSome known (λ files. TakesFiles remaining broken files (s.looked ++ one ∷ []) others)
         → IfSome known (λ files. StillCome remaining broken files s.looked one others left)
         → ImportEnds between new middle after [] one
         → Imported remaining broken After asked known left old new failed after 3

@@ -32,13 +32,13 @@ Of remaining broken file Unnamed = file ≡ files.Unnamed
 Of remaining broken file (NoMemory name) = IfSome name (IsCalled file)
 Of remaining broken file (Unprinted name) = IsCalled file name
 
--- it came of the first files, one after another, and the rest still come
-abbrev pub TakesFile : {B : Type 0} → (B → Option (List ℕ)) → (B → Type 0) → List (NextFile B) → List Looked
+-- each result is that of one of the first files, in order, and the rest still come
+abbrev pub TakesFiles : {B : Type 0} → (B → Option (List ℕ)) → (B → Type 0) → List (NextFile B) → List Looked
     → List (NextFile B) → Type 0
-TakesFile remaining broken files [] rest = files ≡ rest
-TakesFile remaining broken [] (one ∷ looked) rest = ⊥
-TakesFile remaining broken (file ∷ files) (one ∷ looked) rest =
-    Of remaining broken file one × TakesFile remaining broken files looked rest
+TakesFiles remaining broken files [] rest = files ≡ rest
+TakesFiles remaining broken [] (one ∷ looked) rest = ⊥
+TakesFiles remaining broken (file ∷ files) (one ∷ looked) rest =
+    Of remaining broken file one × TakesFiles remaining broken files looked rest
 
 -- it was given: memory did not give out before its name was known
 abbrev pub WasGiven : Looked → Type 0
@@ -58,7 +58,7 @@ StillCome remaining broken files earlier (Unread name) rest left = left ≡ Some
 StillCome remaining broken files earlier Unnamed rest left = left ≡ Some rest
 StillCome remaining broken files earlier (NoMemory (Some name)) rest left = left ≡ Some rest
 StillCome {B} remaining broken files earlier (NoMemory None) rest left =
-    (file : NextFile B) × TakesFile remaining broken files earlier (file ∷ rest) × (left ≡ Some (file ∷ rest))
+    (file : NextFile B) × TakesFiles remaining broken files earlier (file ∷ rest) × (left ≡ Some (file ∷ rest))
 StillCome remaining broken files earlier (Unprinted name) rest left = left ≡ Some rest
 
 -- the import goes on after it
@@ -181,7 +181,7 @@ pub record Imported {B : Type 0} (remaining : B → Option (List ℕ)) (broken :
     (old new : Option (List ℕ)) (failed after : Bool) (status : ℕ) : Type 0 where
   pub looked : List Looked
   pub rest : List (NextFile B)
-  pub taken : IfSome known (λ files. TakesFile remaining broken files looked rest)
+  pub taken : IfSome known (λ files. TakesFiles remaining broken files looked rest)
   pub ran : Runs (uploads asked looked) (replies looked)
   pub ended : WholeImport (IfSome known (λ files. left ≡ Some [])) old new failed after looked rest status
       ⊎ Early (λ earlier last. IfSome known (λ files. StillCome remaining broken files earlier last rest left)) old new

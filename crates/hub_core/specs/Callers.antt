@@ -52,7 +52,7 @@ addressed_by register (Supplier s) = addressed s.now.gln (register.hub ∷ regis
 abbrev pub opening_of : RegisterRows → Caller → List ℕ → Opened
 opening_of register caller bytes = addressed_by register caller (interchange_in bytes)
 
--- what an upload that was opened as this does, for each way to stop
+-- what an upload that was opened as this does, whole or stopped in each way
 abbrev pub does_opened : RegisterRows → Caller → ℕ → Opened → Does
 does_opened register caller moment opened mark t = uploaded (delivered register caller) moment mark opened t
 

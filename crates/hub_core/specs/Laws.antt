@@ -63,16 +63,16 @@ reply_after run before = slice_get run.replies (length before)
 abbrev pub AgreeOn : List ℕ → HubRun → HubRun → Type 0
 AgreeOn gln one other = Agree gln one.start other.start one.ran.marked other.ran.marked
 
--- an input of a run that was not stopped, with the inputs before it and those after it
+-- an input that was not stopped, in a run, with the inputs before it and those after it
 pub record WholeInput (run : HubRun) : Type 0 where
   pub before : Inputs
   pub input : Input
   pub later : Inputs
   pub are : run.ran.marked ≡ before ++ (input, Whole) ∷ later
 
--- two runs agree on a GLN up to these inputs, each of which asks for its status
-abbrev pub AgreeUpTo : List ℕ → (one other : HubRun) → WholeInput one → WholeInput other → Type 0
-AgreeUpTo gln one other x y =
+-- two runs agree on a GLN, each of these inputs asks for its status, and equally many of its items come before each
+abbrev pub AgreeAndAsk : List ℕ → (one other : HubRun) → WholeInput one → WholeInput other → Type 0
+AgreeAndAsk gln one other x y =
     AgreeBefore gln one.start other.start x.before x.later y.before y.later x.input y.input
 
 -- A message is accepted on the way from the tables `t` to `u`: after some inputs a step accepts it, and others follow.

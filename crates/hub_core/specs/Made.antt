@@ -6,8 +6,8 @@ use Rattle.hub_store.specs.Calls.{Looks, Fails, ReadsRegister}
 use Rattle.hub_store.specs.declared.fault.StoreFault.{StoreFault}
 use Rattle.hub_store.specs.declared.store.Store.{Ghosts}
 
--- The register in a store's rows was read: what was returned, and how the store was left, if its rows hold a register
--- and if they do not.
+-- The register in a store's rows was read: what was returned, and how the store was left, whether
+-- or not its rows hold a register, and more if they do.
 pub record MakesHub {S : Type 0} (g : Ghosts S) (old new : S) (result : Result RegisterRows StoreFault) : Type 0 where
   pub looks : (g.honest old → HoldsRegister (g.content old)) →
       Looks g.content g.honest g.left g.broken old new (register_of (g.content old)) result

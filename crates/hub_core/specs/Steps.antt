@@ -31,7 +31,7 @@ pub record SoundWith (register : RegisterRows) (t : Tables) : Type 0 where
 abbrev pub IsNoJoin : Request → Type 0
 IsNoJoin request = (row : SupplierRow) → request ≢ Join row
 
--- what a request does, for each way to stop
+-- what a request does, whole or stopped in each way
 abbrev pub Does : Type 0
 Does = Mark → Tables → Reply × Tables
 
@@ -97,7 +97,8 @@ LinesBalance t = AllByRecursion (λ line. Balanced (view line.supplier t) line) 
 
 -- A step: the shared machine's, as a whole or up to where it was stopped, which the reply says. A sound start stays
 -- sound, so lines balance, and each GLN but the retailer's, registered or not, sees and is told what it would be alone.
--- A crash leaves the acts that are done, or one more, and a sound start if there was one.
+-- A crash leaves the acts that are done, or one more, or, if nothing changed, what it could leave before; and only
+-- sound tables if it could leave only such before.
 pub record Stepped (t after : Tables) (before left : Tables → Type 0) (input : Input) (reply : Reply) : Type 0 where
   pub mark : Mark
   pub is : shared_step t input mark ≡ (reply, after)
@@ -155,7 +156,8 @@ pub record RunBy (t after : Tables) (inputs : List Input) (replies : List Reply)
   pub balance : LinesBalance after
   pub alone : (gln : List ℕ) → IsOther gln t → RunAlone gln t after marked replies
 
--- A run over a store: a crash leaves the acts that are done, or one more, and a sound start if there was one.
+-- A run over a store: a crash leaves the acts that are done, or one more, or, if nothing changed, what it could leave
+-- before; and only sound tables if it could leave only such before.
 pub record RunAndCrash (t after : Tables) (before left : Tables → Type 0) (inputs : List Input) (replies : List Reply)
     : Type 0 where
   pub run : RunBy t after inputs replies

@@ -13,7 +13,7 @@ use Rattle.hub_core.specs.Steps.{Does}
 use Rattle.hub_core.specs.declared.upload.OpenedUpload.{OpenedUpload}
 
 -- For an upload whose messages are handled: whether its caller may send them over these tables, the act of each, and
--- what the upload does, for each way to stop.
+-- what the upload does, whole or stopped in each way.
 abbrev pub MayTake : OpenedUpload → Tables → Type 0
 MayTake upload = MayDeliver upload.register.now upload.caller
 

@@ -11,7 +11,7 @@ ghost use Rattle.hub_law.specs.Replies.{act_reply};
 ghost use Rattle.hub_law.specs.Told.{Accepted, Repeated};
 ghost use Rattle.hub_requests.specs.declared.reply.Reply.{Reply};
 ghost use Rattle.hub_requests.specs.declared.request.Input.{Input};
-ghost use Rattle.hub_core.specs.Laws.{OfTheMachine, ReportsResult, HubRun, WholeInput, AgreeOn, AgreeUpTo, reply_after};
+ghost use Rattle.hub_core.specs.Laws.{OfTheMachine, ReportsResult, HubRun, WholeInput, AgreeOn, AgreeAndAsk, reply_after};
 ghost use Rattle.hub_core.specs.Laws.{AcceptedEarlier, ComesAgain, ComesAgainIn, CancelledAgain, inputs_to, remembered_row, before_second};
 
 use hub_law::{
@@ -30,7 +30,7 @@ pub fn hubs_isolate_suppliers()
     ensures told { (gln : List ℕ) (one other : HubRun) → AgreeOn gln one other →
         replies_to gln one.ran.marked one.replies ≡ replies_to gln other.ran.marked other.replies }
     ensures status { (gln : List ℕ) (one other : HubRun) (x : WholeInput one) (y : WholeInput other) →
-        AgreeUpTo gln one other x y → reply_after one x.before ≡ reply_after other y.before }
+        AgreeAndAsk gln one other x y → reply_after one x.before ≡ reply_after other y.before }
 {
     runs_alike();
 }

@@ -62,10 +62,10 @@ is_of_received t receipt = was_received t receipt.sscc
 abbrev pub goes_on : Tables → MailRow → Bool
 goes_on t entry = (entry.number == 1) || is_some (entry_at (view entry.supplier t) (entry.number - 1))
 
--- The row of this kind and key shows it: a pallet that is under no prefix of its supplier; a line without its order; a
--- content without its pallet; a receipt of a pallet that was not received; an entry after a gap; and among what some
--- supplier sees a line that is out of balance, or a content without its line. If the tables hold no register, no single
--- row shows it, and the key is empty.
+-- In clean tables, the row of this kind and key shows that they are not sound: a pallet that is under no prefix of its
+-- supplier; a line without its order; a content without its pallet; a receipt of a pallet that was not received; an
+-- entry after a gap; and among what some supplier sees a line that is out of balance, or a content without its line. If
+-- the tables hold no register, no single row shows it, and the key is empty.
 abbrev pub ShowsUnsound : Tables → RowKind → Key → Type 0
 ShowsUnsound t Hub key = HoldsNone t × (key ≡ [])
 ShowsUnsound t Pallet key = Fails pallet_key (fits_pallet (register_of t)) t.pallets key

@@ -41,7 +41,7 @@ pub enum KeyCell {
     Bytes(Items<u8>),
     /// A number.
     Number(u64),
-    /// What no row of its kind has there.
+    /// A value that no clean row has there.
     Other,
 }
 

@@ -10,7 +10,7 @@ ghost use Rattle.hub_sound.specs.Showing.{Checked, ShowsUnclean, ShowsUnsound};
 ghost use Rattle.hub_sound.specs.declared.finding.Finding.{Finding};
 ghost use Rattle.hub_sound.specs.declared.finding.RowKind.{RowKind};
 
-/// A row that shows it is why tables are not clean.
+/// A row that shows that tables are not clean is a reason why they are not.
 pub fn unclean_rows_show()
     ensures { (t : Tables) (kind : RowKind) (key : Key) → ShowsUnclean t kind key → are_clean t ≡ false }
 {}

@@ -18,7 +18,7 @@ use Rattle.hub_sound.specs.Finding.{pallet_key}
 use Rattle.hub_sound.specs.declared.finding.RowKind.TheVariants.{Pallet}
 use Rattle.hub_store.specs.Clean.{clean_pallet}
 use Rattle.hub_tables.specs.declared.rows.PalletRow.{PalletRow}
-use Rattle.hub_verify.specs.Cross.{IsRooted}
+use Rattle.hub_verify.specs.Cross.{TellsRooted}
 use Rattle.hub_verify.specs.AllRows.{Tells, IsRead}
 use Rattle.hub_verify.specs.Verdict.{ToldUnsound}
 use Rattle.hub_verify.specs.declared.all_rows.Read.{Read as Found}
@@ -94,16 +94,16 @@ module _ {S : Type 0} (content : S → Tables) (honest : S → Type 0) (register
   all_pallets t h = slice ∙ rows_are pallet_key clean_pallet t.pallets read xs is h
 
   pub rooted_none : None ≡ find (λ pallet. not (fits_pallet register pallet)) ys
-      → Tells content honest (IsRooted register) old mid (Ok None)
+      → Tells content honest (TellsRooted register) old mid (Ok None)
   rooted_none none =
-      follows content honest (λ t. IsRead pallet_key clean_pallet t.pallets) (IsRooted register) old mid read None
+      follows content honest (λ t. IsRead pallet_key clean_pallet t.pallets) (TellsRooted register) old mid read None
       (λ t h. subst (λ zs. list_all (fits_pallet register) zs ≡ true) (all_pallets t h) (none_fails (fits_pallet register) ys none))
       was_read
 
   pub rooted_some : (row : PalletRow) → Some row ≡ find (λ pallet. not (fits_pallet register pallet)) ys → (found : Finding)
-      → (found.kind ≡ Pallet) × (found.key ≡ pallet_key row) → Tells content honest (IsRooted register) old mid (Ok (Some found))
+      → (found.kind ≡ Pallet) × (found.key ≡ pallet_key row) → Tells content honest (TellsRooted register) old mid (Ok (Some found))
   rooted_some row some found named =
-      follows content honest (λ t. IsRead pallet_key clean_pallet t.pallets) (IsRooted register) old mid read (Some found)
+      follows content honest (λ t. IsRead pallet_key clean_pallet t.pallets) (TellsRooted register) old mid read (Some found)
       (λ t h.
       let it = found_fails (fits_pallet register) ys row some in
       (named.0, (row, subst (λ zs. Has zs row) (all_pallets t h) it.0, it.1, sym named.1)))

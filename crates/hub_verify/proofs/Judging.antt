@@ -13,8 +13,8 @@ use Rattle.hub_store.specs.Clean.{are_clean}
 use Rattle.hub_tables.specs.Register.{register_of}
 use Rattle.hub_tables.specs.Sets.{Rising}
 use Rattle.hub_tables.specs.Tables.{Tables}
-use Rattle.hub_verify.specs.AllRows.{Tells, IsRegistered}
-use Rattle.hub_verify.specs.Cross.{IsRooted, PartiesFit, RowsFit}
+use Rattle.hub_verify.specs.AllRows.{Tells}
+use Rattle.hub_verify.specs.Cross.{TellsRooted, PartiesFit, RowsFit}
 use Rattle.hub_verify.specs.Goods.{TellsOfAll}
 use Rattle.hub_verify.specs.Verdict.{ToldUnclean, ToldUnsound, IsVerdict}
 use Rattle.hub_verify.specs.declared.verdict.Verdict.{Verdict as Judged}
@@ -24,21 +24,21 @@ use Rattle.hub_verify.proofs.Telling.{follows, then}
 module _ {S : Type 0} (content : S → Tables) (honest : S → Type 0) where
   pub no_register_told : (old mid : S) (held : Option RegisterRows) → held ≡ None → (found : Finding)
       → (found.kind ≡ kinds.Hub) × (found.key ≡ [])
-      → Tells content honest IsRegistered old mid (Ok held) → Tells content honest (ToldUnsound PartiesFit) old mid (Ok (Some found))
+      → Tells content honest IsHeldBy old mid (Ok held) → Tells content honest (ToldUnsound PartiesFit) old mid (Ok (Some found))
   no_register_told old mid held none found hub =
-      follows content honest IsRegistered (ToldUnsound PartiesFit) old mid held (Some found)
+      follows content honest IsHeldBy (ToldUnsound PartiesFit) old mid held (Some found)
       (λ t h. subst (λ kind. ShowsUnsound t kind found.key) (sym hub.0) (subst (IsHeldBy t) none h, hub.1))
 
   pub parties_told : (old mid new : S) (held : Option RegisterRows) (register : RegisterRows) → held ≡ Some register
       → (found : Option Finding)
-      → Tells content honest IsRegistered old mid (Ok held)
-      → Tells content honest (IsRooted register) mid new (Ok found)
+      → Tells content honest IsHeldBy old mid (Ok held)
+      → Tells content honest (TellsRooted register) mid new (Ok found)
       → Tells content honest (ToldUnsound PartiesFit) old new (Ok found)
   parties_told old mid new held register some found a b =
-      then content honest IsRegistered (IsRooted register) (ToldUnsound PartiesFit) old mid new held
+      then content honest IsHeldBy (TellsRooted register) (ToldUnsound PartiesFit) old mid new held
       (λ t h f it. one t (subst (IsHeldBy t) some h) f it) a (Ok found) b
     where
-      one : (t : Tables) → IsHeldBy t (Some register) → (f : Option Finding) → IsRooted register t f → ToldUnsound PartiesFit t f
+      one : (t : Tables) → IsHeldBy t (Some register) → (f : Option Finding) → TellsRooted register t f → ToldUnsound PartiesFit t f
       one t h None it = record { register = h.0; pallets = subst (λ r. list_all (fits_pallet r) t.pallets ≡ true) h.1 it }
       one t h (Some f) it =
           subst (λ kind. ShowsUnsound t kind f.key) (sym it.0) (subst (λ r. Fails pallet_key (fits_pallet r) t.pallets f.key) h.1 it.1)

@@ -21,7 +21,3 @@ pub record Tells {S X : Type 0} (content : S → Tables) (honest : S → Type 0)
 abbrev pub IsRead : {X : Type 0} → (X → Key) → (X → Bool) → List X → Found X → Type 0
 IsRead key_of clean rows (Rows found) = (found ≡ rows) × (list_all clean rows ≡ true)
 IsRead key_of clean rows (Unclean key) = Fails key_of clean rows key
-
--- the register is theirs; and where there is none, they hold none
-abbrev pub IsRegistered : Tables → Option RegisterRows → Type 0
-IsRegistered = IsHeldBy

@@ -11,9 +11,9 @@ use Rattle.hub_tables.specs.Register.{HoldsRegister, register_of}
 use Rattle.hub_tables.specs.Tables.{Tables}
 
 -- each pallet is under a prefix that this register has for its supplier; or it is a pallet that is not
-abbrev pub IsRooted : RegisterRows → Tables → Option Finding → Type 0
-IsRooted register t None = list_all (fits_pallet register) t.pallets ≡ true
-IsRooted register t (Some found) =
+abbrev pub TellsRooted : RegisterRows → Tables → Option Finding → Type 0
+TellsRooted register t None = list_all (fits_pallet register) t.pallets ≡ true
+TellsRooted register t (Some found) =
     (found.kind ≡ Pallet) × Fails pallet_key (fits_pallet register) t.pallets found.key
 
 -- the tables hold a register, and each pallet is under a prefix of its supplier

@@ -7,7 +7,8 @@ ghost use Rattle.hub_store.specs.Clean.{clean_hub, clean_key, clean_prefix, clea
 ghost use Rattle.hub_store.specs.Clean.{clean_content, clean_receipt, clean_remembered, clean_mail};
 ghost use Rattle.hub_tables.specs.State.{knows_order, entry_at, contents_of};
 ghost use Rattle.hub_tables.specs.Tables.{Tables, has_pallet, view};
-ghost use Rattle.hub_verify.specs.AllRows.{Tells, IsRead, IsRegistered};
+ghost use Rattle.hub_founding.specs.Founding.{IsHeldBy};
+ghost use Rattle.hub_verify.specs.AllRows.{Tells, IsRead};
 
 use edi_base::Items;
 use gs1_ids::{Gln, Sscc};
@@ -38,7 +39,7 @@ pub trait AllRows {
 
     /// The register that the rows hold, if they hold one.
     fn register(&mut self) -> Result<Option<Register>, StoreFault>
-        ensures { Tells content honest IsRegistered self.old self.new result };
+        ensures { Tells content honest IsHeldBy self.old self.new result };
 
     /// The hub's rows.
     fn every_hub(&mut self) -> Result<Read<HubRow>, StoreFault>

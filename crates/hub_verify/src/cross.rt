@@ -5,7 +5,7 @@ ghost use Rattle.gs1_ids.specs.Sscc.{under_some};
 ghost use Rattle.hub_founding.specs.Fits.{fits_pallet};
 ghost use Rattle.hub_sound.specs.Showing.{has_order, is_on_pallet, is_of_received, goes_on};
 ghost use Rattle.hub_verify.specs.AllRows.{Tells};
-ghost use Rattle.hub_verify.specs.Cross.{IsRooted, PartiesFit, RowsFit};
+ghost use Rattle.hub_verify.specs.Cross.{TellsRooted, PartiesFit, RowsFit};
 ghost use Rattle.hub_sound.specs.declared.finding.RowKind.TheVariants as kinds;
 ghost use Rattle.hub_verify.specs.Verdict.{ToldUnsound};
 
@@ -230,13 +230,13 @@ fn first_unrooted<'p>(register: &Register, pallets: &'p [PalletRow]) -> Option<&
     None
 }
 
-// A pallet of another supplier's prefix.
+// A pallet that is under no prefix of its supplier.
 fn unrooted_pallet<S: AllRows>(
     store: &mut S,
     alloc: Global,
     register: &Register,
 ) -> Result<Option<Finding>, StoreFault>
-    ensures { Tells S.content S.honest (IsRooted register.now) store.old store.new result }
+    ensures { Tells S.content S.honest (TellsRooted register.now) store.old store.new result }
 {
     let read = store.every_pallet()?;
     let pallets = rows_of(read)?;

@@ -11,9 +11,9 @@ use crate::verdict::Verdict;
 use hub_store::StoreFault;
 use std::alloc::Global;
 
-/// Returns `Sound` exactly if the rows are clean and a sound start, and otherwise the row that shows that they are not. The
-/// contract asks that the keys of each kind rise, as they do in a database file. Apart from the register and the GLNs of
-/// suppliers, it keeps at most one table, or the rows of one supplier, at a time.
+/// Returns `Sound` exactly if the rows are clean and a sound start, and otherwise the row that shows that they are not.
+/// This is promised if the keys of each kind rise, as they do in a database file. Apart from the register and the GLNs
+/// of suppliers, it keeps at most one table, or the rows of one supplier, at a time.
 ///
 /// # Errors
 ///

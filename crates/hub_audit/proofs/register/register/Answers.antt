@@ -6,21 +6,21 @@ use Rattle.hub_sound.specs.Finding.{hub_key}
 use Rattle.hub_store.specs.Clean.{clean_hub}
 use Rattle.hub_tables.specs.Sets.{Rising}
 use Rattle.hub_tables.specs.Tables.{Tables}
-use Rattle.hub_verify.specs.AllRows.{IsRegistered}
+use Rattle.hub_founding.specs.Founding.{IsHeldBy}
 use Rattle.hub_audit.proofs.Held.{none_read, then_read, as_they_rise}
 use Rattle.hub_audit.proofs.register.register.Goals as goal
 
 pub returns-in-Rows : goal.returns-in-Rows
 returns-in-Rows g c =
-    let says : Tables → Option RegisterRows → Type 0 = λ t register. Rising t → IsRegistered t register in
-    as_they_rise IsRegistered (state g.S.Store c.args.conn.now) (state g.S.Store c.register_of_hubs.new.conn) c.register_of_hubs.result
+    let says : Tables → Option RegisterRows → Type 0 = λ t register. Rising t → IsHeldBy t register in
+    as_they_rise IsHeldBy (state g.S.Store c.args.conn.now) (state g.S.Store c.register_of_hubs.new.conn) c.register_of_hubs.result
     (then_read hub_key clean_hub (λ t. t.hubs) says (state g.S.Store c.args.conn.now) (state g.S.Store c.every_hub.new.conn)
     c.in_ok-hubs.field-0 c.in_ok-hubs.ensures c.in-Rows.hubs c.in-Rows.is
-    (λ t register. t.hubs ≡ c.as_slice.result.now → Rising t → IsRegistered t register)
+    (λ t register. t.hubs ≡ c.as_slice.result.now → Rising t → IsHeldBy t register)
     (λ t is register it. it (sym is ∙ sym c.as_slice.ensures))
     (state g.S.Store c.register_of_hubs.new.conn) c.register_of_hubs.result c.register_of_hubs.ensures)
 
 pub returns-in-Unclean : goal.returns-in-Unclean
 returns-in-Unclean g c =
-    none_read hub_key clean_hub (λ t. t.hubs) IsRegistered (state g.S.Store c.args.conn.now) (state g.S.Store c.every_hub.new.conn)
+    none_read hub_key clean_hub (λ t. t.hubs) IsHeldBy (state g.S.Store c.args.conn.now) (state g.S.Store c.every_hub.new.conn)
     c.in_ok-hubs.field-0 c.in_ok-hubs.ensures (λ t bad. no_hubs t bad) c.in-Unclean._key c.in-Unclean.is
