@@ -1,9 +1,9 @@
 """Cases of `verify`: sound databases and what is counted of them, databases that SQLite changed and the row that shows it, those of
-earlier schemas, and files that hold no hub. No byte of a database changes."""
+earlier schemas, and files that hold no hub. Of none of them a byte changes."""
 import os
 import re
 
-from tests.harness.database_files import NAME, ROWS, TABLES, file_of, has_rows, is_still, is_whole
+from tests.harness.database_files import NAME, ROWS, TABLES, file_of, has_rows, is_still
 from tests.harness.first_order import ORDERS
 from tests.harness.hub_scripts import DESPATCH, PALLET, RESPONSE
 from tests.harness.hub_steps import cancelled, founded, mail, one, step, steps, told
@@ -141,8 +141,6 @@ def of_other_files():
         verified("verify: a file of schema 1", empty, told("schema 1"), 1),
         verified("verify: a file of schema 1 with its pallets", first, told("schema 1"), 1),
         verified("verify: a file of schema 2", second, told("schema 2"), 1),
-        # as by each command, an empty file becomes a database without tables
-        steps("verify: an empty file", step(VERIFY, "", 3, "store version\n", {NAME: b""}, is_whole)),
         steps("verify: no file", step(VERIFY, "", 3, "store version\n", after=has_no_file)),
         steps("verify: a folder that is not there", step(["verify", "--db", "none/hub.db"], "", 3, "store disk\n")),
         *(verified(f"verify: {name}", data, "", 3, error) for name, data, error in nothing),
