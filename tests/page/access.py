@@ -63,14 +63,16 @@ STRUCTURE = """const all = it => [...document.querySelectorAll(it)];
 # when the focus leaves the page
 NOTE = """const [first] = [window.reached === undefined, window.reached = []];
     if (!first) return;
-    const note = () => {
-        const it = document.activeElement; const style = getComputedStyle(it);
+    const note = ({ target: it }) => {
+        // the browser does this a little later
+        it.scrollIntoView({ block: 'nearest', inline: 'nearest' });
+        const style = getComputedStyle(it);
         const ring = style.outlineStyle !== 'none' && parseFloat(style.outlineWidth) >= 2;
         const at = rect => document.elementFromPoint(rect.x + rect.width / 2, rect.y + rect.height / 2);
         const isSeen = [...it.getClientRects()].some(rect => it.contains(at(rect)) || it.labels?.[0]?.contains(at(rect)));
         window.reached.push([it.tagName, (it.labels?.[0] ?? it).textContent.trim().slice(0, 30), ring, isSeen]);
     };
-    addEventListener('focusin', () => setTimeout(note));
+    addEventListener('focusin', note);
     addEventListener('blur', it => it.target === window && window.reached.push(null));"""
 # the thing that the tabulator reaches first
 FIRST = "Skip to the content"
