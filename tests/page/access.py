@@ -224,9 +224,10 @@ def contrast(one, other):
 
 def of_bar(rows, x, y, width, height):
     """The least contrast of a drawn bar: what is despatched and the edge beside what is open, which is empty."""
-    across = rows[int(y + height / 2)]
-    despatched, empty, edge = across[int(x + 4)], across[int(x + width - 5)], across[int(x)]
-    return min(contrast(despatched, empty), contrast(edge, empty))
+    across, end = rows[int(y + height / 2)], int(x + width)
+    despatched, empty = across[int(x + 4)], across[end - 5]
+    edge = max(contrast(it, empty) for it in across[end - 3 : end + 2])
+    return min(contrast(despatched, empty), edge)
 
 
 def in_picture(browser, folder, **features):
