@@ -46,9 +46,10 @@ export class UploadQueue extends SendingQueue {
 
   /** @param {Item} item that is not sent */
   remove(item) {
-    item.sending?.happen("edit");
     this.items.splice(this.items.indexOf(item), 1);
+    // its row is taken out with the button that was pressed, so that the focus can go on from there
     this.changed();
+    item.sending?.happen("edit");
   }
 }
 
