@@ -29,7 +29,7 @@ BROWSERS = {"chromium": Browser, "firefox": Firefox}
 # what is tried in Firefox too, if no trial is named: the others ask for Chromium's own tools, or were not seen to pass there
 IN_FIREFOX = ("bars of a status", "a supplier's day and a planner's", "connections that break", "hostile texts", "refusals at their fields")
 IN_FIREFOX += ("the keyboard alone", "a colleague's answer meanwhile", "the numbers of pallets", "numbers that end in blanks")
-IN_FIREFOX += ("nothing is silent", "the choice of")
+IN_FIREFOX += ("nothing is silent", "the choice of", "enter moves on and never sends", "uploads in their order", "the menu loads again")
 
 
 def tried(name, trial, *words):
