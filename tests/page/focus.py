@@ -74,12 +74,13 @@ def in_turn(browser, stage, screen, before):
             tab_opened(browser, stage)
         elif SCREENS[screen][0] is None or screen in ("locked", "no-answer"):
             tab_opened(browser, stage)
+        # some screens send something before they are as they are shown
+        sent = len(stage.posted)
         opened(browser, stage, screen)
         browser.run(COUNT)
         buttons = browser.run(BUTTONS)
         if place == len(buttons):
             return place
-        sent = len(stage.posted)
         press(browser, screen, *buttons[place])
         browser.run("document.querySelector('[data-typed]')?.removeAttribute('data-typed')")
         place += 1
