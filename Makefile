@@ -5,7 +5,7 @@ SCRIPT = crates/trial_script/out/trial_script
 
 .PHONY: run runnable day serve page page-test page-pictures try case test wrong split-commit hostile fuzz year crowd front-test worst
 .PHONY: hubs bench
-.PHONY: join-test edihub trial_script tests_of_calls install uninstall deb deb-test clean
+.PHONY: join-test edihub trial_script tests_of_calls install uninstall deb deb-test boot-test clean
 
 # The main job: the example's ORDERS interchange becomes the supplier's mailbox interchange; first from a build without any proof, then
 # proved. The small program that does only this, as `edihub relay` does it, uses six crates.
@@ -102,6 +102,10 @@ deb:
 # Checks the package by lintian and in fresh Debian 12 trees, some minutes, as root; not part of the gate.
 deb-test:
 	python3 -m tests.deb $(PROGRAM)
+
+# Boots a fresh Debian 12 and has the package's units do their work, some minutes, as root; not part of the gate.
+boot-test:
+	python3 -m tests.booted $(PROGRAM)
 
 # The gate, and then the end-to-end tests of the program that the gate built.
 test:

@@ -7,7 +7,8 @@ check counts; the last line is `N passed, M failed`.
 
     python3 -m bench.live_join crates/edihub/out/edihub [LINES .. | --opening SECONDS]
 
-With LINES the hub has this many order lines before, as `make year` makes them, and a supplier is registered without the other trials.
+With LINES the hub has this many order lines before, as `make year` makes them, and a supplier is registered without the other trials; the
+front is as patient as a file needs that takes more than 25 seconds to open, from a million lines on.
 With --opening the hub is small, but each opening of its file waits this long first, as if it were large, and the front is as patient as
 it then has to be; 0 seconds are for a slow build or a busy machine. `systemctl` is a script that stops and starts the hub of the trial."""
 import asyncio
@@ -36,8 +37,10 @@ from tests.harness.register_texts import ALPHA, GAMMA, RETAILER
 from tests.harness.tree import EXAMPLES
 
 SCRIPT, FILE, ADDRESS = os.path.join(EXAMPLES, "front", "add_supplier.py"), "front/haproxy.cfg", "127.0.0.1:880"
-# what the file of the front says, and what an operator of a large file writes there: a registration takes two openings
+# what the file of the front says, and what an operator of a large file writes there, since a registration takes two openings; and the
+# order lines of such a file
 PATIENT = {"    retries 60\n": "    retries 170\n", "timeout queue 90s": "timeout queue 180s"}
+LARGE = 1_000_000
 # how many suppliers keep asking, how many of them for their status alone, and the seconds between two requests of each
 CLIENTS, READERS, PAUSE = 12, 2, 0.05
 # the suppliers and the orders of the hub in which all that can fail is tried
@@ -357,7 +360,7 @@ def main(program, *words):
         tried(told, program, 0, int(words[1]), PATIENT)
     else:
         for count in map(int, words or ["0"]):
-            tried(told, program, count)
+            tried(told, program, count, patience=PATIENT if count >= LARGE else ())
     return told.end()
 
 

@@ -36,11 +36,15 @@ class Tree:
     def __init__(self, path):
         self.path = path
 
+    def way_in(self):
+        """The words before a command that is to run in the tree."""
+        return ["chroot", self.path]
+
     def run(self, *words):
         """The exit status of a command in the tree, and what it printed; on standard error too, if it failed."""
         env = {"PATH": "/usr/sbin:/usr/bin:/sbin:/bin", "LC_ALL": "C.UTF-8", "DEBIAN_FRONTEND": "noninteractive", "MANPAGER": "cat"}
         how = {"stdin": subprocess.DEVNULL, "capture_output": True, "encoding": "utf-8", "errors": "replace", "env": env, "cwd": "/"}
-        ran = subprocess.run(["chroot", self.path, *words], check=False, **how)
+        ran = subprocess.run([*self.way_in(), *words], check=False, **how)
         return ran.returncode, ran.stdout + (ran.stderr if ran.returncode else "")
 
     def sh(self, text):
@@ -84,10 +88,10 @@ class Tree:
         return sorted(it for it in self.paths() if re.match(r"etc/systemd/system/.*\.wants/edihub", it))
 
 
-def fresh(folder):
-    """A new Debian tree."""
+def fresh(folder, packages=WITH):
+    """A new Debian tree with these packages."""
     path = os.path.join(folder, SUITE)
-    words = ["debootstrap", "--variant=minbase", f"--include={WITH}", SUITE, path]
+    words = ["debootstrap", "--variant=minbase", f"--include={packages}", SUITE, path]
     ran = subprocess.run(words, capture_output=True, text=True, check=False)
     if ran.returncode:
         raise OSError(f"debootstrap: {ran.stdout[-500:]} {ran.stderr[-500:]}")

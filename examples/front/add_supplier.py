@@ -4,9 +4,9 @@
     python3 add_supplier.py --as 5412345000013 --key-file /etc/edihub/retailer.key \\
         --supplier 7612345000008 --supplier-key-file /etc/edihub/gamma.key --prefixes 7612345,7612346
 
-Run it as root, or as the owner of the database file if that user may stop and start the hub. `join` runs as the owner of the file, which
-has to be able to read both key files. Everything that can be checked is checked before the hub is stopped. From then on the hub is
-started again whatever happens, also if the script is interrupted. Only if it is killed (SIGKILL) you have to start the hub yourself.
+Run it as root; with --stop and --start also as the owner of the database file. `join` runs as the owner of the file, which has to be able
+to read both key files. Everything that can be checked is checked before the hub is stopped. From then on the hub is started again whatever
+happens, also if the script is interrupted. Only if it is killed (SIGKILL) you have to start the hub yourself.
 
 A hub that is not a unit of systemd needs --stop and --start, each the words of one command. The first has to return when the hub has
 ended; the second must do no harm if the hub runs.
@@ -149,7 +149,8 @@ class Join:
             os.chmod(folder, 0o755)
             status, printed = self.on(os.path.join(folder, "none.db"))
         if (status, printed) != (3, "store version\n"):
-            raise Fault(f"edihub join ends with status {status}: {printed.strip()}", 2)
+            hint = ": can the database file's owner read both key files?" if printed == "file\n" else ""
+            raise Fault(f"edihub join ends with status {status}: {printed.strip()}{hint}", 2)
 
 
 class Port:

@@ -348,10 +348,11 @@ BLOCKS = {
         "sed -e": made_for_the_front,
         "curl https": each_of_the_package,
         "systemctl start edihub-backup.service": each_of_the_package,
+        "apt-get install --allow-downgrades": each_of_the_package,
         "systemctl show": each_of_the_package,
     },
     "docs/OPERATING.md": {
-        "install -d -o root": each_of_the_package,
+        "install -d -m 755": each_of_the_package,
         "python3 add_supplier.py": in_examples("front"),
         "join: accepted": "what the script prints",
         "edihub check": Run(prints=told(TWO, TWO), says=(TWO,)),

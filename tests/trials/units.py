@@ -87,6 +87,19 @@ def alerts(_program):
     return None if asked == {**dict.fromkeys(silent, ""), **dict.fromkeys(told, alert)} else f"after each end: {asked}"
 
 
+def capabilities(*path):
+    """The capabilities that a unit gives its process."""
+    held = re.search("^AmbientCapabilities=(.*)$", text_of(EXAMPLES, *path), re.MULTILINE)
+    return set(held[1].split()) if held else set()
+
+
+def backup_may_look(_program):
+    """What is wrong with the backup's capabilities. It finds out which process has the database file open, and Linux shows that only to one
+    that has each capability of this process."""
+    lacking = capabilities("front", "edihub.service") - capabilities("backup", "edihub-backup.service")
+    return f"the backup lacks {sorted(lacking)}, which the hub has" if lacking else None
+
+
 def read_by_systemd(_program):
     """What is wrong with a unit, if anything."""
     if not shutil.which("systemd-analyze"):
@@ -96,4 +109,8 @@ def read_by_systemd(_program):
         return hubs_alike() or next((why for why in map(why_not, instances(folder)) if why), None)
 
 
-TRIALS = [("units for systemd", read_by_systemd), ("the alert of a hub that ended by itself", alerts)]
+TRIALS = [
+    ("units for systemd", read_by_systemd),
+    ("a backup that sees what the hub has open", backup_may_look),
+    ("the alert of a hub that ended by itself", alerts),
+]
