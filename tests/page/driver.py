@@ -214,10 +214,15 @@ class Browser:
 
 
 def wait(ask, what, said=None):
-    """What is asked for, once it is true of something."""
+    """What is asked for, once it is true of something. An element that the page replaces while it is asked is asked for again."""
     end = time.monotonic() + PATIENCE
     while time.monotonic() < end:
-        found = ask()
+        try:
+            found = ask()
+        except DriverFault as fault:
+            if not str(fault).startswith("stale element reference"):
+                raise
+            found = None
         if found:
             return found
         time.sleep(0.03)
