@@ -6,6 +6,8 @@ from dataclasses import dataclass, field
 from tests.harness.tree import ROOT
 
 HEADER = re.compile(r"( *)(?:pub(?:\(crate\))? )?(?:const )?fn (\w+)")
+# an import: whether it is a ghost's, its path, and the names that are listed behind it
+IMPORT = re.compile(r"^ *(ghost )?use ([^;{]*?)(?:\{([^}]*)\})?;$", re.MULTILINE)
 OPENING = re.compile(r"(?:impl|trait|pub trait)\b")
 TYPE = r"(?:&\S* ?)?(?:\w+::)*(\w+)"
 
@@ -84,7 +86,7 @@ def functions_in(file, text):
 
 def as_others_see(text, given):
     """A source file as other crates see it, which may use the names that its crate gives out: of each function that they may call what it
-    promises, and not its body; of others nothing."""
+    promises, and not its body; of others nothing; and of what is imported the names that stand in this."""
     lines, kept, after = text.split("\n"), [], 0
     for function in functions_in("", text):
         first, last = function.lines[0] - 1, function.lines[-1] - 1
@@ -96,7 +98,21 @@ def as_others_see(text, given):
         elif function.has_body:
             kept += lines[after : opening_of(lines, first, last) + 1]
             after = last
-    return "\n".join(kept + lines[after:])
+    return with_used_imports("\n".join(kept + lines[after:]))
+
+
+def with_used_imports(text):
+    """The text without empty lines, with its imports one name a line, and only those whose name stands somewhere else in it."""
+    rest = IMPORT.sub("", text)
+    words = set(re.findall(r"\w+|[^\w\s]", re.sub(r"^\s*(//|--).*$", "", rest, flags=re.MULTILINE)))
+    imported = []
+    for ghost, path, listed in IMPORT.findall(text):
+        where, dot, only = re.fullmatch(r"(.*?)(::|\.|)([^:.]*)", path).groups()
+        names = listed.split(",") if listed else [only]
+        imported += [(f"{ghost}use {path if listed else where + dot}", it.strip()) for it in names]
+    is_used = lambda name: all(it in words for it in re.findall(r"\w+|[^\w\s◌]", name.rpartition(" as ")[2] or name))
+    lines = [*sorted({f"{path}{name}" for path, name in imported if name and is_used(name)}), *rest.split("\n")]
+    return "\n".join(line for line in lines if line.strip())
 
 
 def opening_of(lines, first, last):
