@@ -415,7 +415,7 @@ HUB_WORDS = [
         output=lambda it: b"--prefixes 7612345,7612346" in it and b"B18" in it and b"B19" in it and b"B20" in it,
     ),
     *(
-        Case(f"the help of {command} names no register", [command, "--help"], output=lambda it: b"register" not in it)
+        Case(f"the help of {command} has no option for a register", [command, "--help"], output=lambda it: b"--register" not in it)
         for command in (*OVER_A_HUB, "serve")
     ),
     Case(
