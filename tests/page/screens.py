@@ -118,8 +118,9 @@ def open_lines(browser):
     late = order("128591", [80], reference=2).replace("DTM+2:20250606", "DTM+2:20250604")
     browser.drop("orders.edi", interchange(RETAILER, "2001", order("128590", [120]), late))
     browser.until_says("2 orders name their days.")
-    # orders that were uploaded before had their days already
-    wait(lambda: all(row[-1] != "–" for row in browser.rows("main table tbody")), "a day at each line")
+    # others have their days only if this tab uploaded them
+    named = lambda: [row for row in browser.rows("main table tbody") if {"128590", "128591"} & set(row)]
+    wait(lambda: named() and all(row[-1] != "–" for row in named()), "a day at each line of these orders")
 
 
 def searched(browser):
