@@ -6,15 +6,12 @@ of a folder, the registration of a supplier, and an alert.
 Each check counts; the last line is `N passed, M failed`. It needs debootstrap, systemd-nspawn, dpkg-dev and root, some minutes and 1 GB in
 TMPDIR. The system has a network of its own."""
 import os
-import shutil
 import subprocess
 import sys
-import tempfile
 import time
 from glob import glob
 
-from tests.deb import FILE, REGISTER, Tree, deb, fresh
-from tests.harness.checks import Checks
+from tests.deb import FILE, REGISTER, Tree, deb, fresh, in_a_folder
 from tests.harness.hub_scripts import KEYS
 from tests.harness.register_texts import GAMMA, RETAILER
 
@@ -131,22 +128,14 @@ def tried(told, tree):
 
 
 def main(program):
-    lacking = [it for it in TOOLS if not shutil.which(it)]
-    if lacking or os.geteuid():
-        print(f"{', '.join(lacking)} is not here, so nothing is tried" if lacking else "this needs root, so nothing is tried")
-        return 1
-    told, folder = Checks(), tempfile.mkdtemp(prefix="booted-")
-    try:
+    def tries(told, folder):
         package, path = deb.build(os.path.abspath(program), os.path.join(folder, "out")), fresh(folder, WITH)
         status, said = Tree(path).install(package)
         told.check("the package is installed into a fresh Debian 12", status == 0, said)
         with Booted(path) as tree:
             tried(told, tree)
-    except (OSError, deb.Fault) as why:
-        told.check("the package can be tried", False, why)
-    finally:
-        shutil.rmtree(folder, ignore_errors=True)
-    return told.end()
+
+    return in_a_folder(TOOLS, tries)
 
 
 if __name__ == "__main__":

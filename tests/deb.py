@@ -238,24 +238,33 @@ def in_trees(told, program, package, folder):
     purged_without_data(told, other, package, before, users)
 
 
-def main(program):
-    lacking = [it for it in TOOLS if not shutil.which(it)]
+def in_a_folder(tools, tries):
+    """Has checks made in a folder of their own, if the tools are there and this is root. Returns the exit status."""
+    lacking = [it for it in tools if not shutil.which(it)]
     if lacking or os.geteuid():
         print(f"{', '.join(lacking)} is not here, so nothing is tried" if lacking else "this needs root, so nothing is tried")
         return 1
-    program, told = os.path.abspath(program), Checks()
-    folder = tempfile.mkdtemp(prefix="deb-")
+    told, folder = Checks(), tempfile.mkdtemp(prefix="deb-")
     try:
-        refused(told, folder)
-        by_make(told, program, folder)
-        package = deb.build(program, os.path.join(folder, "out"))
-        looked_at(told, program, package, folder)
-        in_trees(told, program, package, folder)
+        tries(told, folder)
     except (OSError, deb.Fault) as why:
         told.check("the package can be tried", False, why)
     finally:
         shutil.rmtree(folder, ignore_errors=True)
     return told.end()
+
+
+def main(program):
+    program = os.path.abspath(program)
+
+    def tries(told, folder):
+        refused(told, folder)
+        by_make(told, program, folder)
+        package = deb.build(program, os.path.join(folder, "out"))
+        looked_at(told, program, package, folder)
+        in_trees(told, program, package, folder)
+
+    return in_a_folder(TOOLS, tries)
 
 
 if __name__ == "__main__":
