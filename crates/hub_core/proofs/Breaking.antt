@@ -19,8 +19,8 @@ use Rattle.hub_transactions.specs.Acts.{BreaksBy, FailsWith, no_answer}
 use Rattle.hub_core.specs.Broken.{OfNoRow, StoppedUnless, Breaks, BreaksAsked, AllStopped, StoppedSinceOne, RunBreaks, does_input}
 use Rattle.hub_core.specs.Callers.{delivered, addressed_by, request_of}
 use Rattle.hub_core.specs.Steps.{Does}
-use Rattle.hub_core.specs.declared.caller.Caller.{Caller}
-use Rattle.hub_core.specs.declared.caller.Caller.TheVariants.{Retailer, Supplier}
+use Rattle.hub_register.specs.declared.caller.Caller.{Caller}
+use Rattle.hub_register.specs.declared.caller.Caller.TheVariants.{Retailer, Supplier}
 use Rattle.hub_core.proofs.Callers.{Known, step_is}
 
 pub where_some : {P : Type 0} (o : Option LastingFault) → P → IfSome o (λ _. P)

@@ -20,10 +20,11 @@ use Rattle.hub_requests.specs.declared.request.Input.{Input}
 use Rattle.hub_requests.specs.declared.request.Request.TheVariants.{Upload}
 use Rattle.hub_transactions.specs.Acts.{Carried, Unharmed}
 use Rattle.hub_transactions.proofs.LookUps.{none_kept}
-use Rattle.hub_core.specs.Callers.{delivered, addressed_by, KeepsFor, MayDeliver, IsCaller, acts_by, request_of}
+use Rattle.hub_core.specs.Callers.{delivered, addressed_by, KeepsFor, MayDeliver, acts_by, request_of}
 use Rattle.hub_core.specs.Steps.{Does, AnsweredOrUndone, SoundWith, acts_of}
-use Rattle.hub_core.specs.declared.caller.Caller.{Caller}
-use Rattle.hub_core.specs.declared.caller.Caller.TheVariants.{Retailer, Supplier}
+use Rattle.hub_register.specs.Caller.{IsCaller}
+use Rattle.hub_register.specs.declared.caller.Caller.{Caller}
+use Rattle.hub_register.specs.declared.caller.Caller.TheVariants.{Retailer, Supplier}
 
 -- after a message, its caller may send another
 pub holds_after :

@@ -21,8 +21,8 @@ use Rattle.hub_law.proofs.Going.{holds_on}
 use Rattle.hub_requests.specs.declared.reply.Reply.{Reply}
 use Rattle.hub_core.specs.Callers.{delivered, MayDeliver}
 use Rattle.hub_core.specs.Steps.{AnsweredOrUndone, SoundWith}
-use Rattle.hub_core.specs.declared.caller.Caller.{Caller}
-use Rattle.hub_core.specs.declared.caller.Caller.TheVariants.{Retailer, Supplier}
+use Rattle.hub_register.specs.declared.caller.Caller.{Caller}
+use Rattle.hub_register.specs.declared.caller.Caller.TheVariants.{Retailer, Supplier}
 use Rattle.hub_core.proofs.Callers.{parties_rise}
 
 -- what each act leaves

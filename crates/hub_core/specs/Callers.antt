@@ -1,8 +1,9 @@
 -- Defines what a caller may ask, what its messages do, and the replies to it.
-use Rattle.std.specs.Prelude.{◌≡◌, ⊤, ℕ, List, [], ◌∷◌, Some, Result}
+use Rattle.std.specs.Prelude.{⊤, ℕ, List, [], ◌∷◌, Result}
 use Rattle.edi_envelope.specs.declared.interchange.RawMessage.{RawMessage}
-use Rattle.hub_parties.specs.Rows.{RegisterRows, parties_of, role_of, row_of}
-use Rattle.hub_parties.specs.declared.role.Role.TheVariants as roles
+use Rattle.hub_parties.specs.Rows.{RegisterRows, parties_of}
+use Rattle.hub_register.specs.declared.caller.Caller.{Caller}
+use Rattle.hub_register.specs.declared.caller.Caller.TheVariants.{Retailer, Supplier}
 use Rattle.hub_tables.specs.Tables.{Tables, view}
 use Rattle.hub_store.specs.declared.fault.StoreFault.{StoreFault}
 use Rattle.hub_store.specs.declared.store.Store.{Ghosts}
@@ -18,8 +19,6 @@ use Rattle.hub_requests.specs.declared.reply.Reply.{Reply}
 use Rattle.hub_requests.specs.declared.request.Request.{Request}
 use Rattle.hub_transactions.specs.Orders.{KeepsOrders}
 use Rattle.hub_core.specs.Steps.{AnsweredOrUndone, Does, acts_of}
-use Rattle.hub_core.specs.declared.caller.Caller.{Caller}
-use Rattle.hub_core.specs.declared.caller.Caller.TheVariants.{Retailer, Supplier}
 
 -- the act of a caller's message
 abbrev pub delivered : RegisterRows → Caller → RawMessage × IncomingMessage → Act
@@ -36,12 +35,6 @@ MayDeliver register (Supplier s) t = Registered register.suppliers s.now t × Pa
 abbrev pub KeepsFor : Caller → Orders → Tables → Type 0
 KeepsFor Retailer orders t = ⊤
 KeepsFor (Supplier s) orders t = KeepsOrders orders (view s.now.gln t)
-
--- a GLN and a key identify this caller
-abbrev pub IsCaller : RegisterRows → List ℕ → List ℕ → Caller → Type 0
-IsCaller register gln key Retailer = role_of register gln key ≡ Some roles.Retailer
-IsCaller register gln key (Supplier s) =
-    (role_of register gln key ≡ Some roles.Supplier) × (row_of register gln ≡ Some s.now)
 
 -- checks the addresses: a supplier sends to the hub or to the retailer, the retailer to the hub
 abbrev pub addressed_by : RegisterRows → Caller → Opened → Opened

@@ -6,10 +6,9 @@ ghost use Rattle.hub_tables.specs.Rows.{same};
 ghost use Rattle.hub_law.specs.Opening.{addressed};
 ghost use Rattle.hub_core.specs.Callers.{addressed_by};
 
-use crate::caller::Caller;
 use edi_envelope::Interchange;
 use gs1_ids::Gln;
-use hub_register::Register;
+use hub_register::{Caller, Register};
 
 // Whether an identification is that of one of the recipients.
 fn is_one_of(recipients: &[Gln], named: &[u8]) -> bool

@@ -3,7 +3,6 @@
 #![tactic(auto)]
 
 mod address;
-mod caller;
 mod hub;
 mod laws;
 mod opening;

@@ -8,17 +8,16 @@ ghost use Rattle.hub_core.specs.Broken.{BreaksAskedOver};
 ghost use Rattle.hub_core.specs.Callers.{MayDeliver, OpenedAsked, acts_by, addressed_by, does_opened, opening_of, request_of};
 ghost use Rattle.hub_requests.specs.declared.request.Request.TheVariants.{Join};
 ghost use Rattle.hub_core.specs.Steps.{AnsweredOrUndone, IsNoJoin, JoinAnswered, SoundWith};
-ghost use Rattle.hub_core.specs.declared.caller.Caller.TheVariants.{Retailer, Supplier};
+ghost use Rattle.hub_register.specs.declared.caller.Caller.TheVariants.{Retailer, Supplier};
 
 use crate::address::address_fault_for;
-use crate::caller::Caller;
 use crate::opening::open_upload;
 use crate::replies::{denied_reply, refused_upload};
 use crate::upload::{OpenedUpload, take_messages};
 use edi_envelope::{Interchange, Moment};
 use gs1_ids::Gln;
 use hub_parties::SupplierRow;
-use hub_register::Register;
+use hub_register::{Caller, Register};
 use hub_requests::{Reply, Request};
 use hub_store::{Store, StoreFault};
 use hub_transactions::{

@@ -10,7 +10,6 @@ ghost use Rattle.hub_core.specs.Hub.{InputAsked};
 ghost use Rattle.hub_core.specs.Opened.{RanOut};
 ghost use Rattle.hub_core.specs.Steps.{IsNoJoin, JoinAnswered, SoundWith, input_of};
 
-use crate::caller::{Caller, caller_of};
 use crate::opening::with_code;
 use crate::replies::denied_reply;
 use crate::requests::{answer_retailer, answer_supplier, take_opened};
@@ -18,7 +17,7 @@ use edi_envelope::{Interchange, Moment, OpenFault};
 use edi_tokens::TokenFault;
 use gs1_ids::Gln;
 use hub_law::{acts_keep_the_register, acts_stay_sound};
-use hub_register::Register;
+use hub_register::{Caller, Register};
 use hub_requests::{Reply, Request};
 use hub_store::{Store, StoreFault};
 use std::alloc::Global;
@@ -48,7 +47,7 @@ pub(crate) fn answer<S: Store>(
         store.old store.new result }
     ensures was_honest { S.honest store.new → S.honest store.old }
 {
-    match caller_of(register, caller, key) {
+    match register.caller(caller, key) {
         Some(Caller::Supplier(supplier)) => {
             answer_supplier(alloc, register, supplier, store, moment, request)
         }
@@ -83,7 +82,7 @@ pub(crate) fn answer_opened<S: Store>(
     acts_stay_sound();
     acts_keep_the_register();
     let upload = with_code(upload)?;
-    match caller_of(register, caller, key) {
+    match register.caller(caller, key) {
         Some(caller) => take_opened(alloc, register, caller, store, moment, upload),
         None => Ok(denied_reply(alloc)?),
     }

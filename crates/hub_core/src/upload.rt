@@ -10,11 +10,10 @@ ghost use Rattle.hub_core.specs.Callers.{KeepsFor};
 ghost use Rattle.hub_core.specs.Steps.{Answered};
 ghost use Rattle.hub_core.specs.Uploads.{MayTake, act_in, does_upload};
 
-use crate::caller::Caller;
 use edi_base::Items;
 use edi_envelope::{Interchange, Moment, RawMessage};
 use hub_law::acts_stay_sound;
-use hub_register::Register;
+use hub_register::{Caller, Register};
 use hub_requests::{Outcome, Reply};
 use hub_store::{Store, StoreFault};
 use hub_transactions::{

@@ -1,3 +1,4 @@
+pub mod Caller
 pub mod Document
 pub mod Entries
 pub mod Fault

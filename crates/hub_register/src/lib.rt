@@ -5,12 +5,14 @@
 //! prefixes and keys are always valid, no GLN occurs twice, and no prefix of one supplier begins a prefix of another.
 #![tactic(auto)]
 
+mod caller;
 mod columns;
 mod document;
 mod fault;
 mod register;
 mod rows;
 
+pub use caller::Caller;
 pub use fault::RegisterFault;
 pub use hub_parties::{CompanyPrefixes, Key, Role, SupplierRow};
 pub use register::{Register, register_has_its_rows, register_of_text_is_prefix_free};

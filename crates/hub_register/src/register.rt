@@ -10,6 +10,7 @@ ghost use Rattle.gs1_ids.specs.Gln.{is_gln};
 ghost use Rattle.gs1_ids.specs.Overlap.{first_overlap_between, overlap_some, PrefixFree};
 ghost use Rattle.hub_parties.specs.Rows as spec;
 ghost use Rattle.hub_parties.specs.Rows.{IsRegister, most_suppliers, rows_by, row_of, role_of};
+ghost use Rattle.hub_register.specs.Caller.{IsCaller};
 ghost use Rattle.hub_register.specs.Entries.{rows_from};
 ghost use Rattle.hub_register.specs.Fault.{fault_of};
 ghost use Rattle.hub_register.specs.Joined.{joined_by, left_by};
@@ -17,6 +18,7 @@ ghost use Rattle.hub_register.specs.Kept as kept;
 ghost use Rattle.hub_register.specs.declared.fault.RegisterFault.TheVariants.{Overlap};
 ghost use Rattle.hub_register.specs.Register.{register_of, register_of_rows, RegisterHasItsRows, RegisterOfTextIsPrefixFree};
 
+use crate::caller::Caller;
 use crate::columns;
 use crate::document::Document;
 use crate::fault::RegisterFault;
@@ -311,22 +313,34 @@ impl Register {
         self.suppliers.remove(gln);
     }
 
+    /// Returns the caller with this GLN, if the key is its own. `None` if the register does not have the two together.
+    pub fn caller(&self, gln: &Gln, key: &[u8]) -> Option<Caller<'_>>
+        ensures some { IfSome result (IsCaller self.now gln.now key.now) }
+        ensures none { IfNone result (role_of self.now gln.now key.now ≡ None) }
+        ensures register { IsRegister self.now }
+    {
+        if let Some(row) = self.supplier(gln) {
+            if is_key(&row.key, key) {
+                return Some(Caller::Supplier(row));
+            }
+            return None;
+        }
+        if self.retailer == *gln && is_key(&self.retailer_key, key) {
+            return Some(Caller::Retailer);
+        }
+        None
+    }
+
     /// Returns the role of a caller from its GLN and its key, which must belong to the same party. `None` if the
     /// register does not have the two together.
     pub fn may(&self, gln: &Gln, key: &[u8]) -> Option<Role>
         ensures value { result ≡ role_of self.now gln.now key.now }
         ensures register { IsRegister self.now }
     {
-        if let Some(row) = self.supplier(gln) {
-            if is_key(&row.key, key) {
-                return Some(Role::Supplier);
-            }
-            return None;
+        match self.caller(gln, key)? {
+            Caller::Supplier(_row) => Some(Role::Supplier),
+            Caller::Retailer => Some(Role::Retailer),
         }
-        if self.retailer == *gln && is_key(&self.retailer_key, key) {
-            return Some(Role::Retailer);
-        }
-        None
     }
 }
 

@@ -1,6 +1,6 @@
 use Rattle.std.proofs.Common.{refl}
 use Rattle.hub_core.specs.Callers.{request_of}
-use Rattle.hub_core.specs.declared.caller.Caller.TheVariants.{Retailer}
+use Rattle.hub_register.specs.declared.caller.Caller.TheVariants.{Retailer}
 use Rattle.hub_core.proofs.Breaking.{by_call, by_answer}
 use Rattle.hub_core.proofs.Callers.{delivers}
 use Rattle.hub_parties.specs.Rows.{supplier_row}

@@ -7,7 +7,7 @@ use Rattle.hub_law.specs.Requests.{taken}
 use Rattle.hub_requests.specs.declared.reply.Reply.{Reply}
 use Rattle.hub_requests.specs.declared.request.Request.TheVariants.{MailItem, MailTaken}
 use Rattle.hub_core.specs.Callers.{request_of}
-use Rattle.hub_core.specs.declared.caller.Caller.TheVariants.{Supplier}
+use Rattle.hub_register.specs.declared.caller.Caller.TheVariants.{Supplier}
 use Rattle.hub_core.proofs.Asking.{by_look, by_act}
 use Rattle.hub_core.proofs.Breaking.{by_call}
 use Rattle.hub_core.proofs.requests.answer_supplier.Goals as goal

@@ -1,8 +1,9 @@
 use Rattle.std.proofs.Common.{rules, sym, ap, ◌∙◌}
 use Rattle.hub_tables.specs.Register.{register_of}
-use Rattle.hub_core.specs.Callers.{acts_by, request_of, IsCaller}
+use Rattle.hub_register.specs.Caller.{IsCaller}
+use Rattle.hub_core.specs.Callers.{acts_by, request_of}
 use Rattle.hub_core.specs.Steps.{input_of}
-use Rattle.hub_core.specs.declared.caller.Caller.TheVariants.{Retailer, Supplier}
+use Rattle.hub_register.specs.declared.caller.Caller.TheVariants.{Retailer, Supplier}
 use Rattle.hub_law.specs.Mark.{Whole}
 use Rattle.hub_core.specs.Broken.{does_input}
 use Rattle.hub_core.proofs.Callers.{asked_as, may, step_is}
