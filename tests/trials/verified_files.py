@@ -1,4 +1,5 @@
-"""Trials of `verify`: with allocations refused in turn, while another program has the file, and of a copy with its log."""
+"""Trials of `verify`: with allocations refused in turn, with reads that give few bytes, while another program has the file, and of a
+copy with its log."""
 import os
 import shutil
 import signal
@@ -11,7 +12,7 @@ from tests.harness.database_files import NAME, file_of
 from tests.harness.hub_scripts import KEYS
 from tests.harness.hub_steps import made_folder, over
 from tests.harness.register_texts import RETAILER
-from tests.harness.shims import REFUSE, built
+from tests.harness.shims import REFUSE, built, meddled
 
 # how it says that memory ran out
 OUT_OF_MEMORY = {(3, b"", b"memory\n"), (3, b"", b"store memory\n")}
@@ -82,4 +83,24 @@ def held(program):
     return None
 
 
-TRIALS = [("verify with allocations refused in turn", refused), ("verify while another program has the file, and of a copy", held)]
+def read_in_pieces(program):
+    """What is wrong where each read gives some bytes alone, if anything: what a file is does not depend on it."""
+    data = file_of()
+    files = [(data, (0, sound(len(data), 2, 1, 1, 1, 1, 0, 1, 1, 3).encode(), b"")), (b"SQLite format 4\0" + data[16:], (3, b"", b"store disk\n"))]
+    with tempfile.TemporaryDirectory() as folder:
+        shim, path = meddled(folder), os.path.join(folder, NAME)
+        for content, right in files:
+            for most in ("1", "5", "15"):
+                with open(path, "wb") as file:
+                    file.write(content)
+                ran = run(program, folder, LD_PRELOAD=shim, SHORT=most)
+                if ran != right:
+                    return f"at most {most} bytes a read: {ran}, and not {right}"
+    return None
+
+
+TRIALS = [
+    ("verify with allocations refused in turn", refused),
+    ("verify with reads of few bytes", read_in_pieces),
+    ("verify while another program has the file, and of a copy", held),
+]

@@ -1,7 +1,7 @@
 //! Looks at the path of a database before it is opened. Opening a path makes files, even if there is no database.
-use edi_base::{OfRead, Source};
 use hub_store::StoreFault;
 use std::fs::{self, File};
+use std::io::{ErrorKind, Read};
 use std::path::Path;
 
 // What a database file begins with.
@@ -35,13 +35,13 @@ fn has_log(rt: &HostRuntime, path: &str) -> bool {
 
 // Whether a file begins as a database does. Opening a file that cannot be read says so.
 fn begins_as_database(rt: &HostRuntime, path: &str) -> bool {
-    let Ok(file) = File::open(rt, path) else {
+    let Ok(mut file) = File::open(rt, path) else {
         return true;
     };
     let mut head = [0; 16];
-    match OfRead::new(file).read(&mut head) {
-        Ok(_) => head == HEAD,
-        Err(_) => true,
+    match file.read_exact(&mut head) {
+        Ok(()) => head == HEAD,
+        Err(error) => error.kind() != ErrorKind::UnexpectedEof,
     }
 }
 
