@@ -20,19 +20,12 @@ use edi_base::Items;
 use edi_envelope::LAST_MAIL_NUMBER;
 use gs1_ids::Gln;
 use hub_rows::{first_of, has_row, rows_of};
+use hub_schema::StoredNumber;
 use hub_store::{MailHead, StoreFault};
 use hub_tables::MailRow;
 use sqlite::types::ValueRef;
 use sqlite::{Alter, Connection};
 use std::alloc::Global;
-
-// Returns a number as a parameter.
-fn signed<'a>(number: u64) -> ValueRef<'a>
-    requires { number < 2 ^ 63 }
-    ensures { owned result ≡ Int (pos number) }
-{
-    ValueRef::Int(number as i64)
-}
 
 // Whether the supplier has an entry whose number is zero or less.
 fn has_low<S: Alter>(conn: &mut Connection<S>, supplier: &Gln) -> Result<bool, StoreFault>
@@ -46,36 +39,30 @@ fn has_low<S: Alter>(conn: &mut Connection<S>, supplier: &Gln) -> Result<bool, S
     )
 }
 
-// Whether the supplier has an entry above a number.
-fn has_above<S: Alter>(
-    conn: &mut Connection<S>,
-    supplier: &Gln,
-    number: u64,
-) -> Result<bool, StoreFault>
-    requires { number < 2 ^ 63 }
-    ensures looks { LooksUp (λ t. list_any (spec.above_of supplier.now number) t.mail)
+// Whether the supplier has an entry above the last number that one may have.
+fn has_past_last<S: Alter>(conn: &mut Connection<S>, supplier: &Gln) -> Result<bool, StoreFault>
+    ensures looks { LooksUp (λ t. list_any (spec.above_of supplier.now last_number) t.mail)
         (state S.Store conn.old) (state S.Store conn.new) result }
 {
-    let bound = signed(number);
+    let last = ValueRef::Int(LAST_MAIL_NUMBER as i64);
     has_row(
         conn,
         "SELECT number FROM mail WHERE supplier = ?1 AND number > ?2",
-        &[ValueRef::Blob(supplier.digits()), bound],
+        &[ValueRef::Blob(supplier.digits()), last],
     )
 }
 
-// Returns the mailbox entry with a number that can be a parameter.
+// Returns the mailbox entry with a number that can be stored.
 fn entry_of<S: Alter>(
     conn: &mut Connection<S>,
     supplier: &Gln,
-    number: u64,
+    number: StoredNumber,
 ) -> Result<Option<MailRow>, StoreFault>
-    requires { number < 2 ^ 63 }
     ensures looks { LooksUp (λ t. entry_at (view supplier.now t) number)
         (state S.Store conn.old) (state S.Store conn.new) result }
     ensures clean { IfOk result (λ found. IfSome found (λ entry. IsTrue (clean_mail entry))) }
 {
-    let key = signed(number);
+    let key = number.value();
     first_of(
         conn,
         "SELECT supplier, number, moment, decimal, kind, document, body, taken FROM mail WHERE supplier = ?1 AND number = ?2",
@@ -93,10 +80,10 @@ pub fn mail_item<S: Alter>(
         (state S.Store conn.old) (state S.Store conn.new) result }
     ensures clean { IfOk result (λ found. IfSome found (λ entry. IsTrue (clean_mail entry))) }
 {
-    if number <= LAST_MAIL_NUMBER {
-        return entry_of(conn, supplier, number);
+    if let Some(stored) = StoredNumber::of(number) {
+        return entry_of(conn, supplier, stored);
     }
-    let above = has_above(conn, supplier, LAST_MAIL_NUMBER)?;
+    let above = has_past_last(conn, supplier)?;
     if above {
         return Err(StoreFault::Unclean);
     }
@@ -128,16 +115,15 @@ fn heads_above<S: Alter>(
     conn: &mut Connection<S>,
     alloc: Global,
     supplier: &Gln,
-    number: u64,
+    number: StoredNumber,
     most: ValueRef<'_>,
 ) -> Result<Items<MailHead>, StoreFault>
-    requires { number < 2 ^ 63 }
     ensures looks { LooksUp (λ t.
         limited (as_count (bound_value (owned most.entry))) (spec.untaken_heads supplier.now number t))
         (state S.Store conn.old) (state S.Store conn.new) result }
     ensures clean { IfOk result (λ heads. IsTrue (list_all clean_head heads)) }
 {
-    let bound = signed(number);
+    let bound = number.value();
     rows_of(
         conn,
         alloc,
@@ -146,16 +132,15 @@ fn heads_above<S: Alter>(
     )
 }
 
-// Like `heads_above`, for the first `limit` entries, above a number that can be a parameter.
+// Like `heads_above`, for the first `limit` entries.
 #[tactic(auto, using(hub_rows::proofs::Counting::all_take))]
 fn first_above<S: Alter>(
     conn: &mut Connection<S>,
     alloc: Global,
     supplier: &Gln,
-    number: u64,
+    number: StoredNumber,
     limit: usize,
 ) -> Result<Items<MailHead>, StoreFault>
-    requires { number < 2 ^ 63 }
     ensures looks { LooksUp (λ t. take limit (spec.untaken_heads supplier.now number t))
         (state S.Store conn.old) (state S.Store conn.new) result }
     ensures clean { IfOk result (λ heads. IsTrue (list_all clean_head heads)) }
@@ -179,10 +164,10 @@ fn untaken_above<S: Alter>(
     ensures clean { IfOk result (λ heads. IsTrue (list_all clean_head heads)) }
     ensures limit { IfOk result (λ heads. length heads ≤ limit) }
 {
-    if number <= LAST_MAIL_NUMBER {
-        return first_above(conn, alloc, supplier, number, limit);
+    if let Some(stored) = StoredNumber::of(number) {
+        return first_above(conn, alloc, supplier, stored, limit);
     }
-    let above = has_above(conn, supplier, LAST_MAIL_NUMBER)?;
+    let above = has_past_last(conn, supplier)?;
     if above {
         return Err(StoreFault::Unclean);
     }

@@ -5,7 +5,8 @@ ghost use Rattle.hub_tables.specs.declared.change.Change.TheVariants.{AddContent
 ghost use Rattle.hub_writes.specs.Acts.{Acts};
 
 use crate::faults::insert_ended;
-use crate::values::{count_value, is_great, number_value, sscc_value, text_value};
+use crate::values::{count_value, sscc_value, text_value};
+use hub_schema::StoredNumber;
 use hub_store::StoreFault;
 use hub_tables::ContentRow;
 use sqlite::{Alter, Transaction};
@@ -19,11 +20,11 @@ pub fn add_content<S: Alter>(
     ensures acts { Acts (AddContent row.now ∷ []) (state S.Store tx.old.conn.now)
         (state S.Store tx.new.conn.now) result }
 {
-    if is_great(row.place) {
+    let Some(stored) = StoredNumber::of(row.place) else {
         return Err(StoreFault::Unclean);
-    }
+    };
     let sscc = sscc_value(&row.sscc);
-    let place = number_value(row.place);
+    let place = stored.value();
     let number = text_value(&row.number);
     let line = count_value(row.line);
     let quantity = count_value(row.quantity);

@@ -1,5 +1,5 @@
 //! Writes mailbox entries.
-ghost use Rattle.std.specs.Prelude.{◌≡◌, ◌<◌, ◌^◌, ◌∷◌, []};
+ghost use Rattle.std.specs.Prelude.{◌≡◌, ◌≤◌, ◌^◌, ◌∷◌, [], IfOk, OnOk, IfErr};
 ghost use Rattle.sqlite.specs.Held.{state};
 ghost use Rattle.hub_tables.specs.declared.change.Change.TheVariants.{AddMail, SetMail};
 ghost use Rattle.hub_writes.specs.Acts.{Acts};
@@ -7,32 +7,33 @@ ghost use Rattle.hub_writes.specs.Mail as spec;
 ghost use Rattle.sqlite.specs.Values.{bound};
 
 use crate::faults::{insert_ended, update_ended};
-use crate::values::{
-    byte_value, gln_value, is_great, kind_value, moment_value, number_value, text_value,
-    truth_value,
-};
+use crate::values::{byte_value, gln_value, kind_value, moment_value, text_value, truth_value};
+use hub_schema::StoredNumber;
 use hub_store::StoreFault;
 use hub_tables::MailRow;
 use sqlite::{Alter, Transaction};
 use sqlite_value::value::ValueRef;
 
-// Returns the values of an entry.
-fn cells(row: &MailRow) -> [ValueRef<'_>; 8]
-    requires { row.now.number < 2 ^ 63 }
-    ensures cells { bound result ≡ spec.cells row.now }
-    ensures low { spec.IsLow row.now }
+// Returns the values of an entry; `Unclean` if SQL cannot store its number.
+fn cells(row: &MailRow) -> Result<[ValueRef<'_>; 8], StoreFault>
+    ensures cells { IfOk result (λ values. bound values ≡ spec.cells row.now) }
+    ensures low { OnOk result (spec.IsLow row.now) }
+    ensures great { IfErr result (λ fault. (fault ≡ StoreFault.Unclean) × (2 ^ 63 ≤ row.now.number)) }
 {
+    let Some(stored) = StoredNumber::of(row.number) else {
+        return Err(StoreFault::Unclean);
+    };
     let supplier = gln_value(&row.supplier);
-    let number = number_value(row.number);
+    let number = stored.value();
     let moment = moment_value(row.moment);
     let decimal = byte_value(row.decimal);
     let kind = kind_value(&row.kind);
     let document = text_value(&row.document);
     let body = text_value(&row.body);
     let taken = truth_value(&row.taken);
-    [
+    Ok([
         supplier, number, moment, decimal, kind, document, body, taken,
-    ]
+    ])
 }
 
 /// Adds a mailbox entry; `Unclean` if SQL cannot store its number.
@@ -41,12 +42,10 @@ pub fn add_mail<S: Alter>(tx: &mut Transaction<'_, S>, row: &MailRow) -> Result<
     ensures acts { Acts (AddMail row.now ∷ [])
         (state S.Store tx.old.conn.now) (state S.Store tx.new.conn.now) result }
 {
-    if is_great(row.number) {
-        return Err(StoreFault::Unclean);
-    }
+    let cells = cells(row)?;
     insert_ended(tx.execute(
         "INSERT INTO mail (supplier, number, moment, decimal, kind, document, body, taken) VALUES (?1, ?2, ?3, ?4, ?5, ?6, ?7, ?8)",
-        &cells(row),
+        &cells,
     ))
 }
 
@@ -56,11 +55,9 @@ pub fn set_mail<S: Alter>(tx: &mut Transaction<'_, S>, row: &MailRow) -> Result<
     ensures acts { Acts (SetMail row.now ∷ [])
         (state S.Store tx.old.conn.now) (state S.Store tx.new.conn.now) result }
 {
-    if is_great(row.number) {
-        return Err(StoreFault::Unclean);
-    }
+    let cells = cells(row)?;
     update_ended(tx.execute(
         "UPDATE mail SET moment = ?3, decimal = ?4, kind = ?5, document = ?6, body = ?7, taken = ?8 WHERE supplier = ?1 AND number = ?2",
-        &cells(row),
+        &cells,
     ))
 }

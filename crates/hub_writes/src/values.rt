@@ -1,5 +1,5 @@
 //! Turns columns of rows into SQL values.
-ghost use Rattle.std.specs.Prelude.{nat_le, ◌≡◌, ◌<◌, ◌^◌, pos};
+ghost use Rattle.std.specs.Prelude.{◌≡◌, ◌<◌, ◌^◌, pos};
 ghost use Rattle.sqlite_value.specs.declared.value.Value.TheVariants.{Int, Blob};
 ghost use Rattle.sqlite_value.specs.Value.{owned};
 
@@ -52,33 +52,18 @@ pub(crate) fn text_value(text: &Items<u8>) -> ValueRef<'_>
     ValueRef::Blob(text.as_slice())
 }
 
-/// Whether the number is too large for SQL.
-pub(crate) fn is_great(number: u64) -> bool
-    ensures { result ≡ nat_le (2 ^ 63) number }
-{
-    number >= 0x8000_0000_0000_0000
-}
-
-/// Returns a number below 2^63, the limit of SQL.
-pub(crate) fn number_value<'a>(number: u64) -> ValueRef<'a>
-    requires { number < 2 ^ 63 }
-    ensures { owned result ≡ Int (pos number) }
-{
-    ValueRef::Int(number as i64)
-}
-
 /// Returns a line number or a quantity.
 pub(crate) fn count_value<'a>(count: u32) -> ValueRef<'a>
     ensures { owned result ≡ Int (pos count) }
 {
-    number_value(u64::from(count))
+    ValueRef::Int(i64::from(count))
 }
 
 /// Returns a byte as a number.
 pub(crate) fn byte_value<'a>(byte: u8) -> ValueRef<'a>
     ensures { owned result ≡ Int (pos byte) }
 {
-    number_value(u64::from(byte))
+    ValueRef::Int(i64::from(byte))
 }
 
 /// Returns the seconds of a moment.
@@ -86,7 +71,7 @@ pub(crate) fn moment_value<'a>(moment: Moment) -> ValueRef<'a>
     ensures value { owned result ≡ Int (pos moment) }
     ensures low { moment < 2 ^ 63 }
 {
-    number_value(moment.seconds())
+    ValueRef::Int(moment.seconds() as i64)
 }
 
 /// Returns the letter of an answer.

@@ -5,5 +5,5 @@ use Rattle.hub_reads.proofs.mail.entry_of.Goals as goal
 pub returns-clause-looks : goal.returns-clause-looks
 returns-clause-looks g c =
     entry_look (state g.S.Store c.args.conn.now)
-    (state g.S.Store c.first_of.new.conn) c.args.supplier.now c.args.number c.requires c.first_of.result
-    (rw (c.digits.ensures.value, c.signed-key.ensures) at c.first_of.ensures.asks)
+    (state g.S.Store c.first_of.new.conn) c.args.supplier.now c.args.number c.value-key.ensures.low c.first_of.result
+    (rw (c.digits.ensures.value, c.value-key.ensures.value) at c.first_of.ensures.asks)

@@ -10,11 +10,11 @@ use Rattle.hub_reads.proofs.mail.untaken_above.Goals as goal
 pub returns-then-above-clause-looks : goal.returns-then-above-clause-looks
 returns-then-above-clause-looks g c =
     past_entry (λ t. take c.args.limit (map head_of (filter (wanted c.args.number) (view c.args.supplier.now t).mail)))
-    (state g.S.Store c.args.conn.now) (state g.S.Store c.has_above.new.conn)
+    (state g.S.Store c.args.conn.now) (state g.S.Store c.has_past_last.new.conn)
     c.args.supplier.now c.in_ok-above.above c.if-above.true c.in_ok-above.ensures.looks
 
 pub returns-clause-looks : goal.returns-clause-looks
 returns-clause-looks g c =
-    none_above (state g.S.Store c.args.conn.now) (state g.S.Store c.has_above.new.conn) c.args.supplier.now c.args.number c.args.limit
+    none_above (state g.S.Store c.args.conn.now) (state g.S.Store c.has_past_last.new.conn) c.args.supplier.now c.args.number c.args.limit
     c.in_ok-above.above c.new.result c.if-above.false (grind
     (arith, nat_tests, c.if-number-le-LAST_MAIL_NUMBER.false)) c.new.ensures c.in_ok-above.ensures.looks
