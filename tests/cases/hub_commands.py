@@ -9,8 +9,8 @@ from tests.harness import database_files, hub_scripts
 from tests.harness.case import Case
 from tests.harness.database_files import NAME, REGISTERED, has_rows, is_still
 from tests.harness.first_order import ORDERS, cut
-from tests.harness.hub_scripts import DESPATCH, FIRST_MAIL, KEYS, OTHER_PALLET, RECEIPT, RESPONSE, SECOND, STATUS
-from tests.harness.hub_scripts import TWO_SUPPLIERS, despatch, interchange, line_status, order, response
+from tests.harness.hub_scripts import DESPATCH, FIRST_MAIL, KEYS, OTHER_PALLET, PALLET, RECEIPT, RESPONSE, SECOND, STATUS
+from tests.harness.hub_scripts import TWO_SUPPLIERS, despatch, interchange, line_status, message, order, parties, response
 from tests.harness.hub_steps import EACH, FIRST_TWO, REGISTER, cancelled, founded, imported, init, mail, mode_of, one
 from tests.harness.hub_steps import over, rows_of_register, status_of, step, steps, told
 from tests.harness.register_texts import ALPHA, BETA, DELTA, GAMMA, HUB, RETAILER, crowd, of_prefixes, register
@@ -87,6 +87,37 @@ def folder_in_order():
         imported(RETAILER, "in", *lines("accepted")),
         imported(RETAILER, "in", *lines("repeated")),
         step(over("status", ALPHA), told(*(line_status(f"12857{k}", "W", 48, 48, 0, 0, 0) for k in range(3)), "end"), after=has_rows(rows)),
+    )
+
+
+def refused_among_others():
+    """A folder with an order and a text that is refused, twice: the order is repeated, the text refused again."""
+    wrong = ORDERS.replace("1001'", "1003'").replace("UNT+10+1", "UNT+9+1")
+    replies = lambda word: (
+        ("a.edi", ORDERS, "interchange 1001 messages 1", f"1 ORDERS {word}"),
+        ("b.edi", wrong, "refused E12"),
+    )
+    return founded(
+        "a folder of an order and a text that is refused, twice",
+        imported(RETAILER, "in", *replies("accepted"), status=1),
+        imported(RETAILER, "in", *replies("repeated"), status=1),
+        mail(ALPHA, "after", 0, told("             1 ORDERS 128576", "end")),
+    )
+
+
+def others_parties_and_articles():
+    """A buyer that is not the retailer, and a line of an order that is despatched with another article."""
+    line = ("RFF+ON:128576", *parties(ALPHA), "CPS+1", "PAC+1", "PCI+33E", f"GIN+BJ+{PALLET}", "LIN+1++{}:SRV", "QTY+12:12", "RFF+ON:128576:1")
+    advice = lambda gtin: message(
+        "DESADV:D:01B:UN:EAN007", 1, "BGM+351+DA1+9", "DTM+137:20250604:102", *(it.format(gtin) for it in line)
+    )
+    return founded(
+        "another buyer, and another article of a line",
+        one(RETAILER, "1", "1002", "ORDERS", SECOND.replace(f"NAD|BY|{RETAILER}", f"NAD|BY|{HUB}"), "refused B01"),
+        one(RETAILER, "2", "1001", "ORDERS", ORDERS),
+        one(ALPHA, "3", "S1", "DESADV", interchange(ALPHA, "S1", advice("4000862141411")), "refused B09"),
+        status_of(ALPHA, line_status("128576", "W", 48, 48, 0, 0, 0)),
+        one(ALPHA, "4", "S2", "DESADV", interchange(ALPHA, "S2", advice("4000862141404"))),
     )
 
 
@@ -466,6 +497,8 @@ COMMANDS = [
     in_turn(),
     corrections(),
     folder_in_order(),
+    refused_among_others(),
+    others_parties_and_articles(),
     what_is_no_file(),
     cuts(),
     long_mailbox(),

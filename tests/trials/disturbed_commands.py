@@ -13,7 +13,7 @@ from tests.cases.broken_texts import TEXT_LIMIT
 from tests.harness.case import SECONDS
 from tests.harness.database_files import NAME, has_rows, is_whole
 from tests.harness.first_order import ORDERS
-from tests.harness.hub_scripts import TWO_SUPPLIERS
+from tests.harness.hub_scripts import SECOND, SPELLED, TWO_SUPPLIERS
 from tests.harness.hub_steps import FIRST_TWO, MOMENT, REGISTER, init, made_folder, mode_of, over, rows_of_register
 from tests.harness.hub_steps import told
 from tests.harness.register_texts import ALPHA, HUB, RETAILER
@@ -304,8 +304,42 @@ def version(program):
     return "" if found == wanted else f"the version is {found!r}, not {wanted!r}"
 
 
+# orders and texts, with what an import says of each on a hub of its own
+OPENED = "interchange 1001 messages 1"
+IN_PIECES = [
+    (ORDERS, OPENED, "1 ORDERS accepted"),
+    (SPELLED, OPENED, "1 ORDERS accepted"),
+    (SECOND, "interchange 1002 messages 1", "1 ORDERS accepted"),
+    (ORDERS.replace("1001'", "1003'").replace("UNT+10+1", "UNT+9+1"), "refused E12"),
+    (ORDERS.partition("QTY+21:4")[0] + "QTY+21:4", "refused E04"),
+    *((ORDERS.replace("QTY+21:48", f"QTY+21:{it}"), OPENED, "1 ORDERS accepted") for it in ("999999999", "12,000")),
+    *((ORDERS.replace("QTY+21:48", f"QTY+21:{it}"), OPENED, "1 ORDERS refused M08") for it in ("1000000000", "12.5")),
+    (ORDERS.ljust(TEXT_LIMIT, "\n"), OPENED, "1 ORDERS accepted"),
+    (ORDERS.ljust(TEXT_LIMIT + 1, "\n"), "refused E01"),
+    (SPELLED.replace("UNS|S~", f"FTX|AAI|||{'x' * 8181}~UNS|S~").replace("UNT|10", "UNT|11"), OPENED, "1 ORDERS accepted"),
+    (SPELLED.replace("UNS|S~", f"FTX|AAI|||{'x' * 8182}~UNS|S~").replace("UNT|10", "UNT|11"), "refused E20"),
+]
+
+
+def in_pieces(program):
+    """What is wrong where each read of a file gives few bytes, if anything: the replies do not depend on it."""
+    for most in ("1", "2", "7", "8192"):
+        for text, *lines in IN_PIECES:
+            with tempfile.TemporaryDirectory() as folder:
+                made_folder(program, folder, 0)
+                with open(os.path.join(folder, "in", "a.edi"), "w", encoding="ascii", newline="") as file:
+                    file.write(text)
+                words = over("import", RETAILER, "--folder", "in")
+                env = {"LD_PRELOAD": meddled(folder), "SHORT": most}
+                ran = subprocess.run([program, *words], cwd=folder, capture_output=True, env=env, timeout=SECONDS)
+                if ran.stdout.decode() != told("file a.edi", *lines) or ran.stderr:
+                    return f"at most {most} bytes a read, {text[:300]!r}: {ran.returncode}, {ran.stdout!r:.300}, {ran.stderr!r:.100}"
+    return None
+
+
 TRIALS = [
     ("the version", version),
+    ("files that are read in small pieces", in_pieces),
     ("a founding that is killed and made again", founding_killed),
     ("an import that is killed and made again", killed),
     ("a file that another command has open", held_open),
