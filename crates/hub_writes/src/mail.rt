@@ -1,5 +1,5 @@
 //! Writes mailbox entries.
-ghost use Rattle.std.specs.Prelude.{◌≡◌, ◌≤◌, ◌^◌, ◌∷◌, [], IfOk, OnOk, IfErr};
+ghost use Rattle.std.specs.Prelude.{◌≡◌, ◌∷◌, []};
 ghost use Rattle.sqlite.specs.Held.{state};
 ghost use Rattle.hub_tables.specs.declared.change.Change.TheVariants.{AddMail, SetMail};
 ghost use Rattle.hub_writes.specs.Acts.{Acts};
@@ -14,26 +14,22 @@ use hub_tables::MailRow;
 use sqlite::{Alter, Transaction};
 use sqlite_value::value::ValueRef;
 
-// Returns the values of an entry; `Unclean` if SQL cannot store its number.
-fn cells(row: &MailRow) -> Result<[ValueRef<'_>; 8], StoreFault>
-    ensures cells { IfOk result (λ values. bound values ≡ spec.cells row.now) }
-    ensures low { OnOk result (spec.IsLow row.now) }
-    ensures great { IfErr result (λ fault. (fault ≡ StoreFault.Unclean) × (2 ^ 63 ≤ row.now.number)) }
+// Returns the values of an entry under a number.
+fn cells(row: &MailRow, number: StoredNumber) -> [ValueRef<'_>; 8]
+    ensures cells { bound result ≡ spec.cells (record row.now { number = number }) }
+    ensures low { spec.IsLow (record row.now { number = number }) }
 {
-    let Some(stored) = StoredNumber::of(row.number) else {
-        return Err(StoreFault::Unclean);
-    };
     let supplier = gln_value(&row.supplier);
-    let number = stored.value();
+    let number = number.value();
     let moment = moment_value(row.moment);
     let decimal = byte_value(row.decimal);
     let kind = kind_value(&row.kind);
     let document = text_value(&row.document);
     let body = text_value(&row.body);
     let taken = truth_value(&row.taken);
-    Ok([
+    [
         supplier, number, moment, decimal, kind, document, body, taken,
-    ])
+    ]
 }
 
 /// Adds a mailbox entry; `Unclean` if SQL cannot store its number.
@@ -42,10 +38,12 @@ pub fn add_mail<S: Alter>(tx: &mut Transaction<'_, S>, row: &MailRow) -> Result<
     ensures acts { Acts (AddMail row.now ∷ [])
         (state S.Store tx.old.conn.now) (state S.Store tx.new.conn.now) result }
 {
-    let cells = cells(row)?;
+    let Some(number) = StoredNumber::of(row.number) else {
+        return Err(StoreFault::Unclean);
+    };
     insert_ended(tx.execute(
         "INSERT INTO mail (supplier, number, moment, decimal, kind, document, body, taken) VALUES (?1, ?2, ?3, ?4, ?5, ?6, ?7, ?8)",
-        &cells,
+        &cells(row, number),
     ))
 }
 
@@ -55,9 +53,11 @@ pub fn set_mail<S: Alter>(tx: &mut Transaction<'_, S>, row: &MailRow) -> Result<
     ensures acts { Acts (SetMail row.now ∷ [])
         (state S.Store tx.old.conn.now) (state S.Store tx.new.conn.now) result }
 {
-    let cells = cells(row)?;
+    let Some(number) = StoredNumber::of(row.number) else {
+        return Err(StoreFault::Unclean);
+    };
     update_ended(tx.execute(
         "UPDATE mail SET moment = ?3, decimal = ?4, kind = ?5, document = ?6, body = ?7, taken = ?8 WHERE supplier = ?1 AND number = ?2",
-        &cells,
+        &cells(row, number),
     ))
 }
