@@ -8,7 +8,7 @@ use Rattle.hub_writes.proofs.content.add_content.Goals as goal
 
 pub returns-in_default-clause-acts : goal.returns-in_default-clause-acts
 returns-in_default-clause-acts g c =
-    refused_before _ _ (λ t _. place_is_great c.args.row.now (grind (arith, nat_tests, c.of.ensures.none)) t)
+    refused_before _ _ (λ t _. place_is_great c.args.row.now (grind (arith, nat_tests, c.in_default.ensures.none)) t)
 
 pub returns-clause-acts : goal.returns-clause-acts
 returns-clause-acts g c =

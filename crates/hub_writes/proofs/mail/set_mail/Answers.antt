@@ -9,7 +9,7 @@ use Rattle.hub_writes.specs.Mail.{IsLow}
 
 pub returns-in_default-clause-acts : goal.returns-in_default-clause-acts
 returns-in_default-clause-acts g c =
-    refused_before _ _ (set_is_great c.args.row.now (grind (arith, nat_tests, c.of.ensures.none)))
+    refused_before _ _ (set_is_great c.args.row.now (grind (arith, nat_tests, c.in_default.ensures.none)))
 
 pub returns-clause-acts : goal.returns-clause-acts
 returns-clause-acts g c =
