@@ -6,6 +6,7 @@ use Rattle.hub_core.specs.Steps.{input_of}
 use Rattle.hub_register.specs.declared.caller.Caller.TheVariants.{Retailer, Supplier}
 use Rattle.hub_law.specs.Mark.{Whole}
 use Rattle.hub_core.specs.Broken.{does_input}
+use Rattle.hub_core.proofs.Breaking.{breaks_as}
 use Rattle.hub_core.proofs.Callers.{asked_as, may, step_is}
 use Rattle.hub_core.proofs.Keeping.{content_kept, join_as}
 use Rattle.hub_core.proofs.step.answer.Goals as goal
@@ -57,3 +58,19 @@ returns-in-Some-Retailer-clause-joined g c row is =
     join_as row register c.answer_retailer.new.register (request_of register Retailer c.args.moment c.args.request.now)
     (does_input register input) c.answer_retailer.result
     (step_is register input Retailer known Whole) (c.answer_retailer.ensures.joined row is)
+
+pub returns-in-Some-Supplier-clause-breaks : goal.returns-in-Some-Supplier-clause-breaks
+returns-in-Some-Supplier-clause-breaks g c =
+    let register = c.args.register.now in
+    let input = input_of c.args.moment c.args.caller.now c.args.key.now c.args.request.now in
+    let known : IsCaller register c.args.caller.now c.args.key.now (Supplier c.in-Some-Supplier.supplier) = search rules in
+    breaks_as g.S.Store.plain register input (g.S.Store.broken c.args.store.now) (g.S.Store.broken c.answer_supplier.new.store)
+    (Supplier c.in-Some-Supplier.supplier) c.answer_supplier.result known c.answer_supplier.ensures.breaks
+
+pub returns-in-Some-Retailer-clause-breaks : goal.returns-in-Some-Retailer-clause-breaks
+returns-in-Some-Retailer-clause-breaks g c =
+    let register = c.args.register.now in
+    let input = input_of c.args.moment c.args.caller.now c.args.key.now c.args.request.now in
+    let known : IsCaller register c.args.caller.now c.args.key.now Retailer = search rules in
+    breaks_as g.S.Store.plain register input (g.S.Store.broken c.args.store.now) (g.S.Store.broken c.answer_retailer.new.store)
+    Retailer c.answer_retailer.result known c.answer_retailer.ensures.breaks
