@@ -13,6 +13,7 @@ export class Field {
   constructor({ label, hint, value = "", hidden = false, class: kind = "", field, ...words }) {
     const id = newId("field");
     this.label = label;
+    this.hint = hint ? element("p", { class: "hint", id: `${id}-hint` }, hint) : null;
     this.wrong = element("p", { class: "wrong", id: `${id}-wrong` });
     this.input = /** @type {HTMLInputElement} */ (element("input", { id, ...USUAL, "data-field": field, ...words }));
     this.input.value = value;
@@ -22,7 +23,7 @@ export class Field {
       { class: `field ${kind}`.trim() },
       element("label", { for: id, class: hidden ? "spoken" : null }, label),
       this.input,
-      hint ? element("p", { class: "hint", id: `${id}-hint` }, hint) : null,
+      this.hint,
       this.wrong,
     );
     this.input.addEventListener("input", () => this.say(""));

@@ -8,6 +8,7 @@ import { phrases } from "../language.js";
 import { actions, button, element, notice, saying } from "./dom.js";
 import { enterMoves } from "./enter_moves.js";
 import { contentOf, fieldInWords, putBack } from "./form_content.js";
+import { look } from "./look.js";
 import { preview } from "./preview.js";
 import { sendingRegion, tell } from "./sending_panel.js";
 import { Summary } from "./summary.js";
@@ -26,18 +27,16 @@ import { Summary } from "./summary.js";
  *   prepare?: (draft: FormContent) => Promise<void>,
  *   apart?: { content: () => string, putBack: (content: string) => Promise<string[]> },
  *   check: () => boolean,
- *   look?: () => Promise<void>,
+ *   look?: { ask: () => Promise<void>, check: () => boolean },
  *   summary: () => import("./summary.js").SummaryWords,
  *   write: (stamp: Stamp) => string | null,
  *   settled: (verdict: Verdict) => void,
  * }} FormWords `draft` names the form's draft; `prepare` makes room in the form for a draft; `apart` is what was typed that is in no field,
- *   and `putBack` returns what found no place in the form; `look` asks the hub what the summary says beside what was typed
+ *   and `putBack` returns what found no place in the form; `look` asks the hub, and checks what was typed against what is known then
  */
 
 // the name of what is in no field, which no field has
 const APART = "apart";
-// how many milliseconds a summary waits for what the hub knows; then it says what was typed alone
-const LOOK = 3_000;
 
 /** The form, with the draft that the tab keeps of it.
  * @param {FormWords} words */
@@ -130,18 +129,18 @@ class SendingForm {
     const waits = this.list.unsettled.length > 0;
     this.first.replaceChildren(...(waits ? [saying("warn", phrases.sending.first)] : []));
     if (waits || !this.words.check() || this.words.write(this.stamp()) === null) return;
-    if (this.words.look && !(await this.look(this.words.look))) return;
+    if (this.words.look && !(await this.isUnchangedAfter(this.words.look.ask) && this.words.look.check())) return;
     if (!this.sending.happen("review")) return;
     // an earlier refusal was of what the form said before
     this.region.replaceChildren();
     this.summary.show(this.words.summary());
   }
 
-  /** Asks the hub, which need not answer. Returns whether the form is as it was, so that it need not be checked again.
+  /** Asks the hub, which need not answer. Returns whether the form is as it was, so that it need not be checked from scratch.
    * @param {() => Promise<void>} ask */
-  async look(ask) {
+  async isUnchangedAfter(ask) {
     const before = JSON.stringify(this.content);
-    await Promise.race([ask().catch(() => {}), new Promise((done) => setTimeout(done, LOOK))]);
+    await look(ask);
     return this.element.isConnected && JSON.stringify(this.content) === before;
   }
 

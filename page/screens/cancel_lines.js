@@ -1,16 +1,19 @@
 // @ts-check
-// Cancels several lines of a supplier: how many of each is typed and summed up, and a second press sends them one after another.
+// Cancels several lines of a supplier: how many of each is typed, checked against what is open now and summed up, and a second press sends
+// them one after another.
 
 import { Articles } from "../articles.js";
 import { gtinAsPrinted } from "../edi/identifiers.js";
 import { cancelQueueOf } from "../hub/cancel_queue.js";
 import { phrases } from "../language.js";
-import { cancellationInWords, severalInWords } from "../parts/cancellation_words.js";
+import { cancellationInWords, severalInWords, tooMuchInWords } from "../parts/cancellation_words.js";
 import { actions, button, element, heading, link, saying } from "../parts/dom.js";
 import { enterMoves } from "../parts/enter_moves.js";
 import { Field, check, focusFirstWrong, wholeNumber } from "../parts/field.js";
 import { wrongGln } from "../parts/gln.js";
+import { look } from "../parts/look.js";
 import { orderInWords } from "../parts/order_number.js";
+import { clockTime } from "../parts/sending_panel.js";
 import { Summary } from "../parts/summary.js";
 import { Table } from "../parts/table.js";
 import { ChosenLines } from "../suppliers/chosen_lines.js";
@@ -33,8 +36,9 @@ export async function cancelLinesScreen({ session }, supplier = "") {
   const queue = cancelQueueOf(session.sent);
   const chosen = new ChosenLines(session.hub.caller, supplier);
   const results = new CancelResults(queue, supplier);
-  const lines = chosen.chosen.length ? (await session.status(supplier)).lines : [];
-  const form = new CancelForm({ supplier, name, queue, chosen, results, lines });
+  const ask = async () => (await session.status(supplier)).lines;
+  const lines = chosen.chosen.length ? await ask() : [];
+  const form = new CancelForm({ supplier, name, queue, chosen, results, lines, ask });
   const back = element("p", { class: "back" }, link(`‹ ${phrases.common.statusOfThisSupplier}`, `supplier/${supplier}`));
   const shown = form.rows.length ? form.element : null;
   const none = noneChosen(form, queue.of(supplier).length);
@@ -51,21 +55,24 @@ function noneChosen({ rows, gone }, sent) {
 
 class CancelForm {
   /** @param {{ supplier: string, name: string, queue: CancelQueue, chosen: ChosenLines, results: CancelResults,
-   *   lines: StatusLine[] }} words */
-  constructor({ supplier, name, queue, chosen, results, lines }) {
+   *   lines: StatusLine[], ask: () => Promise<StatusLine[]> }} words `ask` asks the hub for the lines as they are now */
+  constructor({ supplier, name, queue, chosen, results, lines, ask }) {
     this.supplier = supplier;
     this.named = name ? `${name} (${supplier})` : supplier;
     this.queue = queue;
     this.chosen = chosen;
     this.results = results;
+    this.ask = ask;
+    this.askedAt = Date.now();
+    this.isAnswered = true;
     this.rows = this.#rowsOf(lines);
     this.gone = this.#dropGone(lines);
     this.first = element("div", { role: "alert" });
     const checkButton = button(phrases.cancelLines.check, () => this.review(), { class: "primary" });
     const all = button(phrases.cancelLines.fillAll, () => this.fillAll(), { class: "quiet" });
-    const table = new Table({ caption: phrases.cancelLines.caption, kind: "lines answers", columns: columns(), rows: this.rows });
+    this.table = new Table({ caption: phrases.cancelLines.caption, kind: "lines answers", columns: columns(), rows: this.rows });
     this.fields = /** @type {HTMLFieldSetElement} */ (
-      element("fieldset", { class: "bare" }, actions(all), table.element, actions(checkButton))
+      element("fieldset", { class: "bare" }, actions(all), this.table.element, actions(checkButton))
     );
     this.summary = new Summary(phrases.cancelLines.noun, () => this.send(), () => this.edit());
     const parts = [this.fields, this.first, this.summary.element];
@@ -120,25 +127,52 @@ class CancelForm {
 
   fillAll() {
     for (const { field, open, ...line } of this.rows) {
-      field.value = String(open);
+      field.value = open ? String(open) : "";
       field.say("");
-      this.chosen.choose(line, String(open));
+      this.chosen.choose(line, field.value);
     }
     this.note();
     this.rows[0].field.input.focus();
   }
 
-  review() {
+  async review() {
     const waits = this.queue.list.unsettled.length > 0;
-    const right = this.rows.map(({ field, open }) => check(field, wrongQuantity(field.trimmed, open))).every(Boolean);
+    const right = this.#areRight(({ field, open }) => wrongNumber(field.trimmed, open));
     const none = right && !this.given.length;
     const wrong = waits ? saying("warn", phrases.sending.first) : none ? saying("bad", phrases.cancelLines.giveOne) : null;
     this.first.replaceChildren(...(wrong ? [wrong] : []));
-    if (!right) focusFirstWrong(this.rows.map((it) => it.field));
-    else if (none) this.rows[0].field.input.focus();
-    if (wrong || !right) return;
+    if (none) this.rows[0].field.input.focus();
+    if (wrong || !right || !(await this.#areOpen())) return;
     this.fields.disabled = true;
     this.summary.show(this.inSummary());
+  }
+
+  /** Checks each quantity; the first that is wrong gets the focus.
+   * @param {(row: Row) => string} wrong */
+  #areRight(wrong) {
+    const right = this.rows.map((it) => check(it.field, wrong(it))).every(Boolean);
+    if (!right) focusFirstWrong(this.rows.map((it) => it.field));
+    return right;
+  }
+
+  /** Asks the hub what is open now, and checks that no more is to be cancelled. If something is typed meanwhile, that is checked by the
+   * next press. */
+  async #areOpen() {
+    const typed = () => this.rows.map((it) => it.field.value).join();
+    const before = typed();
+    this.isAnswered = false;
+    await look(async () => this.#know(await this.ask()));
+    if (!this.element.isConnected || this.fields.disabled || typed() !== before) return false;
+    return this.#areRight(({ field, open }) => (field.trimmed ? tooMuchInWords(wholeNumber(field.value), open, this.askedAt) : ""));
+  }
+
+  /** Shows what the hub says now of the lines.
+   * @param {StatusLine[]} lines */
+  #know(lines) {
+    [this.askedAt, this.isAnswered] = [Date.now(), true];
+    const now = (/** @type {Row} */ row) => lines.find((it) => !it.unsure && it.order === row.order && it.line === row.line);
+    this.rows = this.rows.map((row) => ({ ...row, ...now(row) }));
+    this.table.showAgain(this.rows);
   }
 
   inSummary() {
@@ -146,7 +180,8 @@ class CancelForm {
     const rows = given.map(({ line, quantity }) => [
       phrases.cancelLines.inSummary(orderInWords(line), line.line, gtinAsPrinted(line.gtin), quantity, line.open),
     ]);
-    return { lead: [phrases.cancelLines.lead(severalInWords(given), this.named)], rows };
+    const since = this.isAnswered ? "" : ` ${phrases.cancelLines.asOf(clockTime(this.askedAt))}`;
+    return { lead: [phrases.cancelLines.lead(severalInWords(given), this.named), since], rows };
   }
 
   edit() {
@@ -175,9 +210,8 @@ class CancelForm {
 }
 
 /** @param {string} text @param {number} open */
-function wrongQuantity(text, open) {
-  const quantity = wholeNumber(text);
-  return text === "" || (quantity >= 1 && quantity <= open) ? "" : phrases.cancelLines.giveANumber(open);
+function wrongNumber(text, open) {
+  return !open || text === "" || wholeNumber(text) >= 1 ? "" : phrases.cancelLines.giveANumber(open);
 }
 
 /** @returns {import("../parts/table.js").Column<Row>[]} */

@@ -59,7 +59,8 @@ async function shown(context, gln) {
     const status = await session.status(gln);
     session.supplier = gln;
     const choice = new LineChoice(context, gln, status.lines);
-    const actions = { title: phrases.menu.cancel, csv: /** @type {false} */ (false), cell: (/** @type {StatusLine} */ it) => action(gln, it, choice), kind: "action" };
+    /** @type {import("../parts/table.js").Column<StatusLine>} */
+    const actions = { title: phrases.menu.cancel, csv: false, cell: (it) => action(gln, it, choice), kind: "action" };
     const wanted = await wantedColumn(session, gln, status.lines);
     // there is no room for both
     const without = wanted.length ? ["shares"] : [];

@@ -129,6 +129,9 @@ export const de = {
   },
   cancel: {
     nowOpen: (pieces) => `Zurzeit ${plural(pieces, "ist", "sind")} ${figure(pieces)} Stück offen.`,
+    wereOpen: (pieces, time) => `Um ${time} ${plural(pieces, "war", "waren")} ${figure(pieces)} Stück offen; gerade antwortet der Hub nicht.`,
+    tooMuch: (open, time) => `Nur ${figure(open)} Stück ${plural(open, "ist", "sind")} offen (Stand ${time}).`,
+    noneOpen: (time) => `Von dieser Position ist nichts mehr offen (Stand ${time}).`,
     lead: (pieces, article, order, line, supplier) => [
       `Sie stornieren ${figure(pieces)} Stück${article && ` des Artikels ${article}`}: Bestellung `,
       order,
@@ -164,6 +167,7 @@ export const de = {
       `Bestellung ${order}, Position ${line}, Artikel ${article}: ${figure(quantity)} von ${figure(open)} offenen Stück`,
     lead: (given, named) => `Sie stornieren ${given}, beim Lieferanten ${named}.`,
     giveANumber: (open) => `Geben Sie eine ganze Zahl von 1 bis ${figure(open)} ein.`,
+    asOf: (time) => `Was offen ist, ist der Stand von ${time}: Gerade antwortet der Hub nicht.`,
     toCancel: "Zu stornieren",
   },
   cancelResults: {

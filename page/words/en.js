@@ -139,6 +139,11 @@ export const en = {
   },
   cancel: {
     nowOpen: (/** @type {number} */ pieces) => `${counted(pieces, "piece is", "pieces are")} open at the moment.`,
+    wereOpen: (/** @type {number} */ pieces, /** @type {string} */ time) =>
+      `${counted(pieces, "piece was", "pieces were")} open at ${time}; the hub does not answer just now.`,
+    tooMuch: (/** @type {number} */ open, /** @type {string} */ time) =>
+      `Only ${counted(open, "piece is", "pieces are")} open, as of ${time}.`,
+    noneOpen: (/** @type {string} */ time) => `Nothing of this line is open any more, as of ${time}.`,
     lead: (
       /** @type {number} */ pieces,
       /** @type {string} */ article,
@@ -188,6 +193,7 @@ export const en = {
       `Order ${order}, line ${line}, article ${article}: ${figure(quantity)} of ${counted(open, "open piece", "open pieces")}`,
     lead: (/** @type {string | number} */ given, /** @type {string | number} */ named) => `You cancel ${given}, of supplier ${named}.`,
     giveANumber: (/** @type {number} */ open) => `Give a whole number from 1 to ${figure(open)}.`,
+    asOf: (/** @type {string} */ time) => `What is open is as of ${time}: the hub does not answer just now.`,
     toCancel: "To cancel",
   },
   cancelResults: {

@@ -130,6 +130,10 @@ export const fr = {
   },
   cancel: {
     nowOpen: (pieces) => `${counted(pieces, "pièce est ouverte", "pièces sont ouvertes")} en ce moment.`,
+    wereOpen: (pieces, time) =>
+      `${counted(pieces, "pièce était ouverte", "pièces étaient ouvertes")} à ${time} ; en ce moment, le hub ne répond pas.`,
+    tooMuch: (open, time) => `Il n'y a que ${counted(open, "pièce ouverte", "pièces ouvertes")} (situation à ${time}).`,
+    noneOpen: (time) => `Plus rien n'est ouvert sur cette ligne (situation à ${time}).`,
     lead: (pieces, article, order, line, supplier) => [
       `Vous annulez ${counted(pieces, "pièce", "pièces")}${article && ` de l'article ${article}`} : commande `,
       order,
@@ -165,6 +169,7 @@ export const fr = {
       `Commande ${order}, ligne ${line}, article ${article} : ${figure(quantity)} sur ${counted(open, "pièce ouverte", "pièces ouvertes")}`,
     lead: (given, named) => `Vous annulez ${given}, chez le fournisseur ${named}.`,
     giveANumber: (open) => `Indiquez un nombre entier de 1 à ${figure(open)}.`,
+    asOf: (time) => `Ce qui est ouvert correspond à la situation à ${time} : en ce moment, le hub ne répond pas.`,
     toCancel: "À annuler",
   },
   cancelResults: {

@@ -129,6 +129,10 @@ export const nl = {
   },
   cancel: {
     nowOpen: (pieces) => `Op dit moment ${plural(pieces, "staat", "staan")} er ${counted(pieces, "stuk", "stuks")} open.`,
+    wereOpen: (pieces, time) =>
+      `Om ${time} ${plural(pieces, "stond", "stonden")} er ${counted(pieces, "stuk", "stuks")} open; nu antwoordt de hub niet.`,
+    tooMuch: (open, time) => `Er ${plural(open, "staat", "staan")} maar ${counted(open, "stuk", "stuks")} open (stand om ${time}).`,
+    noneOpen: (time) => `Van deze regel staat niets meer open (stand om ${time}).`,
     lead: (pieces, article, order, line, supplier) => [
       `U annuleert ${counted(pieces, "stuk", "stuks")}${article && ` van artikel ${article}`}: bestelling `,
       order,
@@ -164,6 +168,7 @@ export const nl = {
       `Bestelling ${order}, regel ${line}, artikel ${article}: ${figure(quantity)} van ${counted(open, "openstaand stuk", "openstaande stuks")}`,
     lead: (given, named) => `U annuleert ${given}, bij leverancier ${named}.`,
     giveANumber: (open) => `Geef een geheel getal van 1 tot en met ${figure(open)}.`,
+    asOf: (time) => `Wat openstaat, is de stand om ${time}: nu antwoordt de hub niet.`,
     toCancel: "Te annuleren",
   },
   cancelResults: {

@@ -139,14 +139,18 @@ def a_cancellation(browser, stage):
     alike(stage, 3)
     line = next(it for it in stage.ask(ALPHA, "status").splitlines() if it.startswith("L L1 "))
     assert line.split()[5:] == ["48", "40", "0", "8", "0"], line
-    # more than is left is refused, and told at the field
+    # more than is left by then is refused, and told at the field
     browser.press("Status", "a")
     browser.type(browser.labelled("The supplier's GLN"), ALPHA)
     browser.press("Show status")
     browser.press("Cancel…", "a")
-    browser.type(browser.labelled("Quantity to cancel"), "41")
-    send(browser, "cancellation")
+    browser.type(browser.labelled("Quantity to cancel"), "40")
+    check(browser, "cancellation")
+    browser.until_says("You are cancelling 40 pieces", ".summary")
+    assert stage.ask(RETAILER, "cancellations", f"{ALPHA}\nM1\nL1\n1\n1\n") == "accepted\n"
+    browser.press("Send cancellation")
     browser.until_says("More is cancelled than is open.")
+    browser.until_says("Only 39 pieces are open, as of ")
     assert browser.run("return document.activeElement.getAttribute('aria-invalid')") == "true"
     assert browser.run("return document.activeElement.labels[0].textContent") == "Quantity to cancel"
 

@@ -1,5 +1,7 @@
 """Several lines are cancelled at once: chosen in a status, summed up, and sent one after another, each with a reference of its own. One
 without an answer holds those after it, and nothing is sent twice."""
+import threading
+
 from tests.page.breaks import lost
 from tests.page.csv_files import CAUGHT, compared, file_of
 from tests.page.drafts import back_in
@@ -12,6 +14,7 @@ OPEN = {("128590", "2"): 60, ("128590", "4"): 24, ("128591", "1"): 50}
 MOST = 100
 FOCUSED = "const it = document.activeElement; return (it.labels?.[0] ?? it).textContent.trim()"
 BAR = ".chosen"
+SUMMARY = ".summary:not([hidden])"
 
 
 def cancelled(stage):
@@ -72,10 +75,11 @@ def limits(browser, stage):
     """At least one line, whole numbers, and at most what is open; the first wrong field has the focus."""
     browser.press("Check cancellations")
     browser.until_says("Give a quantity for at least one line.")
-    for wrong in ("61", "0", "1.5", "-1", "x"):
+    number = "Give a whole number from 1 to 60."
+    for wrong, said in (("61", "Only 60 pieces are open, as of "), *((it, number) for it in ("0", "1.5", "-1", "x"))):
         fill(browser, {("128590", "2"): wrong})
         browser.press("Check cancellations")
-        browser.until_says("Give a whole number from 1 to 60.")
+        browser.until_says(said)
         assert browser.run(FOCUSED) == quantity("128590", "2"), (wrong, browser.run(FOCUSED))
     browser.press("Fill in all that is open")
     browser.run(CAUGHT)
@@ -145,6 +149,40 @@ def some_refused(browser, stage):
     assert browser.run(FOCUSED).startswith("2 cancellations"), browser.run(FOCUSED)
 
 
+def meanwhile(browser, stage):
+    """Each check asks what is open then: what is too much is told at its field, and a line of which nothing is left can be left out."""
+    stage.sent.clear()
+    status(browser)
+    lines = [("128590", "8"), ("128590", "9"), ("128590", "10")]
+    tick(browser, *lines)
+    browser.press("Cancel 3 lines…")
+    browser.press("Fill in all that is open")
+    for reference, line, count in (("M3", 9, 5), ("M4", 10, 6)):
+        assert stage.ask(RETAILER, "cancellations", f"{ALPHA}\n{reference}\n128590\n{line}\n{count}\n") == "accepted\n"
+    browser.press("Check cancellations")
+    browser.until_says("Only 13 pieces are open, as of ")
+    browser.until_says("Nothing of this line is open any more, as of ")
+    assert browser.run(FOCUSED) == quantity("128590", "9") and stage.sent == [], (browser.run(FOCUSED), stage.sent)
+    browser.press("Fill in all that is open")
+    # without an answer the page goes by the last one, and says so
+    gate = threading.Event()
+    path = f"/p/{RETAILER}/status/{ALPHA}"
+    stage.proxy.instead[path] = lambda handler, body: gate.wait(60) and handler.passed(body)
+    browser.press("Check cancellations")
+    browser.until_says("the hub does not answer just now.", SUMMARY)
+    gate.set()
+    del stage.proxy.instead[path]
+    browser.press("Change something")
+    browser.press("Check cancellations")
+    browser.until_says("You cancel 2 lines of 1 order, 43 pieces in all", SUMMARY)
+    assert "just now" not in browser.text(SUMMARY)
+    browser.until_says("line 9, article", SUMMARY)
+    browser.until_says("13 of 13 open pieces", SUMMARY)
+    browser.press("Send cancellations")
+    browser.until_says("2 cancellations: 2 accepted.")
+    assert [it[1:] for it in bodies(stage)] == [("128590", "8", "30"), ("128590", "9", "13")], bodies(stage)
+
+
 def interrupted(browser, stage):
     """After a reload in the midst the one without an answer can be sent again, and those that were not sent are back in the form."""
     stage.sent.clear()
@@ -197,11 +235,11 @@ def at_most(browser, stage):
 def cancellations(browser, program):
     with Stage(program) as stage:
         furnished(stage)
-        for trial in (chosen, limits, summed_up, one_after_another, some_refused, interrupted, at_most):
+        for trial in (chosen, limits, summed_up, one_after_another, some_refused, meanwhile, interrupted, at_most):
             trial(browser, stage)
         complaints = browser.complaints()
         assert complaints == [], complaints
-    return "8 lines cancelled in three goes, of which two had no answer at first and one was refused"
+    return "10 lines cancelled in four goes, of which two had no answer at first and one was refused"
 
 
 TRIALS = {"several lines are cancelled at once": cancellations}

@@ -1,5 +1,8 @@
 """What the hub refuses is told at the field that its code speaks of: the form was right when it was opened, and something else came
 between."""
+import threading
+import time
+
 from tests.page.driver import ELEMENT, wait
 from tests.page.forms import check, fresh, send
 from tests.page.stage import ALPHA, BETA, RETAILER, Stage, gtin, interchange, message, order, signed_in
@@ -13,8 +16,8 @@ def despatch_by_another(stage, reference, number, sscc, quantity, of="R1"):
     stage.upload(ALPHA, interchange(ALPHA, reference, message("DESADV:D:01B:UN:EAN007", f"BGM+351+{number}+9", *parties, *line)))
 
 
-def cancelled(stage, reference, quantity, of="R1"):
-    answer = stage.ask(RETAILER, "cancellations", f"{ALPHA}\n{reference}\n{of}\n1\n{quantity}\n")
+def cancelled(stage, reference, quantity, of="R1", line=1):
+    answer = stage.ask(RETAILER, "cancellations", f"{ALPHA}\n{reference}\n{of}\n{line}\n{quantity}\n")
     assert answer == "accepted\n", answer
 
 
@@ -113,31 +116,103 @@ def answers(browser, stage):
     assert lines == [["C", "30", "2", "18"], ["A", "40", "40", "0"]], lines
 
 
+def cancellation(browser, **others):
+    """A cancellation that is right, but for these."""
+    fresh(browser, "cancel")
+    right = {"The supplier's GLN": ALPHA, "Order number": "R2", "Line": "2", "Quantity to cancel": "1"}
+    for name, value in {**right, **others}.items():
+        browser.type(browser.labelled(name), value)
+
+
 def cancellations(browser, stage):
     signed_in(browser, stage, RETAILER)
-    right = {"The supplier's GLN": ALPHA, "Order number": "R2", "Line": "2", "Quantity to cancel": "1"}
     wrong = (("The supplier's GLN", "7612345000008", "B02"), ("Order number", "R9", "B05"), ("Line", "3", "B06"))
-    for label, text, code in (*wrong, ("Quantity to cancel", "41", "B17")):
-        fresh(browser, "cancel")
-        for name, value in {**right, label: text}.items():
-            browser.type(browser.labelled(name), value)
+    for label, text, code in wrong:
+        cancellation(browser, **{label: text})
         send(browser, "cancellation")
         browser.until_says(f"refused {code}")
         focused(browser, label)
+
+
+def more_than_is_open(browser, stage):
+    """Told before anything is sent, by what is open at that moment; what another cancels before the second press the hub refuses."""
+    label = "Quantity to cancel"
+    stage.sent.clear()
+    cancellation(browser, **{label: "41"})
+    check(browser, "cancellation")
+    browser.until_says("Only 40 pieces are open, as of ")
+    focused(browser, label)
+    # what was open a moment ago is asked for again by each press
+    browser.type(browser.labelled(label), "40")
+    cancelled(stage, "Y2", 3, of="R2", line=2)
+    check(browser, "cancellation")
+    browser.until_says("Only 37 pieces are open, as of ")
+    browser.until_says(f"Of article {gtin(2)}, 37 pieces are open.")
+    focused(browser, label)
+    browser.type(browser.labelled(label), "37")
+    check(browser, "cancellation")
+    browser.until_says("You are cancelling 37 pieces", ".summary")
+    assert stage.sent == [], stage.sent
+    cancelled(stage, "Y3", 1, of="R2", line=2)
+    browser.press("Send cancellation")
+    browser.until_says("refused B17")
+    browser.until_says("Only 36 pieces are open, as of ")
+    focused(browser, label)
+    # of another line nothing is known yet
+    browser.type(browser.labelled("Line"), "1")
+    browser.until_says("At most what is open.")
+    browser.type(browser.labelled("Line"), "2")
+    cancelled(stage, "Y4", 36, of="R2", line=2)
+    check(browser, "cancellation")
+    browser.until_says("Nothing of this line is open any more, as of ")
+    assert len(stage.sent) == 1, stage.sent
+
+
+def while_nobody_answers(browser, stage):
+    """If the hub does not say what is open now, the page goes by what it said before, and says so; of a line that it does not know it
+    sends what was typed."""
+    label = "Quantity to cancel"
+    gate = threading.Event()
+    path = f"/p/{RETAILER}/status/{ALPHA}"
+    fresh(browser, f"cancel/{ALPHA}/R1/1")
+    browser.until_says("35 pieces are open.")
+    stage.proxy.instead[path] = lambda handler, body: gate.wait(60) and handler.passed(body)
+    for text, said in (("36", "Only 35 pieces are open, as of "), ("35", "35 pieces were open at ")):
+        browser.type(browser.labelled(label), text)
+        check(browser, "cancellation")
+        browser.until_says(said)
+    browser.until_says("; the hub does not answer just now.", ".summary")
+    browser.press("Change something")
+    browser.type(browser.labelled("Line"), "7")
+    check(browser, "cancellation")
+    browser.until_says(f"You are cancelling 35 pieces: order R1, line 7, of supplier {ALPHA}.", ".summary")
+    browser.press("Change something")
+    # what is typed while the page asks is checked by the next press
+    browser.type(browser.labelled("Line"), "1")
+    browser.type(browser.labelled(label), "3")
+    check(browser, "cancellation")
+    browser.type(browser.labelled(label), "33")
+    gate.set()
+    del stage.proxy.instead[path]
+    time.sleep(4)
+    assert not browser.run("return document.querySelector('.summary').checkVisibility()")
+    check(browser, "cancellation")
+    browser.until_says("You are cancelling 33 pieces of article", ".summary")
+    browser.until_says("35 pieces are open at the moment.", ".summary")
 
 
 def refusals(browser, program):
     with Stage(program) as stage:
         stage.upload(RETAILER, interchange(RETAILER, "R1", order("R1", [48])))
         signed_in(browser, stage, ALPHA)
-        for trial in (despatches, checks_of_the_form, answers, cancellations):
+        for trial in (despatches, checks_of_the_form, answers, cancellations, more_than_is_open, while_nobody_answers):
             trial(browser, stage)
         signed_in(browser, stage, BETA)
         browser.run("location.hash = 'despatch'")
         browser.until_says("Nothing is open")
         complaints = browser.complaints()
         assert complaints == [], complaints
-    return "10 refusals told at their fields, and 8 told before anything is sent"
+    return "10 refusals told at their fields, and 12 told before anything is sent"
 
 
 TRIALS = {"refusals at their fields": refusals}

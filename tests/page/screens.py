@@ -95,9 +95,10 @@ def uploaded(browser):
 
 
 def cancel(browser):
+    """More than is open, which is told before anything is sent."""
     browser.type(browser.labelled("Quantity to cancel"), "999")
-    send(browser, "cancellation")
-    browser.until_says("The hub said")
+    check(browser, "cancellation")
+    browser.until_says("Only 25 pieces are open, as of ")
 
 
 def fetched(browser):
