@@ -1,7 +1,8 @@
 """The focus is never lost: whichever button of a screen is pressed, something that can be seen has the focus then, so that a keyboard or a
 screen reader goes on from there. And what the page says aloud it says in a live region that was there before."""
+from tests.page.driver import wait
 from tests.page.screens import SCREENS, furnished, opened
-from tests.page.stage import Stage
+from tests.page.stage import ALPHA, Stage, signed_in
 from tests.page.stage import opened as tab_opened
 
 # the buttons of the screen that can be pressed, each kind once, by their places among all; what a person leaves the page by is not
@@ -94,4 +95,26 @@ def kept(browser, program):
     return f"{sum(pressed)} buttons of {len(SCREENS)} screens"
 
 
-TRIALS = {"the focus is not lost": kept}
+# presses it twice, as in a double click
+TWICE = """const it = [...document.querySelectorAll('main button')].find(it => it.textContent === 'Show what was taken');
+    it.focus(); it.click(); it.click()"""
+ON_LINK = "return document.activeElement?.matches('.taken tbody a') ? document.activeElement.textContent : ''"
+
+
+def taken(browser, program):
+    """Each entry that was taken is listed once, and the first has the focus."""
+    with Stage(program) as stage:
+        furnished(stage)
+        for number in (2, 4):
+            stage.ask(ALPHA, f"mail/item/{number}/taken", "")
+        signed_in(browser, stage, ALPHA)
+        browser.named("button", "Show what was taken")
+        browser.run(TWICE)
+        browser.until_says("128576", ".taken")
+        wait(lambda: browser.run(ON_LINK) == "128590", "focus on the first that was taken", lambda: browser.run(ON_LINK))
+        found = [it[0] for it in browser.rows(".taken table")]
+        assert found == ["4", "2", "1"], found
+    return f"{len(found)} entries"
+
+
+TRIALS = {"the focus is not lost": kept, "what was taken is listed once": taken}

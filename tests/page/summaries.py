@@ -5,6 +5,7 @@ from tests.page.screens import furnished
 from tests.page.stage import ALPHA, RETAILER, Stage, gtin, signed_in
 
 FOCUSED = "const it = document.activeElement; return (it.labels?.[0] ?? it).textContent.trim()"
+OFFERED = "return [...document.querySelectorAll('main button, main summary')].flatMap(it => it.checkVisibility() ? [it.textContent] : [])"
 
 
 def focus(browser, label):
@@ -50,6 +51,8 @@ def cancellation(browser, stage):
     assert stage.sent == [], stage.sent
     browser.press("Send cancellation")
     browser.until_says("Accepted: the hub has taken it")
+    # what was sent cannot be checked or sent from here again
+    assert not {"Check cancellation", "Send cancellation", "Show what will be sent"} & set(browser.run(OFFERED)), browser.run(OFFERED)
     assert len(stage.sent) == 1 and stage.sent[0][1].endswith(b"\n128591\n2\n6\n"), stage.sent
 
 

@@ -155,10 +155,23 @@ def while_searching(browser, stage):
     del stage.proxy.instead[path]
 
 
+def without_a_search(browser, stage):
+    """If the search gets no answer, the rows lead to the mailbox, where the order is to be found."""
+    path = f"/p/{ALPHA}/mail/after/0"
+    signed_in(browser, stage, ALPHA, "#sent")
+    stage.proxy.instead[path] = lambda handler, body: handler.cut()
+    browser.run("location.hash = 'today'")
+    browser.until_says("The hub did not answer at")
+    found = browser.run("return [...document.querySelectorAll('main .action a')].map(it => it.getAttribute('href'))")
+    assert found.count("#mailbox") == 7, found
+    del stage.proxy.instead[path]
+
+
 def of_today(browser, program):
     with Stage(program) as stage:
         furnished(stage)
         while_searching(browser, stage)
+        without_a_search(browser, stage)
         browser.stop_clock(milliseconds(2025, 6, 10, 9, 30))
         count = parts(browser, stage)
         actions(browser)

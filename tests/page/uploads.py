@@ -2,6 +2,7 @@
 answered or the person continues with the rest."""
 from tests.page.breaks import lost
 from tests.page.driver import wait
+from tests.page.focus import LISTEN
 from tests.page.forms import send_files
 from tests.page.stage import BETA, RETAILER, Stage, interchange, order, signed_in
 
@@ -12,6 +13,9 @@ UNREADABLE = """const real = Blob.prototype.arrayBuffer;
     }"""
 
 LABEL = "return document.activeElement?.getAttribute('aria-label')"
+# the file whose answer has the focus
+ANSWER = "return document.activeElement?.matches('.delivery') && document.activeElement.closest('.upload').querySelector('h2').textContent"
+SEND = "const it = [...document.querySelectorAll('main button')].find(it => it.textContent === 'Send 2 files'); it.focus(); it.click()"
 
 
 def file(number):
@@ -45,6 +49,9 @@ def unreadable(browser, stage):
 def listed_first(browser, stage):
     """Nothing is sent before the second press, and a file can be taken back."""
     stage.sent.clear()
+    browser.run("document.querySelector('[aria-label=\"Remove gone.edi\"]').click()")
+    wait(lambda: not card(browser, "gone.edi"), "file taken back")
+    browser.run(LISTEN)
     browser.drop("b.edi", file("F2"))
     browser.drop("c.edi", file("F3").replace("'", "'\r\n"))
     browser.drop("wrong.txt", "no EDIFACT")
@@ -58,12 +65,17 @@ def listed_first(browser, stage):
     browser.run(removing)
     wait(lambda: browser.run(LABEL) == "Remove c.edi", "focus on the next file", lambda: browser.run(LABEL))
     wait(lambda: not card(browser, "wrong.txt"), "file taken back")
+    # what a file is, before it is sent, is not said aloud
+    assert browser.run("return window.unheard") == [], browser.run("return window.unheard")
     # they are there when the screen is left and opened again
     browser.press("Sent", "a")
     browser.one("table.sent")
     browser.press("Upload", "a")
-    send_files(browser, 2)
+    browser.named("button", "Send 2 files")
+    # once there is nothing to press any more, the focus is at what the hub said
+    browser.run(SEND)
     says(browser, "c.edi", "Accepted")
+    assert browser.run(ANSWER) == "b.edi", browser.run(ANSWER)
     assert sent_names(stage) == ["F2", "F3"], stage.sent
 
 
