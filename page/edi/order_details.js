@@ -163,7 +163,7 @@ function readDate(it, details) {
 function readContract(it, details) {
   if (it.peek(1) !== "CT" || !it.peek(1, 2)) return false;
   const [, number, line] = [1, 2, 3].map((place) => it.take(1, place));
-  details.contracts.push(line ? `${number}, line ${line}` : number);
+  details.contracts.push(line ? phrases.order.contractLine(number, line) : number);
   return true;
 }
 

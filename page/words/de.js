@@ -422,6 +422,7 @@ export const de = {
   },
   order: {
     contract: "Vertrag",
+    contractLine: (number, line) => `${number}, Position ${line}`,
     caption: (order) => `Positionen der Bestellung ${order}`,
     ofAllLines: "Für alle Positionen",
     packages: "Packstücke",

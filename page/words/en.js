@@ -457,6 +457,7 @@ export const en = {
   },
   order: {
     contract: "Contract",
+    contractLine: (/** @type {string} */ number, /** @type {string} */ line) => `${number}, line ${line}`,
     caption: (/** @type {string | number} */ order) => `Lines of order ${order}`,
     ofAllLines: "Of all lines",
     packages: "Packages",

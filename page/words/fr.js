@@ -425,6 +425,7 @@ export const fr = {
   },
   order: {
     contract: "Contrat",
+    contractLine: (number, line) => `${number}, ligne ${line}`,
     caption: (order) => `Lignes de la commande ${order}`,
     ofAllLines: "Pour toutes les lignes",
     packages: "Emballages",

@@ -418,6 +418,7 @@ export const nl = {
   },
   order: {
     contract: "Contract",
+    contractLine: (number, line) => `${number}, regel ${line}`,
     caption: (order) => `Regels van bestelling ${order}`,
     ofAllLines: "Voor alle regels",
     packages: "Colli",

@@ -61,8 +61,8 @@ def compiler():
     return os.path.join(os.path.dirname(os.path.realpath(program)), "..", "lib", "typescript.js")
 
 
-# what a server says or is asked for, and what the page calls reasons in itself
-NO_TEXTS = {"Retry-After", "edihub show\n", "too many", "too large"}
+# what a server says or is asked for, what the page calls reasons and classes in itself, and what is alike in all languages
+NO_TEXTS = {"Retry-After", "edihub show\n", "too many", "too large", "field ${}", "${} UTC"}
 
 
 def outside(_program):

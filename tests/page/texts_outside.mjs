@@ -17,7 +17,11 @@ const CALLS = new RegExp(
     "removeAttribute|addEventListener|dispatchEvent|Event|CustomEvent|startsWith|endsWith|includes|split|join|getElementById|" +
     "setProperty|RegExp)$",
 );
-const isProse = (text) => /\p{L}{2,}[,:;.…]? \p{L}/u.test(text) || /^[‹“]? ?\p{Lu}\p{Ll}{2,}/u.test(text) || /\p{L}…$/u.test(text);
+const WORDS = /\p{L}{2,}[,:;.…]? \p{L}/u;
+const NAME = /^[‹“]? ?\p{Lu}\p{Ll}{2,}/u;
+// a word beside what is filled in, such as the one of `${number}, line ${line}`
+const BESIDE = /\}[,:;]? \p{L}{2,}|\p{L}{2,}:? \$\{/u;
+const isProse = (text) => [WORDS, NAME, BESIDE, /\p{L}…$/u].some((it) => it.test(text));
 
 function textOf(node) {
   if (ts.isStringLiteralLike(node)) return node.text;
