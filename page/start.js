@@ -117,7 +117,8 @@ const formWithWork = () => /** @type {HTMLElement | null} */ (main.querySelector
 async function mayLeave(label) {
   const form = formWithWork();
   if (!form) return true;
-  asking ??= askToLeave(phrases.start.notSentYet(form.dataset.typed ?? ""), phrases.start.kept, label).finally(() => (asking = null));
+  const then = form.hasAttribute("data-unkept") ? phrases.start.unkept : phrases.start.kept;
+  asking ??= askToLeave(phrases.start.notSentYet(form.dataset.typed ?? ""), then, label).finally(() => (asking = null));
   if (!(await asking)) return false;
   delete form.dataset.typed;
   return true;

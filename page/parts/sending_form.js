@@ -59,9 +59,10 @@ class SendingForm {
     this.fields = /** @type {HTMLFieldSetElement} */ (element("fieldset", { class: "bare" }, ...words.content, ...this.before));
     this.summary = new Summary(words.noun, () => this.send(), () => this.edit());
     this.restored = element("div", { role: "status" });
+    this.unkept = element("div", { role: "status" });
     this.first = element("div", { role: "alert" });
     this.region = sendingRegion();
-    const parts = [this.restored, this.fields, this.first, this.summary.element, this.region];
+    const parts = [this.restored, this.fields, this.unkept, this.first, this.summary.element, this.region];
     this.element = element("form", { novalidate: true, onsubmit: (event) => event.preventDefault() }, ...parts);
     enterMoves(this.fields, checkButton);
     this.pristine = JSON.stringify(this.content);
@@ -120,8 +121,16 @@ class SendingForm {
     const { content } = this;
     const typed = JSON.stringify(content) !== this.pristine;
     this.sending.happen(typed ? "type" : "clear");
-    if (typed) keepDraft(this.caller, this.words.draft, content);
-    else dropDraft(this.caller, this.words.draft);
+    if (!typed) dropDraft(this.caller, this.words.draft);
+    this.warn(typed && !keepDraft(this.caller, this.words.draft, content));
+  }
+
+  /** Says, or no longer says, that the browser does not keep what was typed.
+   * @param {boolean} isLost */
+  warn(isLost) {
+    if (isLost === this.element.hasAttribute("data-unkept")) return;
+    this.element.toggleAttribute("data-unkept", isLost);
+    this.unkept.replaceChildren(...(isLost ? [saying("warn", phrases.start.unkept)] : []));
   }
 
   async review() {

@@ -117,6 +117,7 @@ class CancelForm {
     const count = this.given.length;
     if (count) this.element.dataset.typed = phrases.cancelLines.what(count);
     else delete this.element.dataset.typed;
+    this.element.toggleAttribute("data-unkept", !this.chosen.isKept);
   }
 
   /** The lines of which something is to be cancelled. */

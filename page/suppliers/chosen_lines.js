@@ -13,6 +13,8 @@ export class ChosenLines {
     this.name = `cancel-lines/${supplier}`;
     /** @type {Chosen[]} */
     this.chosen = draftOf(caller, this.name) ?? [];
+    /** whether the browser had room for them */
+    this.isKept = true;
   }
 
   /** @param {Line} wanted @returns {Chosen | undefined} */
@@ -37,7 +39,7 @@ export class ChosenLines {
   }
 
   #keep() {
-    if (this.chosen.length) keepDraft(this.caller, this.name, this.chosen);
-    else dropDraft(this.caller, this.name);
+    if (!this.chosen.length) dropDraft(this.caller, this.name);
+    this.isKept = !this.chosen.length || keepDraft(this.caller, this.name, this.chosen);
   }
 }

@@ -748,6 +748,7 @@ export const de = {
     leave: "Verlassen",
     noAnswer: "Keine Antwort",
     notAgain: "Wenn Sie sich abmelden, können Sie dasselbe von hier nicht noch einmal senden.",
+    unkept: "Ihr Browser hat keinen Platz für das, was Sie eingegeben haben: Wenn Sie diese Ansicht verlassen oder neu laden, ist es weg.",
     typedGone: "Wenn Sie sich abmelden, ist weg, was Sie eingegeben haben.",
     filesNotSent: "Dateien sind noch nicht gesendet",
     chooseAgain: "Wenn Sie sich abmelden, müssen Sie sie noch einmal wählen.",

@@ -780,6 +780,7 @@ export const en = {
     leave: "Leave",
     noAnswer: "No answer",
     notAgain: "If you sign out, the same cannot be sent again from here.",
+    unkept: "Your browser has no room to keep what you typed: if you leave this screen or load the page again, it is gone.",
     typedGone: "If you sign out, what you typed is gone.",
     filesNotSent: "Files are not sent yet",
     chooseAgain: "If you sign out, you have to choose them again.",

@@ -743,6 +743,8 @@ export const fr = {
     leave: "Quitter",
     noAnswer: "Pas de réponse",
     notAgain: "Si vous vous déconnectez, la même chose ne pourra plus être renvoyée d'ici.",
+    unkept:
+      "Votre navigateur n'a pas de place pour garder ce que vous avez saisi : si vous quittez cet écran ou rechargez la page, c'est perdu.",
     typedGone: "Si vous vous déconnectez, ce que vous avez saisi est perdu.",
     filesNotSent: "Des fichiers ne sont pas encore envoyés",
     chooseAgain: "Si vous vous déconnectez, vous devrez les choisir de nouveau.",

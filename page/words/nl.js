@@ -728,6 +728,7 @@ export const nl = {
     leave: "Verlaten",
     noAnswer: "Geen antwoord",
     notAgain: "Als u uitlogt, kan hetzelfde van hieruit niet opnieuw worden verzonden.",
+    unkept: "Uw browser heeft geen ruimte om te bewaren wat u hebt getypt: als u dit scherm verlaat of opnieuw laadt, is het weg.",
     typedGone: "Als u uitlogt, is weg wat u hebt getypt.",
     filesNotSent: "Er zijn bestanden nog niet verzonden",
     chooseAgain: "Als u uitlogt, moet u ze opnieuw kiezen.",

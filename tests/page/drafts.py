@@ -4,6 +4,9 @@ from tests.page.forms import ASKED, asked, check, send
 from tests.page.stage import ALPHA, BETA, KEYS, RETAILER, Stage, gtin, interchange, message, order, signed_in
 
 PALLETS = 33
+# a browser whose store is full
+FULL = """window.setItem = Storage.prototype.setItem;
+    Storage.prototype.setItem = () => { throw new DOMException('full', 'QuotaExceededError'); }"""
 DRAFTS = "return Object.keys(sessionStorage).filter(it => it.includes('.draft.'))"
 
 
@@ -128,6 +131,23 @@ def its_own_lines(browser, stage):
     browser.until_says("Line 2: refused", ".summary")
 
 
+def without_room(browser, stage):
+    """If the browser has no room for a draft, the form says so, and so does the question before it is left."""
+    said = "Your browser has no room to keep what you typed"
+    browser.press("Change something")
+    browser.run(FULL)
+    browser.type(browser.labelled("Changed quantity of line 3"), "5")
+    browser.until_says(said, "form")
+    browser.run("location.hash = 'mailbox'")
+    asked(browser)
+    browser.until_says(said, "dialog")
+    browser.press("Stay")
+    browser.run("Storage.prototype.setItem = window.setItem")
+    browser.type(browser.labelled("Changed quantity of line 3"), "4")
+    wait(lambda: said not in browser.text("form"), "a draft that is kept again")
+    check(browser, "answer")
+
+
 def forgotten(browser, stage):
     """To sign out asks first, and forgets; another GLN never finds anything."""
     browser.press("Sign out")
@@ -163,6 +183,7 @@ def drafts(browser, program):
         ended(browser, stage)
         stage.upload(RETAILER, interchange(RETAILER, "K2", order("K2", [1000, 2000, 3000])))
         its_own_lines(browser, stage)
+        without_room(browser, stage)
         forgotten(browser, stage)
         complaints = browser.complaints()
         assert complaints == [], complaints
