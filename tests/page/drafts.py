@@ -107,6 +107,12 @@ def ended(browser, stage):
     browser.press("Start from scratch")
     wait(lambda: browser.all(".pallet") and value(browser, "Quantity of order K1, line 1") == "", "an empty form")
     assert browser.run(DRAFTS) == [], browser.run(DRAFTS)
+    # what was typed and deleted is no draft
+    number = value(browser, "Number of the despatch")
+    browser.type(browser.labelled("Number of the despatch"), "D-34")
+    wait(lambda: len(browser.run(DRAFTS)) == 1, "a draft")
+    browser.type(browser.labelled("Number of the despatch"), number)
+    wait(lambda: browser.run(DRAFTS) == [], "no draft", lambda: browser.run(DRAFTS))
 
 
 def its_own_lines(browser, stage):

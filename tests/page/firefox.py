@@ -22,6 +22,8 @@ PREFERENCES = {
     "network.dns.localDomains": ELSEWHERE,
     "dom.security.https_first": False,
     "dom.disable_beforeunload": True,
+    # a list of what was downloaded would take the focus from the page
+    "browser.download.alwaysOpenPanel": False,
     "layout.css.prefers-color-scheme.content-override": 1,
     # Firefox sends a request by itself again whose connection broke, so that trials could not count what the page sends
     "network.http.request.max-attempts": 1,
