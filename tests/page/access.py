@@ -84,7 +84,9 @@ NARROW = ((320, 640, True), ENLARGED)
 
 
 def names(browser, screen):
-    """Each control has a name for who listens, as the browser itself computes it."""
+    """Each control has a name for who listens, as the browser itself computes it, if it says so. Returns how many these are."""
+    if not browser.hears:
+        return 0
     nodes = browser.developer("Accessibility.getFullAXTree")["nodes"]
     found = [it for it in nodes if not it.get("ignored") and it.get("role", {}).get("value") in CONTROLS]
     nameless = [it["role"]["value"] for it in found if not it.get("name", {}).get("value", "").strip() and it["role"]["value"] != "group"]
@@ -131,7 +133,7 @@ def access(browser, program):
                 browser.look(*((360, 740) if narrow else (1280, 900)), dark=dark, narrow=narrow)
                 if not narrow and not dark:
                     opened(browser, stage, name)
-                    controls += names(browser, name) if browser.hears else 0
+                    controls += names(browser, name)
                 sound(browser, name)
                 found = browser.run(CONTRAST)
                 assert found[0] >= 4.5, (name, "dark" if dark else "light", found)

@@ -37,6 +37,17 @@ def free_port():
         return one.getsockname()[1]
 
 
+def standing(milliseconds):
+    """A script by which the clock of a page stands at this moment."""
+    return f"""{{
+        const now = {milliseconds}, Real = Date;
+        globalThis.Date = class extends Real {{
+            constructor(...words) {{ super(...(words.length ? words : [now])); }}
+            static now() {{ return now; }}
+        }};
+    }}"""
+
+
 class Browser:
     """A browser of its own, with no profile of anybody."""
 
@@ -205,12 +216,7 @@ class Browser:
         """From the next page on its clock stands at this moment, at UTC."""
         self.developer("Emulation.setTimezoneOverride", timezoneId="UTC")
         self.run_clock()
-        script = f"""const now = {milliseconds}, Real = Date;
-            globalThis.Date = class extends Real {{
-                constructor(...words) {{ super(...(words.length ? words : [now])); }}
-                static now() {{ return now; }}
-            }};"""
-        self.clock = self.developer("Page.addScriptToEvaluateOnNewDocument", source=f"{{ {script} }}")["identifier"]
+        self.clock = self.developer("Page.addScriptToEvaluateOnNewDocument", source=standing(milliseconds))["identifier"]
 
 
 def wait(ask, what, said=None):

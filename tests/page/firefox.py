@@ -9,6 +9,7 @@ import tempfile
 import time
 
 from tests.page.driver import ANSWERS, ELSEWHERE, Browser, DriverFault, NotHere, free_port
+from tests.page.stage import Keeping
 
 PREFERENCES = {
     "marionette.port": 0,
@@ -57,6 +58,7 @@ DEVELOPER = {
         prefs.setStringPref('browser.download.dir', arguments[0].downloadPath);
         prefs.setBoolPref('browser.download.alwaysOpenPanel', false)""",
     "Emulation.setEmulatedMedia": "gBrowser.selectedBrowser.browsingContext.mediumOverride = arguments[0].media",
+    "Emulation.setTimezoneOverride": "gBrowser.selectedBrowser.browsingContext.timezoneOverride = arguments[0].timezoneId",
     "Emulation.setUserAgentOverride": "Services.prefs.setStringPref('intl.accept_languages', arguments[0].acceptLanguage)",
     "Network.getAllCookies": "return { cookies: Services.cookies.cookies.map(it => it.name) }",
 }
@@ -170,7 +172,9 @@ class Firefox(Browser):
             self.command("SetWindowRect", {"width": rect["width"] + more[0], "height": rect["height"] + more[1]})
 
     def run_clock(self):
-        """Its clock always runs."""
+        Keeping.clock = None
 
     def stop_clock(self, milliseconds):
-        raise NotHere("Firefox has no clock that stands")
+        """The page itself loads the script that stops its clock."""
+        self.developer("Emulation.setTimezoneOverride", timezoneId="UTC")
+        Keeping.clock = milliseconds

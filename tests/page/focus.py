@@ -20,11 +20,11 @@ COUNT = """if (window.waited !== undefined) return;
     const real = window.fetch; window.waited = 0; window.print = () => {};
     addEventListener('beforeunload', it => it.stopImmediatePropagation(), { capture: true });
     window.fetch = (...words) => { window.waited += 1; return real(...words).finally(() => { window.waited -= 1; }); }"""
-# once nothing was waited for in a while and what a browser does itself to the focus, before it draws a frame, is done
+# once there is a screen, nothing was waited for in a while, and what a browser does itself to the focus, before it draws a frame, is done
 CALM = """const [done] = arguments;
     let calm = 0;
     const look = () => {
-        calm = window.waited || document.querySelector('main[aria-busy]') ? 0 : calm + 1;
+        calm = window.waited || document.querySelector('main[aria-busy]') || !document.querySelector('main h1') ? 0 : calm + 1;
         if (calm > 5) requestAnimationFrame(() => setTimeout(() => done(true)));
         else setTimeout(look, 30);
     };

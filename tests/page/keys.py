@@ -66,7 +66,9 @@ def for_password_managers(browser, stage):
     assert browser.run(names) == [["text", "username", "username"], ["password", "password", "current-password"]], browser.run(names)
     browser.type(browser.labelled("GLN"), ALPHA)
     browser.type(browser.labelled("Key"), KEYS[ALPHA])
-    assert browser.run("const it = document.querySelector('form.sign-in'); it.submit(); return it.method") == "post"
+    # a browser may say by an exception that the policy forbids it
+    submitted = "const it = document.querySelector('form.sign-in'); try { it.submit(); } catch {} return it.method"
+    assert browser.run(submitted) == "post"
     browser.run("return new Promise(done => setTimeout(done, 300))")
     assert browser.address() == stage.address, browser.address()
     # the policy said that it forbids this

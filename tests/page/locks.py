@@ -6,7 +6,9 @@ from tests.page.keys import NAME, kept, left_behind
 from tests.page.stage import ALPHA, BETA, KEYS, RETAILER, Stage, interchange, order, signed_in
 
 # the clock of the tab goes on from so many milliseconds later
-LATER = "const [then, from] = [Date.now() + arguments[0], performance.now()]; window.Date.now = () => then + performance.now() - from"
+# by the clock of the page itself, which may be ahead already
+LATER = """const [then, from] = [window.Date.now() + arguments[0], performance.now()];
+    window.Date.now = () => then + performance.now() - from"""
 TEN = 600_000
 LOCKED = "it has forgotten your key"
 HEADING = "return document.querySelector('h1')?.textContent ?? ''"

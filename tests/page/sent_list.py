@@ -58,7 +58,7 @@ def another_failure(browser, stage):
     browser.press("Mark as taken")
     browser.until_says("try again in a moment", "#banner")
     complaints = browser.complaints()
-    assert complaints and all("Uncaught Broken: 502" in it for it in complaints), complaints
+    assert complaints and all("502 the hub does not answer" in it for it in complaints), complaints
     browser.until_says("Your answer to order V2 was sent, and no answer came.", "#banner")
     stage.begin_hub()
     browser.named("button", "Send the same again")

@@ -11,7 +11,7 @@ import threading
 from datetime import datetime, timezone
 
 from tests.harness.tree import EXAMPLES
-from tests.page.driver import free_port
+from tests.page.driver import free_port, standing
 
 DAY = os.path.join(EXAMPLES, "day")
 
@@ -32,10 +32,24 @@ def module(name, *path):
 # which the proxy imports by this name
 sys.modules["show"] = module("show", EXAMPLES, "page", "show.py")
 proxy = module("page_proxy", EXAMPLES, "page", "proxy.py")
+# where pages find the script that stops their clocks
+CLOCK = "/clock"
 
 
 class Keeping(proxy.Handler):
     """The proxy's handler, which keeps each body that is sent, and whose way to the hub and back a trial can break."""
+
+    # the moment at which the clocks of pages stand, in milliseconds at UTC, for a browser that cannot stop them itself
+    clock = None
+
+    def give_file(self):
+        if self.clock is None or self.path not in ("/", CLOCK):
+            return super().give_file()
+        if self.path == CLOCK:
+            return self.answer(200, standing(self.clock).encode(), "text/javascript")
+        with open(os.path.join(proxy.PAGE, "index.html"), "rb") as file:
+            begin, end = file.read().split(b"<head>")
+        self.answer(200, b'%b<head><script src="%b"></script>%b' % (begin, CLOCK.encode(), end), "text/html; charset=utf-8")
 
     def do_POST(self):
         self.server.posted.append((self.path, self.headers.get("X-Hub-Key")))
