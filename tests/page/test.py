@@ -26,10 +26,8 @@ IN_BROWSER = {name: trial for part in PARTS for name, trial in part.TRIALS.items
 
 
 BROWSERS = {"chromium": Browser, "firefox": Firefox}
-# what is tried in Firefox too, if no trial is named: the others ask for Chromium's own tools, or were not seen to pass there
-IN_FIREFOX = ("bars of a status", "a supplier's day and a planner's", "connections that break", "hostile texts", "refusals at their fields")
-IN_FIREFOX += ("the keyboard alone", "a colleague's answer meanwhile", "the numbers of pallets", "numbers that end in blanks")
-IN_FIREFOX += ("nothing is silent", "the choice of", "enter moves on and never sends", "uploads in their order", "the menu loads again")
+# what is not tried in Firefox unless it is named: it asks for Chromium's own tools, takes very long, or was not seen to pass there
+NOT_IN_FIREFOX = ("accessibility", "bars as they are drawn", "labels that scan", "pauses of a despatch", "the focus is not lost")
 
 
 def tried(name, trial, *words):
@@ -65,7 +63,7 @@ def main():
     results = [] if words.browser == "firefox" else [tried(name, it, words.program) for name, it in ALONE.items() if words.name in name]
     chosen = {name: trial for name, trial in IN_BROWSER.items() if words.name in name}
     for kind in [words.browser] if words.browser else BROWSERS:
-        some = chosen if kind == "chromium" or words.name else {name: chosen[name] for name in IN_FIREFOX}
+        some = {name: it for name, it in chosen.items() if kind == "chromium" or words.name or name not in NOT_IN_FIREFOX}
         if some:
             results += in_browser(kind, some, words.program)
     passed, failed, left = (results.count(it) for it in (True, False, None))
