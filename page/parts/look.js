@@ -13,7 +13,7 @@ export async function look(ask) {
   await Promise.race([ask().catch(passOver), late]);
 }
 
-// No answer, and one that says that something is not known, are no hindrance.
+// A hub that does not answer, or does not know what it is asked for, stops nobody.
 /** @param {unknown} why */
 function passOver(why) {
   if (!(why instanceof Broken || why instanceof Refused)) throw why;

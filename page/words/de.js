@@ -167,7 +167,7 @@ export const de = {
       `Bestellung ${order}, Position ${line}, Artikel ${article}: ${figure(quantity)} von ${figure(open)} offenen Stück`,
     lead: (given, named) => `Sie stornieren ${given}, beim Lieferanten ${named}.`,
     giveANumber: (open) => `Geben Sie eine ganze Zahl von 1 bis ${figure(open)} ein.`,
-    asOf: (time) => `Was offen ist, ist der Stand von ${time}: Gerade antwortet der Hub nicht.`,
+    asOf: (time) => `Die offenen Mengen sind die von ${time}: Gerade antwortet der Hub nicht.`,
     toCancel: "Zu stornieren",
   },
   cancelResults: {

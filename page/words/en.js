@@ -193,7 +193,7 @@ export const en = {
       `Order ${order}, line ${line}, article ${article}: ${figure(quantity)} of ${counted(open, "open piece", "open pieces")}`,
     lead: (/** @type {string | number} */ given, /** @type {string | number} */ named) => `You cancel ${given}, of supplier ${named}.`,
     giveANumber: (/** @type {number} */ open) => `Give a whole number from 1 to ${figure(open)}.`,
-    asOf: (/** @type {string} */ time) => `What is open is as of ${time}: the hub does not answer just now.`,
+    asOf: (/** @type {string} */ time) => `The open quantities are those of ${time}: the hub does not answer just now.`,
     toCancel: "To cancel",
   },
   cancelResults: {

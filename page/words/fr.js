@@ -169,7 +169,7 @@ export const fr = {
       `Commande ${order}, ligne ${line}, article ${article} : ${figure(quantity)} sur ${counted(open, "pièce ouverte", "pièces ouvertes")}`,
     lead: (given, named) => `Vous annulez ${given}, chez le fournisseur ${named}.`,
     giveANumber: (open) => `Indiquez un nombre entier de 1 à ${figure(open)}.`,
-    asOf: (time) => `Ce qui est ouvert correspond à la situation à ${time} : en ce moment, le hub ne répond pas.`,
+    asOf: (time) => `Les quantités ouvertes sont celles de ${time} : en ce moment, le hub ne répond pas.`,
     toCancel: "À annuler",
   },
   cancelResults: {

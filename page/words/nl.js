@@ -168,7 +168,7 @@ export const nl = {
       `Bestelling ${order}, regel ${line}, artikel ${article}: ${figure(quantity)} van ${counted(open, "openstaand stuk", "openstaande stuks")}`,
     lead: (given, named) => `U annuleert ${given}, bij leverancier ${named}.`,
     giveANumber: (open) => `Geef een geheel getal van 1 tot en met ${figure(open)}.`,
-    asOf: (time) => `Wat openstaat, is de stand om ${time}: nu antwoordt de hub niet.`,
+    asOf: (time) => `De openstaande aantallen zijn die van ${time}: nu antwoordt de hub niet.`,
     toCancel: "Te annuleren",
   },
   cancelResults: {
