@@ -141,6 +141,8 @@ def some_refused(browser, stage):
     browser.press("Cancel 2 lines…")
     browser.press("Fill in all that is open")
     browser.press("Check cancellations")
+    # what comes before the summary the page says itself
+    browser.until_says("You cancel 2 lines of 1 order", SUMMARY)
     assert stage.ask(RETAILER, "cancellations", f"{ALPHA}\nM1\n128590\n1\n1\n") == "accepted\n"
     browser.press("Send cancellations")
     browser.until_says("2 cancellations: 1 accepted, 1 not accepted.")
