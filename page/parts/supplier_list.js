@@ -2,7 +2,8 @@
 // Says where the list of suppliers comes from, and takes another one.
 
 import { phrases } from "../language.js";
-import { element, notice } from "./dom.js";
+import { BESIDE } from "../suppliers/list.js";
+import { element, notice, saying } from "./dom.js";
 import { dropZone } from "./drop_zone.js";
 
 /** @typedef {import("../suppliers/list.js").SupplierList} SupplierList */
@@ -30,10 +31,10 @@ export function supplierListPart(list) {
   const details = /** @type {HTMLDetailsElement} */ (element("details", { class: "list", open: !list.file }, summary, zone));
   let drawn = "";
   const draw = () => {
-    const state = JSON.stringify([list.file, list.suppliers.length, list.wrong]);
+    const state = JSON.stringify([list.file, list.suppliers.length, list.wrong, list.isKept, list.isUnread]);
     if (state === drawn) return;
     drawn = state;
-    said.replaceChildren(element("p", { class: "lead" }, inWords(list)), ...(list.wrong.length ? [whatIsWrong(list.wrong)] : []));
+    said.replaceChildren(element("p", { class: "lead" }, inWords(list)), ...warnings(list));
     summary.textContent = list.file ? phrases.supplierList.useAnother : phrases.supplierList.give;
   };
   draw();
@@ -44,6 +45,15 @@ export function supplierListPart(list) {
 function inWords({ suppliers, file, isBeside }) {
   if (!file) return phrases.supplierList.none;
   return isBeside ? phrases.supplierList.besidePage(suppliers.length, file) : phrases.supplierList.inFile(suppliers.length, file);
+}
+
+/** @param {SupplierList} list */
+function warnings({ wrong, isKept, isUnread }) {
+  return [
+    ...(isKept ? [] : [saying("warn", phrases.supplierList.unkept)]),
+    ...(isUnread ? [saying("warn", phrases.supplierList.unread(BESIDE))] : []),
+    ...(wrong.length ? [whatIsWrong(wrong)] : []),
+  ];
 }
 
 /** @param {string[]} wrong */

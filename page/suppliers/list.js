@@ -11,6 +11,8 @@ import { readSuppliers, textOfFile } from "./file.js";
 /** Where an operator puts the list, beside `index.html`. */
 export const BESIDE = "suppliers.csv";
 const PATIENCE = 15_000;
+// the status of an answer that there is no such file
+const NONE = 404;
 // a list of as many suppliers as a hub takes is much shorter
 const LONGEST = 1_048_576;
 /** @type {RequestInit} */
@@ -28,6 +30,10 @@ export class SupplierList extends EventTarget {
     /** The name of the file, or "" if there is no list. */
     this.file = "";
     this.isBeside = false;
+    /** whether the tab keeps the list over a reload */
+    this.isKept = true;
+    /** whether there may be a list beside the page that could not be read */
+    this.isUnread = false;
     /** @type {Promise<void> | null} */
     this.loading = null;
   }
@@ -43,11 +49,18 @@ export class SupplierList extends EventTarget {
     if (kept) return this.#take(kept.file, kept.text);
     try {
       const response = await fetch(BESIDE, { ...WORDS, signal: within(PATIENCE) });
-      if (response.ok) this.#take(BESIDE, textOfFile(await response.arrayBuffer()), true);
+      if (response.ok) this.#take(BESIDE, textOfFile(await response.arrayBuffer()), { isBeside: true });
+      else if (response.status !== NONE) this.#miss();
     } catch {
-      // the next screen looks again
-      this.loading = null;
+      this.#miss();
     }
+  }
+
+  #miss() {
+    // the next screen looks again
+    this.loading = null;
+    this.isUnread = true;
+    this.dispatchEvent(new Event("change"));
   }
 
   /** Takes a list from a file; if it names no supplier, the list stays as it was.
@@ -56,8 +69,8 @@ export class SupplierList extends EventTarget {
     const text = file.size > LONGEST ? "" : textOfFile(await file.arrayBuffer());
     const { suppliers, wrong } = readSuppliers(text);
     if (!suppliers.length) return this.#refuse(file.name, wrong);
-    keepSuppliers(this.caller, { file: file.name, text });
-    this.#take(file.name, text);
+    const isKept = keepSuppliers(this.caller, { file: file.name, text });
+    this.#take(file.name, text, { isKept });
   }
 
   /** @param {string} file @param {string[]} wrong */
@@ -66,10 +79,10 @@ export class SupplierList extends EventTarget {
     this.dispatchEvent(new Event("change"));
   }
 
-  /** @param {string} file @param {string} text @param {boolean} [isBeside] */
-  #take(file, text, isBeside = false) {
+  /** @param {string} file @param {string} text @param {{ isBeside?: boolean, isKept?: boolean }} [how] */
+  #take(file, text, { isBeside = false, isKept = true } = {}) {
     const { suppliers, wrong } = readSuppliers(text);
-    Object.assign(this, { suppliers, wrong, file, isBeside });
+    Object.assign(this, { suppliers, wrong, file, isBeside, isKept, isUnread: false });
     this.dispatchEvent(new Event("change"));
   }
 

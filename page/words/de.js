@@ -805,6 +805,8 @@ export const de = {
     useAnother: "Andere Liste verwenden",
     give: "Liste angeben",
     leftOut: "Dies wurde weggelassen:",
+    unkept: "Ihr Browser hat keinen Platz für diese Liste: Wenn Sie die Seite neu laden, ist sie weg.",
+    unread: (file) => `${file} neben dieser Seite ließ sich nicht lesen. Die Übersicht versucht es wieder, wenn Sie sie öffnen.`,
   },
   table: {
     nothing: "Hier ist nichts.",

@@ -836,6 +836,8 @@ export const en = {
     useAnother: "Use another list",
     give: "Give a list",
     leftOut: "This was left out:",
+    unkept: "Your browser has no room to keep this list: if you load the page again, it is gone.",
+    unread: (/** @type {string} */ file) => `${file} beside this page could not be read. The overview tries again when you open it.`,
   },
   table: {
     nothing: "Nothing here.",

@@ -801,6 +801,8 @@ export const fr = {
     useAnother: "Utiliser une autre liste",
     give: "Donner une liste",
     leftOut: "Ceci a été laissé de côté :",
+    unkept: "Votre navigateur n'a pas de place pour garder cette liste : si vous rechargez la page, elle disparaît.",
+    unread: (file) => `${file}, à côté de cette page, n'a pas pu être lu. La vue d'ensemble réessaie quand vous l'ouvrez.`,
   },
   table: {
     nothing: "Rien ici.",

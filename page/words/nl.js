@@ -784,6 +784,8 @@ export const nl = {
     useAnother: "Een andere lijst gebruiken",
     give: "Een lijst opgeven",
     leftOut: "Dit is weggelaten:",
+    unkept: "Uw browser heeft geen ruimte om deze lijst te bewaren: als u de pagina opnieuw laadt, is ze weg.",
+    unread: (file) => `${file} naast deze pagina kon niet worden gelezen. Het overzicht probeert het opnieuw als u het opent.`,
   },
   table: {
     nothing: "Hier is niets.",

@@ -2,6 +2,7 @@
 import time
 
 from tests.page.csv_files import CAUGHT, compared
+from tests.page.drafts import FULL
 from tests.page.driver import wait
 from tests.page.screens import furnished
 from tests.page.stage import ALPHA, BETA, RETAILER, Stage, signed_in
@@ -48,6 +49,14 @@ def denied(handler, _body):
 
 def cut(handler, _body):
     handler.cut()
+
+
+def unavailable(handler, _body):
+    handler.answer(503, b"no answer\n", "text/plain")
+
+
+def said(browser):
+    return browser.run("return document.querySelector('main').innerText")
 
 
 def slow(handler, body):
@@ -182,6 +191,28 @@ def dropped(browser, stage):
     assert browser.run("return sessionStorage.length") == 0
 
 
+def lost(browser, stage):
+    """A list that the browser has no room for, and one beside the page that cannot be read: the page says so, and looks again."""
+    stage.proxy.instead = {"/suppliers.csv": unavailable}
+    signed_in(browser, stage, RETAILER, OVERVIEW)
+    browser.until_says("There is no list of suppliers yet.")
+    browser.until_says("suppliers.csv beside this page could not be read.")
+    stage.proxy.instead = {}
+    browser.press("Sent", "a")
+    browser.press("Overview", "a")
+    browser.until_says("3 suppliers in suppliers.csv, which is beside this page.")
+    assert "could not be read" not in said(browser), said(browser)
+    browser.run(FULL)
+    browser.drop("mine.csv", f"Name\tTown\tGLN\nOnly one\tBonn\t{BETA}\n")
+    browser.until_says("1 supplier in mine.csv.")
+    browser.until_says("Your browser has no room to keep this list")
+    browser.run("Storage.prototype.setItem = window.setItem")
+    browser.drop("mine.csv", f"Name\tTown\tGLN\nOnly one\tBonn\t{BETA}\n")
+    wait(lambda: "no room to keep this list" not in said(browser), "a list that is kept", lambda: said(browser))
+    browser.press("Sign out")
+    browser.one("form.sign-in")
+
+
 def without(browser, stage):
     """Without a list the page says so, and a supplier is asked for by its GLN."""
     stage.proxy.suppliers = None
@@ -200,11 +231,11 @@ def overview(browser, program):
         beside_the_page(browser, stage)
         figures(browser, stage)
         as_a_table(browser)
-        for trial in (failures, stopped, dropped, without):
+        for trial in (failures, stopped, dropped, lost, without):
             trial(browser, stage)
         complaints = browser.complaints()
         assert complaints == [], complaints
-    return "3 suppliers by one request each: fetched, unknown, denied, cut and stopped; and a list beside the page, dropped and missing"
+    return "3 suppliers by one request each: fetched, unknown, denied, cut and stopped; and a list beside the page, dropped, missing, unread and not kept"
 
 
 def held(handler, _body):

@@ -43,6 +43,9 @@ class Keeping(proxy.Handler):
     clock = None
 
     def give_file(self):
+        breaks = self.server.instead.get(self.path)
+        if breaks:
+            return breaks(self, None)
         if self.clock is None or self.path not in ("/", CLOCK):
             return super().give_file()
         if self.path == CLOCK:
