@@ -80,8 +80,9 @@ def cancelled(browser, stage, numbers):
         browser.run("document.title = ''")
 
 
-def not_understood(browser, last):
-    """What the page cannot read stands there raw: an entry whose text is none of the hub's spelling, and a line of a status."""
+def not_understood(browser, stage, last):
+    """What the page cannot read stands there raw: an entry whose text is none of the hub's spelling, and a line of a status. The entry is
+    new, since the page keeps those that it has read."""
     browser.run(
         """const [item] = arguments;
         const real = window.fetch;
@@ -93,6 +94,7 @@ def not_understood(browser, last):
         }""",
         f"/mail/item/{last}",
     )
+    stage.upload(RETAILER, interchange(RETAILER, "raw", order("raw", [7])))
     browser.run("location.hash = arguments[0]", f"entry/{last}")
     browser.until_says("The page does not understand this entry.")
     browser.until_says("UNB+<b>new</b>'")
@@ -123,7 +125,7 @@ def hostile(browser, program, numbers=tuple(NUMBERS), begin=lambda stage: None):
         cancelled(browser, stage, numbers)
         signed_in(browser, stage, ALPHA)
         browser.until_says("new entries")
-        not_understood(browser, len(numbers) + 1)
+        not_understood(browser, stage, 2 * len(numbers) + 1)
         complaints = browser.complaints()
         assert complaints == [], complaints
     return f"{len(numbers)} order numbers, each shown, answered, despatched and cancelled; what is not understood is raw"

@@ -193,12 +193,18 @@ def lost(handler, _body):
     handler.cut()
 
 
+def is_signed_in(browser, stage, who):
+    """Whether the tab shows this page, and not that of an earlier trial, to this caller."""
+    shown = "return document.querySelector('.who .digits')?.textContent ?? ''"
+    return browser.address().startswith(stage.address) and browser.run(shown) == who
+
+
 def opened(browser, stage, name):
     """This screen, as SCREENS says."""
     who, address, said, act = SCREENS[name]
     if who is None:
         tab_opened(browser, stage)
-    elif browser.run("return document.querySelector('.who .digits')?.textContent ?? ''") != who:
+    elif not is_signed_in(browser, stage, who):
         signed_in(browser, stage, who)
     if who is not None:
         fresh(browser, address)
