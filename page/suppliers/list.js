@@ -79,7 +79,7 @@ export class SupplierList extends EventTarget {
     this.dispatchEvent(new Event("change"));
   }
 
-  /** @param {string} file @param {string} text @param {{ isBeside?: boolean, isKept?: boolean }} [how] */
+  /** @param {string} file @param {string} text @param {{ isBeside?: boolean, isKept?: boolean }} how */
   #take(file, text, { isBeside = false, isKept = true } = {}) {
     const { suppliers, wrong } = readSuppliers(text);
     Object.assign(this, { suppliers, wrong, file, isBeside, isKept, isUnread: false });
