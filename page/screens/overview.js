@@ -16,7 +16,7 @@ import { plannerOf, watch } from "../suppliers/planner.js";
 /** @typedef {import("../suppliers/planner.js").Planner} Planner */
 /** @typedef {import("../suppliers/round.js").Result} Result */
 /** @typedef {import("../suppliers/figures.js").Figures} Figures */
-/** @typedef {{ gln: string, name: string, result: Result | null, overdue: number }} Row */
+/** @typedef {{ gln: string, name: string, result: Result | null, overdue: number | null }} Row */
 
 /** @param {Row} row @param {"openLines" | "open" | "unanswered" | "announced" | "different"} name */
 const count = ({ result }, name) => result?.figures?.[name] ?? 0;
@@ -26,7 +26,7 @@ const shown = () => [
   ["all", phrases.overview.allSuppliers, () => true],
   ["open", phrases.common.withSomethingOpen, (it) => count(it, "openLines") > 0],
   ["waiting", phrases.overview.withUnansweredLines, (it) => count(it, "unanswered") > 0],
-  ["late", phrases.overview.withSomethingOverdue, (it) => it.overdue > 0],
+  ["late", phrases.overview.withSomethingOverdue, (it) => (it.overdue ?? 0) > 0],
   ["announced", phrases.common.announcedNotReceived, (it) => count(it, "announced") > 0],
   ["different", phrases.common.withADifference, (it) => count(it, "different") > 0],
   ["failed", phrases.overview.failed, (it) => !it.result?.figures],
@@ -82,11 +82,11 @@ class Rows {
 
 /** @returns {import("../parts/table.js").Column<Row>[]} */
 function columns() {
-  /** @param {string} title @param {(row: Row) => number} value @returns {import("../parts/table.js").Column<Row>} */
+  /** @param {string} title @param {(row: Row) => number | null} value null if it is not known @returns {import("../parts/table.js").Column<Row>} */
   const number = (title, value) => ({
     title,
-    cell: (it) => (it.result?.figures ? figure(value(it)) : "–"),
-    value,
+    cell: (it) => (it.result?.figures && value(it) !== null ? figure(value(it) ?? 0) : "–"),
+    value: (it) => value(it) ?? 0,
     number: true,
     sum: true,
   });

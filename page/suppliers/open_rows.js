@@ -24,9 +24,10 @@ export function openRows(planner, today) {
   return inTurn(rows);
 }
 
-/** How many open lines of a supplier are overdue.
+/** How many open lines of a supplier are overdue; null if some are open, and no wanted day of one is known.
  * @param {Planner} planner @param {string} gln @param {string} today CCYYMMDD */
 export function overdueOf(planner, gln, today) {
   const open = planner.round.results.get(gln)?.open ?? [];
-  return open.filter((it) => dueOf(planner, gln, it.order, today).isLate).length;
+  const due = open.map((it) => dueOf(planner, gln, it.order, today));
+  return due.length && !due.some((it) => it.isWanted) ? null : due.filter((it) => it.isLate).length;
 }

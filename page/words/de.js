@@ -337,7 +337,7 @@ export const de = {
     titleOf: (despatch) => ["Etiketten der Lieferung ", despatch],
     hint:
       "Zwei Etiketten für jede Palette, eines je Seite: Bringen Sie sie an zwei benachbarten Seiten der Palette an. Drucken Sie mit 100 " +
-      "%, ohne Anpassung an die Seite.",
+      "%, ohne Anpassung an die Seite. Drucken Sie sie, bevor Sie sich abmelden oder den Tab schließen: Danach geht es nicht mehr.",
     none: "Keine Etiketten",
     noneHere:
       "Unter dieser Adresse hat dieser Tab keine angenommene Lieferung. Etiketten lassen sich drucken, bis Sie sich abmelden oder den " +
@@ -396,7 +396,7 @@ export const de = {
     upload: "Hochladen",
     overview: "Übersicht",
     supplier: "Status",
-    cancel: "Stornieren",
+    cancel: "Positionen stornieren",
   },
   openLines: {
     open: (lines, suppliers, late, undated) => {
@@ -474,9 +474,9 @@ export const de = {
     filter: "Name oder GLN",
     openLinesOfAll: "Offene Positionen aller Lieferanten",
     openPieces: "Stück offen",
-    unanswered: "Unbeantwortet",
-    notReceived: "Nicht eingegangen",
-    differences: "Differenzen",
+    unanswered: "Unbeantwortete Positionen",
+    notReceived: "Paletten nicht eingegangen",
+    differences: "Paletten mit Differenz",
     highestSscc: "Höchste SSCC",
     fetched: "Abgerufen",
     notYet: "noch nicht",
@@ -553,7 +553,7 @@ export const de = {
     copied: (pallet) => `Palette ${pallet} ist eine Kopie davon.`,
     copiedWhatWasLeft: (pallet, pieces) =>
       `Palette ${pallet} ist eine Kopie davon mit dem, was übrig war: ${figure(pieces)} Stück weniger.`,
-    split: (first, last) => `Verteilt auf diese Palette und ${first === last ? `Palette ${first}` : `die Paletten ${first} bis ${last}`}.`,
+    split: (first, last) => `Fertig: verteilt auf diese Palette und ${first === last ? `Palette ${first}` : `die Paletten ${first} bis ${last}`}.`,
     placed: (pieces, rows, pallets) => {
       const some = `${figure(pieces)} Stück aus ${counted(rows, "Zeile", "Zeilen")} ${plural(pieces, "ist", "sind")}`;
       return `${some} auf ${counted(pallets, "Palette", "Paletten")}. Noch ist nichts gesendet.`;
@@ -645,7 +645,7 @@ export const de = {
     },
     cut: (most) => `Dies sind jeweils die ersten ${figure(most)}: Geben Sie mehr von der Nummer an.`,
     title: "Suche",
-    empty: "Nichts passt.",
+    empty: "Keine Position und keine Palette gefunden.",
     titleOf: (text) => `Suche nach ${text}`,
   },
   searchForm: {
@@ -720,7 +720,7 @@ export const de = {
   sortChoice: {
     descending: (title) => `${title}, absteigend`,
     ascending: (title) => `${title}, aufsteigend`,
-    asItComes: "Wie es kommt",
+    asItComes: "Ohne Sortierung",
     sortBy: "Sortieren nach",
   },
   ssccFields: {

@@ -75,7 +75,7 @@ export const en = {
       `Give a whole number from ${figure(least)} to ${figure(most)}.`,
     noOrder: "No order",
     entryIsNoOrder: "This entry is no order",
-    numberHint: "As you like; proposed from the clock.",
+    numberHint: "Your own reference. Keep this one, or type another.",
     what: (/** @type {string | number} */ order) => `Your answer to order ${order}`,
     noneWaits: "No line of this order waits for an answer.",
     refuseAll: "Refuse all",
@@ -236,7 +236,7 @@ export const en = {
   despatch: {
     number: "Number of the despatch",
     noun: "despatch advice",
-    numberHint: "Your delivery note's. Each is used once.",
+    numberHint: "The number of your delivery note. Use each only once.",
     numberUsed: "You have sent a despatch advice of this number before. Take another one.",
     otherPrefix: "The hub says that an SSCC is under none of your prefixes. Look at this one.",
     ssccUsed: "The hub says that an SSCC was used before, by you or another. Renumber the pallets.",
@@ -336,7 +336,7 @@ export const en = {
     count: (/** @type {number} */ fetched, /** @type {number} */ suppliers) => `${figure(fetched)} of ${figure(suppliers)} fetched`,
     stopped: (/** @type {number} */ fetched, /** @type {number} */ suppliers) =>
       `Stopped after ${figure(fetched)} of ${figure(suppliers)}. What was fetched stays.`,
-    again: (/** @type {number} */ failed) => `Fetch those that failed again (${figure(failed)})`,
+    again: (/** @type {number} */ failed) => `Fetch the failed ones again (${figure(failed)})`,
     stop: "Stop",
     waits: (/** @type {string | number} */ time) => `The hub asks to wait until ${time}. The page goes on by itself then.`,
     nothingYet: "Nothing is fetched yet.",
@@ -372,7 +372,9 @@ export const en = {
   },
   labels: {
     titleOf: (/** @type {Child} */ despatch) => ["Labels of despatch ", despatch],
-    hint: "Two labels for each pallet, one a page: put them on two sides that meet. Print at 100 %, without fitting to the page.",
+    hint:
+      "Two labels for each pallet, one a page: put them on two adjacent sides. Print at 100 %, without fitting to the page. Print them " +
+      "before you sign out or close this tab: later you cannot.",
     none: "No labels",
     noneHere: "This tab has no accepted despatch under this address. Labels can be printed until you sign out or close the tab.",
     size: "Size of the labels",
@@ -433,7 +435,7 @@ export const en = {
     upload: "Upload",
     overview: "Overview",
     supplier: "Status",
-    cancel: "Cancel",
+    cancel: "Cancel lines",
   },
   openLines: {
     open: (/** @type {number} */ lines, /** @type {number} */ suppliers, /** @type {number} */ late, /** @type {number} */ undated) => {
@@ -515,9 +517,9 @@ export const en = {
     filter: "Name or GLN",
     openLinesOfAll: "Open lines of all suppliers",
     openPieces: "Open pieces",
-    unanswered: "Unanswered",
-    notReceived: "Not received",
-    differences: "Differences",
+    unanswered: "Unanswered lines",
+    notReceived: "Pallets not received",
+    differences: "Pallets with differences",
     highestSscc: "Highest SSCC",
     fetched: "Fetched",
     notYet: "not yet",
@@ -596,7 +598,7 @@ export const en = {
     copiedWhatWasLeft: (/** @type {number} */ pallet, /** @type {number} */ pieces) =>
       `Pallet ${pallet} is a copy of it with what was left: ${counted(pieces, "piece", "pieces")} less.`,
     split: (/** @type {number} */ first, /** @type {number} */ last) =>
-      `Split over this pallet and ${first === last ? `pallet ${first}` : `pallets ${first} to ${last}`}.`,
+      `Done: split over this pallet and ${first === last ? `pallet ${first}` : `pallets ${first} to ${last}`}.`,
     placed: (/** @type {number} */ pieces, /** @type {number} */ rows, /** @type {number} */ pallets) => {
       const some = `${counted(pieces, "piece", "pieces")} of ${counted(rows, "row", "rows")} ${plural(pieces, "is", "are")}`;
       return `${some} on ${counted(pallets, "pallet", "pallets")}. Nothing is sent yet.`;
@@ -684,7 +686,7 @@ export const en = {
     },
     cut: (/** @type {number} */ most) => `These are the first ${figure(most)} of each: give more of the number.`,
     title: "Search",
-    empty: "Nothing fits.",
+    empty: "No order line and no pallet found.",
     titleOf: (/** @type {string | number} */ text) => `Search for ${text}`,
   },
   searchForm: {
@@ -753,7 +755,7 @@ export const en = {
   sortChoice: {
     descending: (/** @type {string} */ title) => `${title}, descending`,
     ascending: (/** @type {string} */ title) => `${title}, ascending`,
-    asItComes: "As it comes",
+    asItComes: "Default order",
     sortBy: "Sort by",
   },
   ssccFields: {

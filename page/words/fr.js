@@ -339,7 +339,8 @@ export const fr = {
   labels: {
     titleOf: (despatch) => ["Étiquettes de l'expédition ", despatch],
     hint:
-      "Deux étiquettes pour chaque palette, une par page : collez-les sur deux côtés voisins. Imprimez à 100 %, sans ajuster à la page.",
+      "Deux étiquettes pour chaque palette, une par page : collez-les sur deux côtés voisins. Imprimez à 100 %, sans ajuster à la page. " +
+      "Imprimez-les avant de vous déconnecter ou de fermer l'onglet : ensuite, ce n'est plus possible.",
     none: "Pas d'étiquettes",
     noneHere:
       "Cet onglet n'a pas d'expédition acceptée à cette adresse. Les étiquettes peuvent être imprimées jusqu'à ce que vous vous " +
@@ -399,7 +400,7 @@ export const fr = {
     upload: "Envoyer des fichiers",
     overview: "Vue d'ensemble",
     supplier: "Statut",
-    cancel: "Annuler",
+    cancel: "Annuler des lignes",
   },
   openLines: {
     open: (lines, suppliers, late, undated) => {
@@ -477,9 +478,9 @@ export const fr = {
     filter: "Nom ou GLN",
     openLinesOfAll: "Lignes ouvertes de tous les fournisseurs",
     openPieces: "Pièces ouvertes",
-    unanswered: "Sans réponse",
-    notReceived: "Non reçu",
-    differences: "Écarts",
+    unanswered: "Lignes sans réponse",
+    notReceived: "Palettes non reçues",
+    differences: "Palettes avec écart",
     highestSscc: "SSCC le plus haut",
     fetched: "Relevé",
     notYet: "pas encore",
@@ -554,7 +555,7 @@ export const fr = {
     copiedWhatWasLeft: (pallet, pieces) =>
       `La palette ${pallet} en est une copie avec ce qui restait : ${counted(pieces, "pièce", "pièces")} de moins.`,
     split: (first, last) =>
-      `Réparti sur cette palette et ${first === last ? `la palette ${first}` : `les palettes ${first} à ${last}`}.`,
+      `Terminé : réparti sur cette palette et ${first === last ? `la palette ${first}` : `les palettes ${first} à ${last}`}.`,
     placed: (pieces, rows, pallets) => {
       const some = `${counted(pieces, "pièce", "pièces")} de ${counted(rows, "rang", "rangs")} ${plural(pieces, "est", "sont")}`;
       return `${some} sur ${counted(pallets, "palette", "palettes")}. Rien n'est encore envoyé.`;
@@ -647,7 +648,7 @@ export const fr = {
     },
     cut: (most) => `Ce sont les ${figure(most)} premières de chaque sorte : donnez davantage du numéro.`,
     title: "Recherche",
-    empty: "Rien ne correspond.",
+    empty: "Aucune ligne et aucune palette trouvées.",
     titleOf: (text) => `Recherche de ${text}`,
   },
   searchForm: {

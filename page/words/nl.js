@@ -337,7 +337,7 @@ export const nl = {
     titleOf: (despatch) => ["Labels van zending ", despatch],
     hint:
       "Twee labels voor elke pallet, één per pagina: plak ze op twee zijden die aan elkaar grenzen. Druk af op 100 %, zonder aan te " +
-      "passen aan de pagina.",
+      "passen aan de pagina. Druk ze af voordat u uitlogt of het tabblad sluit: daarna kan het niet meer.",
     none: "Geen labels",
     noneHere: "Dit tabblad heeft op dit adres geen geaccepteerde zending. Labels kunt u afdrukken tot u uitlogt of het tabblad sluit.",
     size: "Formaat van de labels",
@@ -394,7 +394,7 @@ export const nl = {
     upload: "Uploaden",
     overview: "Overzicht",
     supplier: "Status",
-    cancel: "Annuleren",
+    cancel: "Regels annuleren",
   },
   openLines: {
     open: (lines, suppliers, late, undated) => {
@@ -470,9 +470,9 @@ export const nl = {
     filter: "Naam of GLN",
     openLinesOfAll: "Open regels van alle leveranciers",
     openPieces: "Open stuks",
-    unanswered: "Onbeantwoord",
-    notReceived: "Niet ontvangen",
-    differences: "Verschillen",
+    unanswered: "Onbeantwoorde regels",
+    notReceived: "Pallets niet ontvangen",
+    differences: "Pallets met verschil",
     highestSscc: "Hoogste SSCC",
     fetched: "Opgehaald",
     notYet: "nog niet",
@@ -545,7 +545,7 @@ export const nl = {
     copied: (pallet) => `Pallet ${pallet} is een kopie ervan.`,
     copiedWhatWasLeft: (pallet, pieces) =>
       `Pallet ${pallet} is een kopie ervan met wat over was: ${counted(pieces, "stuk", "stuks")} minder.`,
-    split: (first, last) => `Verdeeld over deze pallet en ${first === last ? `pallet ${first}` : `pallets ${first} tot en met ${last}`}.`,
+    split: (first, last) => `Klaar: verdeeld over deze pallet en ${first === last ? `pallet ${first}` : `pallets ${first} tot en met ${last}`}.`,
     placed: (pieces, rows, pallets) => {
       const some = `${counted(pieces, "stuk", "stuks")} uit ${counted(rows, "rij", "rijen")} ${plural(pieces, "staat", "staan")}`;
       return `${some} op ${counted(pallets, "pallet", "pallets")}. Er is nog niets verzonden.`;
@@ -635,7 +635,7 @@ export const nl = {
     },
     cut: (most) => `Dit zijn van elk de eerste ${figure(most)}: geef meer van het nummer.`,
     title: "Zoeken",
-    empty: "Niets past.",
+    empty: "Geen regel en geen pallet gevonden.",
     titleOf: (text) => `Zoeken naar ${text}`,
   },
   searchForm: {
@@ -702,7 +702,7 @@ export const nl = {
   sortChoice: {
     descending: (title) => `${title}, aflopend`,
     ascending: (title) => `${title}, oplopend`,
-    asItComes: "Zoals het komt",
+    asItComes: "Zonder sortering",
     sortBy: "Sorteren op",
   },
   ssccFields: {

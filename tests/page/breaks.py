@@ -127,7 +127,7 @@ def a_screen_that_is_left(browser, stage):
 
 def a_cancellation(browser, stage):
     sign_in(browser, stage, RETAILER)
-    browser.press("Cancel", "a")
+    browser.press("Cancel lines", "a")
     for label, text in (("The supplier's GLN", ALPHA), ("Order number", "L1"), ("Line", "1"), ("Quantity to cancel", "8")):
         browser.type(browser.labelled(label), text)
     stage.sent.clear()

@@ -84,7 +84,7 @@ def many_pallets(person, stage):
     person.press("Put all that is open on it")
     person.type("Split evenly over how many pallets", str(PALLETS))
     person.press("Split")
-    person.browser.until_says(f"Split over this pallet and pallets 2 to {PALLETS}.")
+    person.browser.until_says(f"Done: split over this pallet and pallets 2 to {PALLETS}.")
     person.picture("supplier-day-3", ".pallet:nth-of-type(2)")
     person.press("Check despatch advice")
     person.press("Send despatch advice")

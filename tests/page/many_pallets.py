@@ -127,7 +127,7 @@ def split(browser):
         browser.until_says(said)
     browser.type(browser.labelled("Split evenly over how many pallets"), "3")
     pressed(browser, 0, "Split")
-    browser.until_says("Split over this pallet and pallets 4 to 5.")
+    browser.until_says("Done: split over this pallet and pallets 4 to 5.")
     on(browser, ["4 lines, 124 pieces", "1 line, 60 pieces", "1 line, 10 pieces", "4 lines, 123 pieces", "4 lines, 123 pieces"])
     shares = browser.run(QUANTITIES, 0)
     assert shares == ["34", "10", "33", "47"], shares

@@ -77,7 +77,7 @@ def chosen(browser):
 def elsewhere_too(browser):
     """The overview counts what is overdue, and a supplier's own status has the days."""
     browser.press("‹ Overview", "a")
-    wait(lambda: [it[5] for it in browser.rows("table.across tbody")] == ["10", "0"], "what is overdue")
+    wait(lambda: [it[5] for it in browser.rows("table.across tbody")] == ["10", "0"], "what is overdue", lambda: browser.rows("table.across tbody"))
     browser.press("Alpha", "a")
     browser.until_says("Status of Alpha")
     wanted = {it[0]: it[-2] for it in browser.rows("table.lines tbody")}
@@ -121,7 +121,7 @@ def uploaded_too(browser, stage):
     browser.press("Overview", "a")
     fetch(browser, 2)
     browser.until_says("Fetched 2 suppliers.")
-    wait(lambda: [it[5] for it in browser.rows("table.across tbody")] == ["0", "1"], "what is overdue")
+    wait(lambda: [it[5] for it in browser.rows("table.across tbody")] == ["–", "1"], "what is overdue", lambda: browser.rows("table.across tbody"))
 
 
 def many(browser, stage):

@@ -15,7 +15,8 @@ OVERVIEW = "#overview"
 
 
 def counted(stage, gln):
-    """The figures of a supplier's status, counted here: its open lines and pieces, lines without an answer, pallets and differences."""
+    """The figures of a supplier's status, counted here: its open lines and pieces, lines without an answer, overdue ones, of which nothing
+    is known, pallets and differences."""
     lines, pallets = [], []
     for row in stage.ask(RETAILER, f"status/{gln}").splitlines():
         words = row.split()
@@ -25,8 +26,8 @@ def counted(stage, gln):
             pallets.append((words[1], words[3], int(words[-1])))
     opened = [count for _, count in lines if count]
     some = lambda fits: len({it[0] for it in pallets if fits(it)})
-    found = [len(opened), sum(opened), sum(it[0] == "W" for it in lines), 0, some(lambda it: it[1] == "A"), some(lambda it: it[2])]
-    return [f"{it:,}" for it in found] + [max((it[0] for it in pallets), default="–")]
+    found = [len(opened), sum(opened), sum(it[0] == "W" for it in lines), "–", some(lambda it: it[1] == "A"), some(lambda it: it[2])]
+    return [it if it == "–" else f"{it:,}" for it in found] + [max((it[0] for it in pallets), default="–")]
 
 
 def statuses(stage):
@@ -137,7 +138,7 @@ def failures(browser, stage):
     assert said == ["Denied: sign out and in again.", "No answer. The connection broke."], said
     stage.proxy.instead = {}
     stage.asked.clear()
-    browser.press("Fetch those that failed again (3)")
+    browser.press("Fetch the failed ones again (3)")
     browser.until_says("Fetched 2 of 3 suppliers.")
     assert statuses(stage) == [ALPHA, BETA, UNKNOWN], stage.asked
 

@@ -65,7 +65,7 @@ def pallets(browser):
     despatch(browser)
     browser.type(browser.labelled("Split evenly over how many pallets"), "3")
     browser.press("Split")
-    browser.until_says("Split over this pallet and pallets 2 to 3.")
+    browser.until_says("Done: split over this pallet and pallets 2 to 3.")
     browser.press("Collapse all pallets")
     browser.run("document.querySelectorAll('.toggle')[2].click()")
     browser.type(browser.labelled("Quantity of order 128590, line 2"), "8")

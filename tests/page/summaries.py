@@ -15,7 +15,7 @@ def focus(browser, label):
 def cancellation(browser, stage):
     """As a scanner types: each text ends with Enter."""
     signed_in(browser, stage, RETAILER)
-    browser.press("Cancel", "a")
+    browser.press("Cancel lines", "a")
     fields = (("The supplier's GLN", ALPHA), ("Order number", "128591"), ("Line", "2"), ("Quantity to cancel", "5"))
     after = [label for label, _ in fields[1:]] + ["Check cancellation"]
     browser.click(browser.labelled("The supplier's GLN"))
