@@ -15,7 +15,7 @@ from glob import glob
 from tests.harness.code_list import LIST, read_codes
 from tests.harness.tree import ROOT
 
-HELP = os.path.join("crates", "hub_app", "src", "program.rt")
+HELP = os.path.join("crates", "hub_program", "src", "program.rt")
 CODE = re.compile(r"\b[EMB]\d\d\b")
 # a code that the documents name, as an example of a new one
 EXAMPLES = {os.path.join("docs", "CONTRIBUTING.md"): {"M13", "B21"}}

@@ -7,13 +7,13 @@ use Rattle.clap.specs.declared.error.kind.ErrorKind.TheVariants.{OutOfMemory}
 use Rattle.clap.specs.declared.parser.matches.ArgMatches.{ArgMatches}
 use Rattle.hub_app.specs.declared.words.WordsFault.{WordsFault}
 use Rattle.hub_app.specs.declared.words.WordsFault.TheVariants.{Memory}
-use Rattle.hub_app.specs.Program.{edihub}
+use Rattle.hub_program.specs.Program.{edihub}
 use Rattle.hub_app.specs.declared.words.HubWords.{HubWords}
 use Rattle.hub_app.specs.declared.words.Words.{Words}
 use Rattle.hub_app.specs.declared.words.Words.TheVariants.{Check, Relay, Show, Init, Rekey, Verify, Hub, Serve}
 use Rattle.hub_app.specs.Options.{Finds}
 use Rattle.hub_app.specs.Words.{Asks, AreHubWords, IsOverHub, Names, Refuses, Say}
-use Rattle.hub_app.proofs.Simple.{simple}
+use Rattle.hub_program.proofs.Simple.{simple}
 
 -- without the options of a hub nothing is asked of one
 pub no_hub : (command : Text) (rows : List Row) → ((hub : HubWords) → AreHubWords rows hub → ⊥) → (words : Words)

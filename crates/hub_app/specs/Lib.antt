@@ -1,3 +1,3 @@
+pub use Rattle.hub_program.specs.Program
 pub mod Options
-pub mod Program
 pub mod Words

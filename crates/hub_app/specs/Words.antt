@@ -21,7 +21,7 @@ use Rattle.hub_app.specs.declared.words.WordsFault.{WordsFault}
 use Rattle.hub_app.specs.declared.words.WordsFault.TheVariants.{Told, Memory}
 use Rattle.edi_relay.specs.declared.relay.RelayWords.{RelayWords}
 use Rattle.hub_app.specs.Options.{moment_of, port_of, connections_of, is_set, prefixes_of, if_given, unless_given, values_given}
-use Rattle.hub_app.specs.Program.{edihub}
+use Rattle.hub_program.specs.Program.{edihub}
 use Rattle.edi_relay.specs.Relay.{AreRelayWords, relay_words_of}
 use Rattle.hub_parties.specs.Prefixes.{company_prefixes_of}
 use Rattle.hub_parties.specs.declared.row.SupplierRow.{SupplierRow}

@@ -2,7 +2,6 @@
 #![tactic(auto)]
 
 mod options;
-mod program;
 mod usage;
 mod words;
 

@@ -9,10 +9,9 @@ ghost use Rattle.hub_app.specs.Words.{IsInit, IsRekey, IsRelay, IsRequest, IsSer
 ghost use Rattle.hub_app.specs.Words.{IsUsageError, Names, Refuses, Say, join_in, texts_of_join};
 ghost use Rattle.hub_app.specs.Words.{join_by_file_given, join_by_file_in, join_given, join_values, key_given, given_as, parts_of_join};
 ghost use Rattle.hub_rules.specs.JoinRules as rules;
-ghost use Rattle.hub_app.specs.Program.{edihub};
+ghost use Rattle.hub_program.specs.Program.{edihub};
 
 use crate::options::{count, gln, is_set, moment, number, port, prefixes, text};
-use crate::program::program;
 use crate::usage::fault_text;
 use clap::error::ErrorKind;
 use clap::{ArgMatches, Command, Error};
@@ -20,6 +19,7 @@ use edi_envelope::Moment;
 use edi_relay::RelayWords;
 use gs1_ids::{Gln, Prefix};
 use hub_parties::CompanyPrefixes;
+use hub_program::command_line;
 use hub_requests::Request;
 use hub_rules::Join;
 use hub_texts::{CancelFields, cancel_with};
@@ -612,7 +612,7 @@ pub fn read_words<'a, S: AsStr>(alloc: Global, words: &'a [S]) -> Result<Words<'
     ensures limits { IfOk result AreWords }
     ensures refused { IfErr result (Refuses (map S.text words.entry.now)) }
 {
-    let mut program = program(alloc)?;
+    let mut program = command_line(alloc)?;
     words_by(alloc, &mut program, words)
 }
 
@@ -620,7 +620,7 @@ pub fn read_words<'a, S: AsStr>(alloc: Global, words: &'a [S]) -> Result<Words<'
 pub fn file_key_refused<S: AsStr>(alloc: Global, words: &[S]) -> WordsFault
     ensures { IsUsageError result }
 {
-    let Ok(mut program) = program(alloc) else {
+    let Ok(mut program) = command_line(alloc) else {
         return WordsFault::Memory;
     };
     // The usage line names the program as the words do.

@@ -11,7 +11,7 @@ ghost use Rattle.hub_sql.specs.Version.{schema_of, number_of, AreShaped, HoldsHu
 
 use crate::version::Version;
 use hub_reads::is_numbered;
-use hub_schema::{fault_by, is_hub_schema};
+use hub_schema::fault_by;
 use hub_store::StoreFault;
 use sqlite::{Alter, Connection};
 use std::alloc::Global;
@@ -40,6 +40,7 @@ pub fn of_version<S: Alter + Drop>(
     ensures stays { IfErr result (λ e. e.1 ≡ StoreFault.Version → HasCleanDisk (state S.Store e.0) →
         IsReady (state S.Store conn) → IsReady (state S.Store e.0)) }
     ensures other { IfErr result (λ e. conn.schema ≢ schema_of version → e.1 ≡ StoreFault.Version) }
+    ensures unread { IfErr result (λ e. (conn.schema ≡ schema_of version) ⊎ (e.0 ≡ conn)) }
     ensures disk { IfErr result (λ e. e.1 ≡ StoreFault.Disk → HasCleanDisk (state S.Store e.0) →
         HasDiskCause (state S.Store conn) (state S.Store e.0)) }
     ensures counts { IfErr result (λ e. e.1 ≡ StoreFault.Version → HasCleanDisk (state S.Store e.0) →
@@ -94,9 +95,6 @@ pub fn of_hub<S: Alter + Drop>(
 {
     // This contract says whether a transaction is open.
     let _was_idle = conn.is_autocommit();
-    if !is_hub_schema(conn.schema()) {
-        return Err((conn, StoreFault::Version));
-    }
     match of_version(conn, Version::Third) {
         Ok(conn) => Ok((conn, Version::Third)),
         Err((conn, StoreFault::Version)) => match of_version(conn, Version::Second) {

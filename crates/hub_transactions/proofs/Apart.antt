@@ -27,7 +27,7 @@ use Rattle.hub_rules.specs.Rules.{judge_despatch}
 use Rattle.hub_rules.specs.declared.incoming.IncomingMessage.{IncomingMessage}
 use Rattle.hub_judges.specs.Known.{names_order, TellsForDespatch, TellsRemembered}
 use Rattle.hub_judges.specs.declared.known.Known.{Known}
-use Rattle.hub_transactions.specs.Named.{LinesOfOrders, names_line, NamesLines}
+use Rattle.hub_naming.specs.Lines.{LinesOfOrders, names_line, NamesLines}
 use Rattle.hub_transactions.specs.Orders.{bare, AgreeOnLines, ForgetsOrders, KeepsAsked, KeepsOrders, TellsAlike}
 use Rattle.hub_transactions.proofs.Asked.{message_local, new_despatch_local}
 use Rattle.hub_transactions.proofs.ByNumber.{all_numbered, filter_all, found_among, passes_filter}

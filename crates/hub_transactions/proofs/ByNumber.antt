@@ -27,7 +27,8 @@ use Rattle.hub_rules.specs.Sound.{Balanced, Kept}
 use Rattle.hub_rules.specs.declared.incoming.IncomingMessage.{IncomingMessage}
 use Rattle.hub_judges.specs.Known.{TellsRemembered, TellsForResponse}
 use Rattle.hub_judges.specs.declared.known.Known.{Known}
-use Rattle.hub_transactions.specs.Named.{NamedLines, NamesByNumber, has_number}
+use Rattle.hub_naming.specs.Lines.{NamesByNumber, has_number}
+use Rattle.hub_transactions.specs.Named.{NamedLines}
 use Rattle.hub_transactions.specs.Orders.{AgreeOnLines, TellsAlike}
 use Rattle.hub_transactions.proofs.Asked.{message_local, new_response_local}
 use Rattle.hub_transactions.proofs.LookUps.{same_rows, all_despatched}

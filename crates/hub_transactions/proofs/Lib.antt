@@ -11,9 +11,7 @@ pub mod Fitted
 pub mod Judging
 pub mod KeptOrders
 pub mod LookUps
-pub mod Moved
 pub mod Named
-pub mod Numbers
 pub mod Reading
 pub mod Reports
 pub mod SoundLines

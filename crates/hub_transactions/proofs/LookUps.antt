@@ -3,7 +3,6 @@ use Rattle.std.proofs.Common.{◌≡◌, ℕ, ◌+◌, Bool, true, false, cond, 
 use Rattle.std.proofs.Common.{None, option_map, refl, sym, subst, ◌∙◌, ap, arith}
 use Rattle.std.specs.List.{AllByRecursion, last_or}
 use Rattle.std.specs.Option.{unwrap_or}
-use Rattle.std.specs.Prelude.{Result, Ok, Err, OnOk}
 use Rattle.hub_tables.specs.Rows.{same}
 use Rattle.hub_tables.specs.State.{knows_order, lines_of, despatched, last_mail}
 use Rattle.hub_tables.specs.Tables.{Tables}
@@ -136,8 +135,3 @@ module _ (state : Tables) (number : List ℕ) (is_there : Bool) (given : List Li
 
     pub keeps_one_more : KeepsOrders new state
     keeps_one_more = record { there = there_now; lines = lines_now; adds_up = adds_up_now }
-
--- what holds at Ok implies what follows from it
-pub on_ok : {X E : Type 0} {A B : Type 0} (r : Result X E) → (A → B) → OnOk r A → OnOk r B
-on_ok (Ok x) f a = f a
-on_ok (Err e) f a = tt

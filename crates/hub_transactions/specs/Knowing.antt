@@ -10,7 +10,7 @@ use Rattle.hub_rules.specs.Sound.{Kept}
 use Rattle.hub_rules.specs.declared.incoming.IncomingMessage.{IncomingMessage}
 use Rattle.hub_judges.specs.Known.{TellsDespatched, TellsForDespatch, TellsForResponse, TellsLines, TellsOrder}
 use Rattle.hub_judges.specs.declared.known.Known.{Known}
-use Rattle.hub_transactions.specs.Named.{LinesOfOrders, names_line}
+use Rattle.hub_naming.specs.Lines.{LinesOfOrders, names_line}
 use Rattle.hub_transactions.specs.Orders.{KeepsAsked, TellsAlike}
 
 -- whether an order exists, its lines and, if the rows are kept, what was despatched of them are as in the state

@@ -15,12 +15,11 @@ ghost use Rattle.hub_transactions.specs.Knowing.{KeepsNamed, KnowsForDespatch};
 ghost use Rattle.hub_transactions.specs.Orders.{ForgetsOrders, KeepsOrders};
 
 use crate::knowing::{keep_order, known_with};
-use crate::naming::orders_named;
-use crate::numbering::{LinesOfOrders, lines_named, numbers_alone};
 use edi_base::{Items, MemoryFault};
 use edi_goods::{Despatch, Unit};
 use gs1_ids::Gln;
 use hub_judges::{IncomingMessage, Known};
+use hub_naming::{LinesOfOrders, lines_named, numbers_alone, orders_named};
 use hub_order_lines::KnownOrders;
 use hub_store::{Store, StoreFault};
 use hub_tables::Side;

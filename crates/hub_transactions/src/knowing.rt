@@ -14,12 +14,12 @@ ghost use Rattle.hub_transactions.specs.Knowing.{KnowsForResponse, KnowsOrder};
 ghost use Rattle.hub_transactions.specs.Named.{NamedLines};
 ghost use Rattle.hub_transactions.specs.Orders.{KeepsOrders};
 
-use crate::numbering::numbers_named;
 use edi_base::{Items, MemoryFault};
 use edi_goods::{Receipt, ReceiptUnit};
 use edi_orders::{Answer, Order, Response};
 use gs1_ids::Gln;
 use hub_judges::{Cancel, IncomingMessage, Known};
+use hub_naming::numbers_named;
 use hub_order_lines::KnownOrders;
 use hub_store::{Store, StoreFault};
 use hub_tables::{LineRow, PalletRow, Side};

@@ -11,8 +11,6 @@ mod keeping;
 mod knowing;
 mod laws;
 mod messages;
-mod naming;
-mod numbering;
 mod status;
 
 pub use cancel::take_cancel;

@@ -1,3 +1,4 @@
+use Rattle.std.proofs.Common.{inl, inr, sym, ap, ◌∙◌}
 use Rattle.sqlite.specs.Held.{state}
 use Rattle.hub_sql.specs.declared.version.Version.TheVariants.{Second}
 use Rattle.hub_sql.proofs.Adopted.{cause_passed, counted_on, held_before, held_neither}
@@ -44,3 +45,20 @@ returns-in-Ok-of_version-clause-counted g c clean =
     let second = c.in-Ok-of_version in
     counted_on (state g.S.Store c.args.conn) (state g.S.Store third.conn) (state g.S.Store second.conn)
     (third.ensures.counts third.field-0-1-is (second.ensures.clean clean)) (second.ensures.counted clean)
+
+pub returns-in-Ok-of_version-clause-schema : goal.returns-in-Ok-of_version-clause-schema
+returns-in-Ok-of_version-clause-schema g c =
+    elim c.in-Err-default-Version.ensures.unread
+    [ inl is ↦ is | inr same ↦ sym (ap (λ conn. conn.schema) same) ∙ c.in-Ok-of_version.ensures.schema ]
+
+pub returns-in-Ok-of_version-clause-known : goal.returns-in-Ok-of_version-clause-known
+returns-in-Ok-of_version-clause-known g c =
+    elim c.in-Err-default-Version.ensures.unread
+    [ inl is ↦ is | inr same ↦ sym (ap (λ conn. conn.schema) same) ∙ c.in-Ok-of_version.ensures.schema ]
+
+pub returns-in-Err-of_version-clause-other : goal.returns-in-Err-of_version-clause-other
+returns-in-Err-of_version-clause-other g c other =
+    elim c.in-Err-default-Version.ensures.unread [
+      | inl is ↦ absurd (other is)
+      | inr same ↦ c.in-Err-of_version.ensures.other (λ is. other (sym (ap (λ conn. conn.schema) same) ∙ is))
+    ]

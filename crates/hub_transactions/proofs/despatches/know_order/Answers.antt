@@ -5,10 +5,10 @@ use Rattle.hub_tables.specs.Tables.{view}
 use Rattle.hub_tables.proofs.Lists.{decide}
 use Rattle.hub_order_lines.specs.Book.{Orders}
 use Rattle.hub_order_lines.specs.KnownOrders.{is_kept, AddsOrder}
-use Rattle.hub_transactions.specs.Named.{names_line}
+use Rattle.hub_naming.specs.Lines.{names_line}
 use Rattle.hub_transactions.specs.Orders.{KeepsAsked}
 use Rattle.hub_transactions.proofs.Apart.{put_part, put_whole, numbers_append}
-use Rattle.hub_transactions.proofs.LookUps.{on_ok}
+use Rattle.hub_naming.proofs.Numbers.{on_ok}
 use Rattle.hub_transactions.proofs.despatches.know_order.Goals as goal
 use Rattle.hub_transactions.proofs.despatches.know_order.Goals.{in-Some+in_ok-put_by_number+else-branch, in_default}
 

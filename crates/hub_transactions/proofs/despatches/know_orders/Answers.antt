@@ -4,7 +4,7 @@ use Rattle.hub_tables.specs.State.{lines_of}
 use Rattle.hub_tables.specs.Tables.{view}
 use Rattle.hub_order_lines.specs.KnownLines.{AreUnclean}
 use Rattle.hub_order_lines.specs.KnownOrders.{is_kept}
-use Rattle.hub_transactions.specs.Named.{names_line}
+use Rattle.hub_naming.specs.Lines.{names_line}
 use Rattle.hub_transactions.specs.Orders.{KeepsAsked}
 use Rattle.hub_transactions.proofs.Failing.{fails_with}
 use Rattle.hub_transactions.proofs.Named.{first_or_later, first_among, later_among}

@@ -3,7 +3,7 @@ use Rattle.edi_base.specs.Seen.{is_among}
 use Rattle.hub_tables.specs.Tables.{view}
 use Rattle.hub_order_lines.specs.KnownOrders.{is_kept}
 use Rattle.hub_acts.specs.Acts.{Stays}
-use Rattle.hub_transactions.specs.Named.{names_line}
+use Rattle.hub_naming.specs.Lines.{names_line}
 use Rattle.hub_transactions.specs.Orders.{KeepsAsked}
 use Rattle.hub_transactions.proofs.despatches.know_orders.Given as goal
 

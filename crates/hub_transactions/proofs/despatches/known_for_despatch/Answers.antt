@@ -8,7 +8,7 @@ use Rattle.hub_tables.specs.declared.cases.Side.TheVariants.{Supplier}
 use Rattle.hub_order_lines.specs.Book.{Orders}
 use Rattle.hub_order_lines.specs.KnownOrders.{is_kept}
 use Rattle.hub_judges.specs.Known.{names_order}
-use Rattle.hub_transactions.specs.Named.{names_line, NamesLines}
+use Rattle.hub_naming.specs.Lines.{names_line, NamesLines}
 use Rattle.hub_transactions.specs.Orders.{ForgetsOrders, KeepsAsked, KeepsOrders}
 use Rattle.hub_transactions.proofs.Apart.{asked_told, kept_whole, none_apart}
 use Rattle.hub_transactions.proofs.Named.{seen_is_there}

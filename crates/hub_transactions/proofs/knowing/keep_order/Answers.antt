@@ -2,7 +2,8 @@ use Rattle.std.proofs.Common.{ap, subst, ◌∙◌}
 use Rattle.hub_tables.specs.State.{knows_order, lines_of}
 use Rattle.hub_tables.specs.Tables.{view}
 use Rattle.hub_order_lines.specs.KnownOrders.{AddsOrder}
-use Rattle.hub_transactions.proofs.LookUps.{keeps_one_more, on_ok}
+use Rattle.hub_naming.proofs.Numbers.{on_ok}
+use Rattle.hub_transactions.proofs.LookUps.{keeps_one_more}
 use Rattle.hub_transactions.proofs.knowing.keep_order.Goals as goal
 
 pub returns-clause-kept : goal.returns-clause-kept

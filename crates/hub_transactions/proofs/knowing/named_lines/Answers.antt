@@ -5,7 +5,7 @@ use Rattle.hub_store.specs.Lines.{lines_at}
 use Rattle.hub_order_lines.specs.Book.{Orders}
 use Rattle.hub_order_lines.specs.KnownOrders.{AddsOrder}
 use Rattle.std.specs.Option.{IfSome}
-use Rattle.hub_transactions.specs.Named.{NamesByNumber}
+use Rattle.hub_naming.specs.Lines.{NamesByNumber}
 use Rattle.hub_transactions.proofs.knowing.named_lines.Goals as goal
 
 pub returns-then-branch-clause-named : goal.returns-then-branch-clause-named

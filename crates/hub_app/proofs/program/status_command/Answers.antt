@@ -1,4 +1,0 @@
-use Rattle.hub_app.proofs.program.status_command.Goals as goal
-
-pub returns : goal.returns
-returns c = c.choosing.ensures _ c.hub_command.ensures

@@ -1,0 +1,6 @@
+//! Describes the command line of the program `edihub` for `clap`: its commands, their options and help texts.
+#![tactic(auto)]
+
+mod program;
+
+pub use program::command_line;
