@@ -16,7 +16,8 @@ import tempfile
 from concurrent.futures import ThreadPoolExecutor
 
 from tests import codes, layout, schema, untried
-from tests.cases import connections, corrections, hub_commands, hub_files, hub_rules, joins, limits, older_files, verify, without_hub
+from tests.cases import connections, corrections, hub_commands, hub_files, hub_rules, joins, limits, older_files, order_of_rules, verify
+from tests.cases import without_hub
 from tests.harness import processor_time
 from tests.harness.case import SECONDS
 from tests.harness.tree import ROOT
@@ -36,7 +37,8 @@ PROGRAMS = [
     (built("edihub"), without_hub.CASES + hub_commands.COMMANDS + older_files.MIGRATIONS + verify.VERIFIED + limits.LIMITS),
     (
         built("trial_script"),
-        hub_rules.HUBS + hub_rules.OVER_SQL + hub_files.FILES + connections.CONNECTIONS + joins.JOINS + corrections.CORRECTIONS,
+        hub_rules.HUBS + hub_rules.OVER_SQL + order_of_rules.ORDER + hub_files.FILES + connections.CONNECTIONS + joins.JOINS
+        + corrections.CORRECTIONS,
     ),
 ]
 

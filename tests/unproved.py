@@ -8,7 +8,7 @@ import sys
 
 from tests import test
 from tests.cases import connections, corrections, fault_places, goods, hub_commands, hub_files, hub_rules, joins, limits, older_files
-from tests.cases import orders, without_hub
+from tests.cases import order_of_rules, orders, without_hub
 from tests.unproved_build import EDIHUB, SCRIPTS, built
 
 GROUPS = {
@@ -22,7 +22,7 @@ GROUPS = {
     "commands": (EDIHUB, hub_commands.COMMANDS),
     "migrations": (EDIHUB, older_files.MIGRATIONS),
     "limits": (EDIHUB, limits.LIMITS),
-    "rules": (SCRIPTS, hub_rules.HUBS + hub_rules.OVER_SQL),
+    "rules": (SCRIPTS, hub_rules.HUBS + hub_rules.OVER_SQL + order_of_rules.ORDER),
     "files": (SCRIPTS, hub_files.FILES),
     "connections": (SCRIPTS, connections.CONNECTIONS),
     "joins": (SCRIPTS, joins.JOINS),

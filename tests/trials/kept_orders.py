@@ -93,7 +93,7 @@ def played(program, script, words):
     """What a script prints, and what is wrong with the file that it leaves."""
     with tempfile.TemporaryDirectory() as folder:
         ran = subprocess.run([program, *words], input=script, capture_output=True, cwd=folder, timeout=SECONDS)
-        wrong = ran.returncode or (words == WORDS and is_whole(folder))
+        wrong = ran.returncode or (words == WORDS and is_whole(folder)) or (b"stopped" in ran.stdout and "stopped")
         return [it for it in ran.stdout.splitlines() if not PASSED_OVER.match(it)], TOLD.findall(ran.stdout), wrong
 
 
