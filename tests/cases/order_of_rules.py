@@ -7,7 +7,7 @@ from dataclasses import replace
 from tests.cases.limits import LAST, last_mail
 from tests.harness.case import Case
 from tests.harness.database_files import ITEM as OF_ITEM
-from tests.harness.database_files import NAME, NUMBER, ROWS, SUPPLIER, TABLES, WORDS, file_of, has_rows, is_whole
+from tests.harness.database_files import NAME, NUMBER, ROWS, SUPPLIER, TABLES, WORDS, file_of, has_rows, is_still, is_whole
 from tests.harness.doors import mail_text
 from tests.harness.hub_scripts import Play, article, interchange, line_status, message
 from tests.harness.random_inputs import ITEM, SECOND_ITEM, sscc
@@ -241,6 +241,7 @@ def kept_lines():
     """In one upload: lines that are named by number and by article in turn, each as the messages before left it, and each order looked up
     once, also one that is not there."""
     play = Told().tell(RETAILER, ordering("128575", (1, ITEM, 48)))
+    play.tell(RETAILER, ordering("128577", (1, ITEM, 48)))
     play.tell(RETAILER, ordering("128576", (1, ITEM, 48), (2, ITEM, 48), (5, SECOND_ITEM, 48))).say("mend")
     of = lambda named, quantity, item=SECOND_ITEM, order="128576": (order, named, item, quantity)
     one = lambda named, quantity: of(named, quantity, ITEM, "128575")
@@ -268,17 +269,23 @@ def kept_lines():
         (answering("128576", function=29, reference=18), "refused B07"),
         (answering("128575", (None, ITEM, 48), reference=19), "accepted"),
         (answering("128575", (1, ITEM, 48), reference=20), "refused B07"),
+        # lines that are looked up by their numbers, beside what is kept
+        (answering("128577", (1, ITEM, 40), reference=21), "accepted"),
+        (despatching("DA4", (PALLETS[4], of(1, 41, ITEM, "128577")), reference=22), "refused B10"),
+        (despatching("DA4", (PALLETS[4], of(1, 40, ITEM, "128577")), reference=23), "accepted"),
+        (despatching("DA5", (PALLETS[5], of(None, 1, ITEM, "128577")), reference=24), "refused B10"),
+        (answering("128576", function=27, reference=25), "refused B07"),
     ]
-    # of a response one for what is remembered, of an advice three, and two for each order
-    play.together(ALPHA, "S1", *told).counts(6 * 1 + 14 * 3 + 3 * 2, 6)
+    # of a response one for what is remembered, of an advice three, two for each order, and two for each message that names only numbers
+    play.together(ALPHA, "S1", *told).counts(8 * 1 + 17 * 3 + 4 * 2 + 3 * 2, 8)
     return play.status(
         line("128575", "C", 48, 0, 0, 0, 48), line("128576", "N", 48, 0, 0, 0, 48), line("128576", "N", 48, 0, 48, 0, 0, number=2),
-        line("128576", "C", 48, 0, 8, 0, 40, number=5, item=OF_SECOND), announced(PALLETS[1], 30, OF_SECOND),
-        announced(PALLETS[2], 10, OF_SECOND), announced(PALLETS[3], 96),
+        line("128576", "C", 48, 0, 8, 0, 40, number=5, item=OF_SECOND), line("128577", "C", 48, 0, 8, 0, 40),
+        announced(PALLETS[1], 30, OF_SECOND), announced(PALLETS[2], 10, OF_SECOND), announced(PALLETS[3], 96), announced(PALLETS[4], 40),
     ), {
         "line": [
             row("128575", "C", 48, 0, 0, 0, 48), row("128576", "N", 48, 0, 0, 0, 48), row("128576", "N", 48, 0, 48, 0, 0, 2),
-            row("128576", "C", 48, 0, 8, 0, 40, 5, OF_SECOND.encode()),
+            row("128576", "C", 48, 0, 8, 0, 40, 5, OF_SECOND.encode()), row("128577", "C", 48, 0, 8, 0, 40),
         ]
     }
 
@@ -356,11 +363,13 @@ def cancellations():
     play.cancel("C1", 1, 37, "refused B17").cancel("C1", 2, 37, "refused B06").cancel("C1", 2, 37, "refused B05", NOBODYS)
     play.cancel("C1", 1, 37, "refused B02", NOBODYS, DELTA)
     play.cancel("C1", 1, 10, "accepted").cancel("C1", 1, 10, "repeated").cancel("C1", 2, 37, "refused B03", NOBODYS)
-    play.cancel("C1", 1, 10, "refused B02", supplier=DELTA).status(line("128576", "C", 48, 26, 12, 10, 0), line("128577", "W", 48, 48, 0, 0, 0))
+    play.cancel("C1", 1, 10, "refused B02", supplier=DELTA)
+    play.status(line("128576", "C", 48, 26, 12, 10, 0), line("128577", "W", 48, 48, 0, 0, 0))
     play.cancel("C2", 1, 27, "refused B17").cancel("C2", 1, 26, "accepted").cancel("C3", 1, 1, "refused B17")
     # what is cancelled can no longer be changed to, nor despatched
     play.cancel("C4", 1, 8, "accepted", "128577").tell(ALPHA, answering("128577", (1, ITEM, 41)), "refused B08")
-    play.tell(ALPHA, despatching("DA1", (PALLETS[1], ("128577", 1, ITEM, 41))), "refused B10").tell(ALPHA, answering("128577", (1, ITEM, 40)))
+    play.tell(ALPHA, despatching("DA1", (PALLETS[1], ("128577", 1, ITEM, 41))), "refused B10")
+    play.tell(ALPHA, answering("128577", (1, ITEM, 40)))
     play.status(line("128576", "C", 48, 0, 12, 36, 0), line("128577", "C", 48, 40, 0, 8, 0))
     return play, {"line": [row("128576", "C", 48, 0, 12, 36, 0), row("128577", "C", 48, 40, 0, 8, 0)]}
 
@@ -435,7 +444,8 @@ def full_by_a_receipt():
 
 def changed_again():
     """A line that waits although some of it is refused and cancelled, which no message makes: a change adds to what is refused."""
-    play = Told().tell(ALPHA, answering("128576", (1, ITEM, 11)), "refused B08").tell(ALPHA, answering("128576", (1, ITEM, 43)), "refused B08")
+    play = Told().tell(ALPHA, answering("128576", (1, ITEM, 11)), "refused B08")
+    play.tell(ALPHA, answering("128576", (1, ITEM, 43)), "refused B08")
     return play.tell(ALPHA, answering("128576", (1, ITEM, 20))).status(line("128576", "C", 48, 8, 26, 2, 12), announced(PALLETS[1], 12))
 
 
@@ -444,6 +454,27 @@ def of_nobody():
     play = Told().tell(RETAILER, ordering("1", (1, ITEM, 48), parties=(RETAILER, GAMMA)), "refused B02", "O1")
     play.tell(RETAILER, receiving("G1", (PALLETS[1], *RETURNED), parties=(RETAILER, GAMMA)), "refused B02", "O1")
     return play.cancel("C1", 1, 10, "refused B02", supplier=GAMMA)
+
+
+def unusable():
+    """A line of which more is open, refused and cancelled than is ordered stops whatever names its order, and nothing changes."""
+    texts = [
+        ("a whole answer", answering("128576", function=27)),
+        ("an answer by number", answering("128576", (1, ITEM, "A"))),
+        ("an answer by article", answering("128576", (None, ITEM, "A"))),
+        ("an advice by number", despatching("DA2", (PALLETS[2], ("128576", 1, ITEM, 1)))),
+        ("an advice by article", despatching("DA2", (PALLETS[2], ("128576", None, ITEM, 1)))),
+    ]
+    for quantities in ((49, 0, 0), (30, 19, 0), (30, 4, 15)):
+        data = file_of(TABLES, {**ROWS, "line": [(SUPPLIER, NUMBER, 1, OF_ITEM, 48, *quantities, ord("W"))]})
+        plays = [
+            (name, Play().upload(ALPHA, interchange(ALPHA, "S9", text), "interchange S9 messages 1", "stopped", outcome="stopped"))
+            for name, text in texts
+        ]
+        plays.append(("a cancellation", Play().ask(RETAILER, "cancel", "stopped", "stopped\n", f"{ALPHA}\nC1\n128576\n1\n1\n")))
+        for name, play in plays:
+            named = f"48 ordered, of which {'+'.join(map(str, quantities))} are open, refused and cancelled: {name}"
+            yield Case(named, WORDS, play.script, play.printed, files={NAME: data}, after=is_still(data))
 
 
 BEGUN = [(SUPPLIER, NUMBER, 1, OF_ITEM, 48, 30, 4, 2, ord("W"))]
@@ -467,4 +498,5 @@ ORDER = [play.case(name) for name, play, _ in PLAYS]
 ORDER += [replace(it, name=f"{it.name}, over SQL", words=["sql"]) for it in ORDER]
 ORDER += [replace(play.case(f"{name}, over a file"), words=WORDS, after=has_rows(left)) for name, play, left in PLAYS]
 ORDER += [Case(name, WORDS, play.script, play.printed, files=files, after=is_whole) for name, play, files in BY_FILES]
+ORDER += unusable()
 ORDER.append(replace(most_kept().case("orders of 400,000 lines in one upload, and of one more, over SQL"), words=["sql"], large=True))

@@ -11,7 +11,7 @@ from concurrent.futures import ThreadPoolExecutor
 from tests.harness.shims import REFUSE, built
 from tests.harness.tree import ROOT
 
-CRATES = ("edi_tests", "http_tests", "judge_tests", "hub_tests", "app_tests")
+CRATES = ("edi_tests", "http_tests", "hub_tests", "app_tests")
 # how an error, or what was compared, tells out of memory: by a name, or by the word that the program writes, as bytes
 TOLD = (
     "AllocFailed",
