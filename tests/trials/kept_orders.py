@@ -1,6 +1,6 @@
 """Orders that are kept from one message of an upload to the next: what a supplier sends together in one upload, and what it sends alone
 under the same references, each message in an upload of its own, comes to the same replies, lines and pallets. Scripts drawn by chance,
-the same each time, in which messages touch the same orders again and again, over lists, over SQL in memory and over a file."""
+the same each time, in which messages touch the same orders again and again, over lists, over SQL in memory and over a file; none stops."""
 import os
 import random
 import re
