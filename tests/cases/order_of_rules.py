@@ -18,6 +18,9 @@ PALLETS = [sscc(ALPHA, number) for number in range(6)]
 OF_BETA = sscc(BETA, 1)
 # an order that nobody has
 NOBODYS = "128570"
+# the action of a line that is accepted, or not accepted; a quantity changes it
+ACTIONS = {"A": 5, "N": 7}
+CHANGED = 3
 
 
 def segments(begin, day, parties, *rest):
@@ -36,7 +39,7 @@ def answering(order, *lines, function=4, parties=(RETAILER, ALPHA), reference=1)
     """A response. A line is its number or nothing, its article, and `A`, `N` or a quantity."""
     body = [f"RFF+ON:{order}"]
     for place, (number, item, said) in enumerate(lines, 1):
-        body += [f"LIN+{place}+{ {'A': 5, 'N': 7}.get(said, 3)}+{item}:SRV", *([] if said in ("A", "N") else [f"QTY+113:{said}"])]
+        body += [f"LIN+{place}+{ACTIONS.get(said, CHANGED)}+{item}:SRV", *([] if said in ACTIONS else [f"QTY+113:{said}"])]
         body += [f"RFF+ON:{order}:{number}"] if number else []
     return message("ORDRSP:D:01B:UN:EAN009", reference, *segments(f"BGM+231+R1+{function}", "20250603", parties, *body, "UNS+S"))
 
