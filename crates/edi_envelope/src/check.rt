@@ -90,7 +90,6 @@ fn has_high(bytes: &[u8]) -> bool
     bytes.iter().any(|b| *b >= 0xa0)
 }
 
-// Whether an element has a byte from 0xA0 on.
 fn has_high_element(segment: &SegmentRef<'_>, element: usize) -> bool
     ensures { result ≡ list_any has_high (element_at (segment_in segment.now).elements element) }
 {
@@ -102,7 +101,6 @@ fn has_high_element(segment: &SegmentRef<'_>, element: usize) -> bool
     false
 }
 
-// Whether a segment has a byte from 0xA0 on in its data.
 fn has_high_data(segment: &SegmentRef<'_>) -> bool
     ensures { result ≡ has_high_data (segment_in segment.now) }
 {
@@ -114,7 +112,6 @@ fn has_high_data(segment: &SegmentRef<'_>) -> bool
     false
 }
 
-// Whether a segment has this tag.
 fn has_tag(segment: &SegmentRef<'_>, tag: &[u8; 3]) -> bool
     ensures { result ≡ has_tag tag.now (segment_in segment.now) }
 {
@@ -172,7 +169,6 @@ impl EnvelopeCheck {
         self.outside || (self.header.seven_bit && has_high_data(segment))
     }
 
-    // Takes the first segment.
     fn at_start(&mut self, segment: &SegmentRef<'_>) -> Place
         requires { self.old.stage ≡ Stage.Start }
         ensures { Steps self.old result (segment_in segment.now) self.new }

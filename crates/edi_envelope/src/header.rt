@@ -47,7 +47,6 @@ fn is_test(unb: &SegmentRef<'_>) -> bool
     unb.component(10, 0) == b"1".as_slice()
 }
 
-// Whether UNB is as it is taken.
 fn is_valid_header(unb: &SegmentRef<'_>) -> bool
     ensures { result ≡ spec.is_valid_header (segment_in unb.now) }
 {
@@ -96,7 +95,6 @@ impl HeaderMarks {
     }
 }
 
-// Returns the bytes as an array.
 fn array_of<const N: usize>(bytes: &[u8]) -> [u8; N]
     requires { length bytes.now ≡ N }
     ensures { result ≡ bytes.now }

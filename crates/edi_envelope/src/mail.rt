@@ -14,7 +14,6 @@ use std::array;
 /// The greatest number of a mail text: 14 digits, as many as a control reference has.
 pub const LAST_MAIL_NUMBER: u64 = 99_999_999_999_999;
 
-// Returns a copy of an element.
 fn copied_element(alloc: Global, components: &[Items<u8>]) -> Result<Items<Items<u8>>, MemoryFault>
     ensures { IfOk result (λ copy. copy ≡ components.now) }
 {
@@ -25,7 +24,6 @@ fn copied_element(alloc: Global, components: &[Items<u8>]) -> Result<Items<Items
     Ok(copy)
 }
 
-// Returns a copy of elements.
 fn copied_elements(alloc: Global, elements: &[Items<Items<u8>>]) -> Result<Elements, MemoryFault>
     ensures { IfOk result (λ copy. copy ≡ elements.now) }
 {
@@ -36,7 +34,6 @@ fn copied_elements(alloc: Global, elements: &[Items<Items<u8>>]) -> Result<Eleme
     Ok(copy)
 }
 
-// Appends an element of two components.
 fn push_pair(
     alloc: Global,
     elements: &mut Elements,
@@ -52,7 +49,6 @@ fn push_pair(
     Ok(())
 }
 
-// Appends an element of one component.
 fn push_single(alloc: Global, elements: &mut Elements, only: &[u8]) -> Result<(), MemoryFault>
     ensures { OnOk result (elements.new ≡ elements.old ++ (only.now ∷ []) ∷ []) }
 {
@@ -62,7 +58,6 @@ fn push_single(alloc: Global, elements: &mut Elements, only: &[u8]) -> Result<()
     Ok(())
 }
 
-// UNB of the hub's interchange.
 fn header(
     alloc: Global,
     hub: &[u8; 13],
@@ -90,7 +85,6 @@ fn header(
     })
 }
 
-// UNZ of the hub's interchange.
 fn trailer(alloc: Global, reference: &[u8]) -> Result<Segment, MemoryFault>
     ensures { IfOk result (λ segment. segment ≡ unz_of reference.now) }
 {

@@ -28,7 +28,6 @@ pub(crate) fn is_frame(segment: &SegmentRef<'_>) -> bool
     tag == *b"UNH" || tag == *b"UNT" || tag == *b"UNG" || tag == *b"UNE"
 }
 
-// Returns a copy of a component of the first segment.
 fn copied_component(
     alloc: Global,
     block: &Items<Segment>,
