@@ -27,10 +27,7 @@ fn numbers_of(alloc: Global, said: &[AnswerLine]) -> Result<Option<BTreeSet<u32>
 
 /// Returns the numbers by which an ORDRSP names lines, each once, or `None` if it names one by its article or answers
 /// the whole order.
-pub fn numbers_named(
-    alloc: Global,
-    answer: &Answer,
-) -> Result<Option<BTreeSet<u32>>, MemoryFault>
+pub fn numbers_named(alloc: Global, answer: &Answer) -> Result<Option<BTreeSet<u32>>, MemoryFault>
     ensures { IfOk result (λ named. IfSome named (λ numbers. NamesByNumber numbers.keys answer.now)) }
 {
     match answer {
@@ -109,10 +106,7 @@ fn put_lines<'a>(
 }
 
 /// Returns the lines that the units of an advice name.
-pub fn lines_named<'a>(
-    alloc: Global,
-    units: &'a [Unit],
-) -> Result<LinesOfOrders<'a>, MemoryFault>
+pub fn lines_named<'a>(alloc: Global, units: &'a [Unit]) -> Result<LinesOfOrders<'a>, MemoryFault>
     ensures { IfOk result (λ named. AllByRecursion (λ unit. NamesLines named.entries unit.lines) units.now) }
 {
     let mut named = BTreeMap::new(alloc);
@@ -123,10 +117,7 @@ pub fn lines_named<'a>(
 }
 
 /// Returns the numbers by which an advice names the lines of an order, or `None` if it names one by its article.
-pub fn numbers_alone<'n>(
-    named: &'n LinesOfOrders<'_>,
-    order: &[u8],
-) -> Option<&'n BTreeSet<u32>>
+pub fn numbers_alone<'n>(named: &'n LinesOfOrders<'_>, order: &[u8]) -> Option<&'n BTreeSet<u32>>
     ensures { IfSome result (λ numbers. (number : Option ℕ) →
         names_line named.now.entries order.now number ≡ true → has_number numbers.now.keys number ≡ true) }
 {

@@ -30,10 +30,7 @@ fn put_orders<'a>(
 }
 
 /// Returns the orders that the lines of an advice name, each once, in the order of their numbers' bytes.
-pub fn orders_named<'a>(
-    alloc: Global,
-    units: &'a [Unit],
-) -> Result<BTreeSet<&'a [u8]>, MemoryFault>
+pub fn orders_named<'a>(alloc: Global, units: &'a [Unit]) -> Result<BTreeSet<&'a [u8]>, MemoryFault>
     ensures orders { IfOk result (λ orders. (order : List ℕ) →
         is_among order (map (λ number. number.now) orders.keys) ≡ names_order units.now order) }
     ensures ordered { IfOk result (IsOrdered by_number) }
