@@ -1,6 +1,6 @@
 // @ts-check
 // What became of an order line, as a bar: each part as wide as its share of what was ordered. The stylesheet draws it, from where each part
-// ends: one element for a bar, so that a thousand of them are drawn at once.
+// ends, with a gap between parts: one element for a bar, so that a thousand of them are drawn at once.
 
 import { phrases } from "../language.js";
 import { element } from "./dom.js";
@@ -15,10 +15,14 @@ export function bar(line) {
   let end = 0;
   for (const part of PARTS) {
     end += line[part];
-    drawn.style.setProperty(`--end-of-${part}`, `${(end / line.ordered) * 100}%`);
+    drawn.style.setProperty(`--end-of-${part}`, placeOf(end / line.ordered));
   }
   return drawn;
 }
+
+// At an end of the bar the gap is outside.
+/** @param {number} share */
+const placeOf = (share) => (share <= 0 ? "-1px" : share >= 1 ? "calc(100% + 1px)" : `${share * 100}%`);
 
 export function legend() {
   const swatch = (/** @type {string} */ part) => element("span", { class: `swatch ${part}`, "aria-hidden": "true" });

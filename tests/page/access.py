@@ -177,7 +177,7 @@ def by_keyboard(browser, program):
         browser.until_says("Orders to answer (2)")
         pressed = 0
         steps = [("128590", "enter", "gate 3"), ("Answer", "enter", "Accept all 10 lines"), ("Accept all 10 lines", "space", "")]
-        sends = [("Check answer", "enter", "10 lines accepted."), ("Send answer", "enter", "1 ORDRSP accepted")]
+        sends = [("Check answer", "enter", "10 lines accepted."), ("Send answer", "enter", "Accepted: the hub has taken it")]
         for said, key, then in [*steps, *sends]:
             for _ in range(60):
                 if browser.run("return document.activeElement.textContent.trim()") == said:
@@ -203,9 +203,10 @@ def by_keyboard(browser, program):
     return f"an order of ten lines answered by {pressed} keys after signing in"
 
 
-# a bar of which some is despatched and some open: where it is in the picture of the window
+# a bar of which some is despatched and some open, or that is full: where it is in the picture of the window
 BAR_AT = """const it = [...document.querySelectorAll('table.lines .bar')].find(bar => {
-        const end = part => parseFloat(bar.style.getPropertyValue(`--end-of-${part}`));
+        const end = part => parseFloat(bar.style.getPropertyValue(`--end-of-${part}`).replace('calc(', ''));
+        if (arguments[0]) return end('despatched') === 100;
         return end('despatched') > 20 && end('despatched') < 60 && end('open') > 90;
     });
     it.scrollIntoView({ block: 'center' });
@@ -236,11 +237,23 @@ def in_picture(browser, folder, **features):
     """A bar as it is drawn in the window, where the reader has these wishes."""
     wishes = [{"name": name.replace("_", "-"), "value": value} for name, value in features.items()]
     browser.developer("Emulation.setEmulatedMedia", features=wishes)
-    place = browser.run(BAR_AT)
+    place = browser.run(BAR_AT, False)
+    return of_bar(window(browser, folder), *place)
+
+
+def window(browser, folder):
+    """The pixels of each row of the window."""
     file = os.path.join(folder, "bar.png")
     browser.picture(file)
     with open(file, "rb") as opened_file:
-        return of_bar(rows_of(opened_file.read())[2], *place)
+        return rows_of(opened_file.read())[2]
+
+
+def full(browser, folder):
+    """A bar of one part alone has one colour from end to end."""
+    x, y, width, height = browser.run(BAR_AT, True)
+    across = window(browser, folder)[int(y + height / 2)][int(x) + 2 : int(x + width) - 2]
+    assert len(set(across)) == 1, across
 
 
 def on_paper(browser, folder):
@@ -264,6 +277,7 @@ def drawn_bars(browser, program):
     with Stage(program) as stage:
         furnished(stage)
         opened(browser, stage, "status")
+        full(browser, stage.folder)
         found = {}
         for name, wishes in (("day", {}), ("chosen colours", {"forced_colors": "active"})):
             found[name] = in_picture(browser, stage.folder, **wishes)
