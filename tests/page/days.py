@@ -10,7 +10,7 @@ import time
 from tests.page.driver import Browser
 from tests.page.pictures import small
 from tests.page.screens import furnished
-from tests.page.stage import ALPHA, BETA, RETAILER, Stage, interchange, order, signed_in
+from tests.page.stage import ALPHA, BETA, RETAILER, Keeping, Stage, interchange, milliseconds, order, signed_in
 
 PALLETS = 33
 # a person prints by the browser's dialog, which no trial can press
@@ -69,7 +69,7 @@ def ten_lines(person, stage):
     person.press("Check answer")
     person.picture("supplier-day-2", ".summary")
     person.press("Send answer")
-    person.browser.until_says("1 ORDRSP accepted")
+    person.browser.until_replied("1 ORDRSP accepted")
     sent = stage.sent[-1][1].decode()
     # the lines are named, each as accepted
     assert len(stage.sent) == 1 and "+4'DTM" in sent and sent.count("'LIN+") == 10 == len(re.findall(r"'LIN\+\d+\+5\+", sent)), sent
@@ -81,14 +81,14 @@ def many_pallets(person, stage):
     person.begin()
     person.press("Announce a despatch", "a")
     person.type("Your GS1 company prefix", "40123455")
-    person.press("Put all that is open on it")
-    person.type("Split evenly over how many pallets", str(PALLETS))
+    person.press("Load all that is left on this pallet")
+    person.type("Split evenly over this many pallets", str(PALLETS))
     person.press("Split")
     person.browser.until_says(f"Done: split over this pallet and pallets 2 to {PALLETS}.")
     person.picture("supplier-day-3", ".pallet:nth-of-type(2)")
     person.press("Check despatch advice")
     person.press("Send despatch advice")
-    person.browser.until_says("1 DESADV accepted")
+    person.browser.until_replied("1 DESADV accepted")
     assert stage.sent[-1][1].decode().count("GIN+BJ+") == PALLETS
     person.press("Labels", "a")
     person.browser.one(".label")
@@ -164,7 +164,10 @@ TRIALS = {"a supplier's day and a planner's": both}
 
 
 def main(program, folder):
+    # one clock, as in the other pictures
+    Keeping.prepared = "250606:0915"
     with Browser() as browser, Stage(program) as stage:
+        browser.stop_clock(milliseconds(2025, 6, 6, 9, 30))
         browser.look(1100, 800)
         furnished(stage)
         for said, _ in [*supplier(browser, stage, folder), *planner(browser, stage, folder)]:

@@ -192,7 +192,15 @@ class Browser:
         texts = [text] if isinstance(text, str) else text
         wait(lambda: any(it in self.text(selector) for it in texts), f"{text!r} in {selector}", lambda: self.text(selector))
 
+    def until_replied(self, text, selector="body"):
+        """Waits until a reply of the hub says this, behind its disclosure."""
+        replies = "return [...document.querySelectorAll(arguments[0] + ' .raw-details pre')].map(it => it.textContent).join()"
+        wait(lambda: text in self.run(replies, selector), f"{text!r} in a reply in {selector}", lambda: self.text(selector))
+
     def picture(self, file):
+        # the mouse is over nothing
+        away = {"type": "pointerMove", "duration": 0, "x": 0, "y": 0}
+        self.ask("POST", "/actions", {"actions": [{"type": "pointer", "id": "mouse", "actions": [away]}]})
         with open(file, "wb") as opened:
             opened.write(base64.b64decode(self.ask("GET", "/screenshot")))
 

@@ -6,7 +6,7 @@ import zlib
 
 from tests.page.driver import Browser
 from tests.page.screens import SCREENS, furnished, opened
-from tests.page.stage import Stage, milliseconds
+from tests.page.stage import Keeping, Stage, milliseconds
 
 SIZES = {"wide": (1100, 800), "narrow": (360, 740)}
 LIGHTS = {"light": False, "dark": True}
@@ -80,6 +80,8 @@ def main(program, folder):
     os.makedirs(folder, exist_ok=True)
     with Browser() as browser:
         browser.stop_clock(milliseconds(2025, 6, 6, 9, 30))
+        # one clock: what the hub hands out came in that morning
+        Keeping.prepared = "250606:0915"
         with Stage(program) as stage:
             furnished(stage)
             for name in SCREENS:

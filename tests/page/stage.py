@@ -3,6 +3,7 @@ and who signs in where."""
 import http.client
 import importlib.util
 import os
+import re
 import shutil
 import subprocess
 import sys
@@ -41,6 +42,8 @@ class Keeping(proxy.Handler):
 
     # the moment at which the clocks of pages stand, in milliseconds at UTC, for a browser that cannot stop them itself
     clock = None
+    # when all that comes from a mailbox is said to have come in, such as `250606:0915`, in the place of the hub's own time
+    prepared = None
 
     def give_file(self):
         breaks = self.server.instead.get(self.path)
@@ -65,7 +68,10 @@ class Keeping(proxy.Handler):
         breaks = self.server.instead.get(self.path)
         if body and self.server.breaks:
             breaks = self.server.breaks.pop(0)
-        return breaks(self, body) if breaks else super().asked(body)
+        status, answer = breaks(self, body) if breaks else super().asked(body)
+        if self.prepared and "/mail/item/" in self.path:
+            answer = re.sub(rb"\+\d{6}:\d{4}\+", b"+%b+" % self.prepared.encode(), answer, count=1)
+        return status, answer
 
     def passed(self, body):
         """What the hub answers, whatever becomes of it then."""
