@@ -165,7 +165,7 @@ async function screenOrFailure(make) {
     return await make();
   } catch (why) {
     const again = button(phrases.common.tryAgain, show, { class: "primary" });
-    return { title: phrases.start.noAnswer, content: [heading(phrases.start.noAnswer), failure(why), again] };
+    return { title: phrases.start.noReply, content: [heading(phrases.start.noReply), failure(why), again] };
   }
 }
 
@@ -209,7 +209,7 @@ async function mayForget() {
 function loss({ sent, hub }) {
   const [open] = sent.unsettled;
   const typed = formWithWork()?.dataset.typed;
-  if (open) return [phrases.start.noAnswerYet(open.facts.what), phrases.start.notAgain];
+  if (open) return [phrases.start.noReplyYet(open.facts.what), phrases.start.notAgain];
   if (typed) return [phrases.start.notSentYet(typed), phrases.start.typedGone];
   if (sent.next?.facts.kind === "file") return [phrases.start.filesNotSent, phrases.start.chooseAgain];
   if (sent.next) return [phrases.start.notSentYet(sent.next.facts.what), phrases.start.waitingGone];
@@ -266,7 +266,7 @@ function drawSent() {
   banner.place.hidden = session.hub.isLocked;
   banner.draw(session.sent.sendings);
   const count = session.sent.unsettled.length;
-  without.textContent = count ? ` ${phrases.start.withoutAnswer(count)}` : "";
+  without.textContent = count ? ` ${phrases.start.withoutReply(count)}` : "";
 }
 
 /** @param {unknown} why */
@@ -278,7 +278,7 @@ function failure(why) {
 }
 
 /** @param {number} wait milliseconds */
-const tryAgain = (wait) => (wait ? phrases.start.tryAfter(clockTime(Date.now() + wait)) : phrases.start.tryInAMoment);
+const tryAgain = (wait) => (wait ? phrases.start.tryAfter(clockTime(Date.now() + wait, "medium")) : phrases.start.tryInAMoment);
 
 // Links to screens ask before typed work is left, and load the screen again that is shown.
 document.addEventListener("click", (event) => {

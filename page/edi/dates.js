@@ -52,6 +52,21 @@ export const moment = (text, format) => (isDate(text, format) ? Number(text.padE
  * @param {string} date @param {string} time */
 export const preparedMoment = (date, time) => moment(`20${date}${time}`, "203");
 
+/** A moment on the reader's clock, in milliseconds.
+ * @param {number} at */
+export function momentInWords(at) {
+  const date = new Date(at);
+  return dateInWords(day(date) + minute(date), "203");
+}
+
 /** The date and time of a UNB, whose year has two digits.
  * @param {string} date @param {string} time */
-export const preparedInWords = (date, time) => `${dateInWords(`20${date}${time}`, "203")} UTC`;
+export const preparedInWords = (date, time) => dateInWords(`20${date}${time}`, "203");
+
+/** When the hub handed an interchange out, which it writes at UTC, on the reader's clock.
+ * @param {{ date: string, time: string }} head */
+export function cameInInWords({ date, time }) {
+  if (!isDate(`20${date}${time}`, "203")) return preparedInWords(date, time);
+  const [year, month, of, hour, min] = `${date}${time}`.match(/../g)?.map(Number) ?? [];
+  return momentInWords(Date.UTC(2000 + year, month - 1, of, hour, min));
+}

@@ -53,7 +53,7 @@ function readRow({ line, word, quantity }, lines) {
   if (Number.isNaN(wholeNumber(line))) return line ? phrases.common.notALineNumber(line) : phrases.answerRows.lineMissing;
   if (!known) return phrases.answerRows.noLine(line);
   const answer = word ? WORDS[word.toLowerCase()] : "changed";
-  if (!known.waits) return isAsKnown(known, word, quantity) ? null : phrases.answerRows.waitsNoMore(line, known.known);
+  if (!known.waits) return isAsKnown(known, word, quantity) ? null : phrases.answerRows.isAnswered(line, known.known);
   if (!word && !quantity) return null;
   if (!answer) return phrases.answerRows.notAnAnswer(word, line);
   const wrong = wrongQuantity(known, answer, quantity);

@@ -75,7 +75,7 @@ function inShort(sending, dismiss) {
   if (state === "sending" || state === "resending") return [saying("plain", phrases.banner.isBeingSent(what))];
   if (state === "held" || state === "pausing") return [saying("warn", `${what}: ${pauseInWords(sending)}`)];
   if (state === "unanswered") {
-    const words = phrases.banner.noAnswer(what);
+    const words = phrases.banner.noReply(what);
     return [notice("warn", element("p", {}, words), againButton(sending))];
   }
   const about = element("p", { class: "lead" }, `${phrases.banner.sentAt(what, clockTime(sentAt))} `, link(phrases.sent.title, "sent"));

@@ -2,6 +2,7 @@
 // Shows a fault that `edihub show` found in a file: its code in words, and the place in the file that shows it.
 
 import { placeOfByte, placeOfSegment } from "../edi/fault_place.js";
+import { knownCause } from "../edi/known_cause.js";
 import { phrases } from "../language.js";
 import { codeInWords } from "./code.js";
 import { element } from "./dom.js";
@@ -11,7 +12,20 @@ import { element } from "./dom.js";
 
 /** @param {Fault} fault @param {string} text of the file @returns {HTMLElement[]} */
 export function faultInWords(fault, text) {
-  return [element("p", {}, codeInWords(fault.code)), ...(fault.segment === null ? [] : placeInWords(fault, text))];
+  const words = element("p", {}, codeInWords(fault.code, causeInWords(fault, text)));
+  return [words, ...(fault.segment === null ? [] : placeInWords(fault, text))];
+}
+
+/** What exactly is wrong, or "" if the page does not know.
+ * @param {Fault} fault @param {string} text */
+function causeInWords({ code, segment, offset }, text) {
+  const place = segment !== null && offset === null ? placeOfSegment(text, segment) : null;
+  const known = place && knownCause(code, place.it);
+  if (!known) return "";
+  const { nothing, ...said } = phrases.knownCause;
+  const { notWhole, notAnSscc } = phrases.palletRows;
+  const inWords = { ...said, notWhole, notAnSscc, notAGln: phrases.supplierFile.notAGln, nothing: () => nothing };
+  return inWords[known.cause](known.text);
 }
 
 /** @param {Fault} fault @param {string} text */

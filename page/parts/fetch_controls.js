@@ -60,7 +60,7 @@ export class FetchControls {
 
   inWords() {
     const { done, total, failed, until, isRunning } = this.planner.round;
-    if (until) return phrases.fetchControls.waits(clockTime(until));
+    if (until) return phrases.fetchControls.waits(clockTime(until, "medium"));
     if (isRunning) return phrases.fetchControls.fetching(total);
     if (!total) return phrases.fetchControls.nothingYet;
     if (done < total) return phrases.fetchControls.stopped(done, total);

@@ -80,7 +80,7 @@ export function putBack(root, content) {
   }
   const others = differing();
   others.forEach(([name, it]) => give(it, content[name]));
-  others.filter(([, it]) => !isChoice(it)).forEach(([, it]) => tell(it));
+  others.filter(([, it]) => !isChoice(it) || it.checked).forEach(([, it]) => tell(it));
   const known = new Set(named(root).map(([name]) => name));
   return Object.keys(content).filter((name) => content[name] && !known.has(name));
 }

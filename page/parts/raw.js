@@ -12,10 +12,12 @@ export const oneALine = (text) => text.replace(/((?:\?.|[^?'])*')/gs, "$1\n").tr
  * @param {string} words @param {string} text */
 export const notUnderstood = (words, text) => notice("warn", element("p", {}, words), element("pre", { class: "raw" }, text));
 
-/** @param {string} text */
-const rawText = (text) => element("pre", { class: "raw", tabindex: "0", "aria-label": phrases.common.interchange }, oneALine(text));
-
-/** @param {string} summary @param {string} text @param {boolean} [open] */
+/** A text as it is written, which is shown once somebody asks for it.
+ * @param {string} summary @param {string} text @param {boolean} [open] */
 export function rawDetails(summary, text, open = false) {
-  return element("details", { class: "raw-details", open }, element("summary", {}, summary), rawText(text));
+  const raw = element("pre", { class: "raw", tabindex: "0", "aria-label": summary }, oneALine(text));
+  return element("details", { class: "raw-details", open }, element("summary", {}, summary), raw);
 }
+
+/** @param {string} reply */
+export const hubsReply = (reply) => rawDetails(phrases.common.whatTheHubReplied, reply);

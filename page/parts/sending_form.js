@@ -30,11 +30,13 @@ import { Summary } from "./summary.js";
  *   look?: { ask: () => Promise<void>, check: () => boolean },
  *   summary: () => import("./summary.js").SummaryWords,
  *   write: (stamp: Stamp) => string | null,
- *   settled: (verdict: Verdict) => void,
+ *   settled: (verdict: Verdict) => Promise<void> | void,
  * }} FormWords `draft` names the form's draft; `prepare` makes room in the form for a draft; `apart` is what was typed that is in no field,
  *   and `putBack` returns what found no place in the form; `look` asks the hub, and checks what was typed against what is known then
  */
 
+// how many things that are wrong are said above the form too
+const MOST_FOUND = 3;
 // the name of what is in no field, which no field has
 const APART = "apart";
 
@@ -185,12 +187,24 @@ class SendingForm {
 
   /** The hub answered: what it did not take is typed work again, with a new reference.
    * @param {import("../hub/sending.js").Sending} sending */
-  end(sending) {
+  async end(sending) {
     if (sending.state === "accepted") for (const it of this.before) it.hidden = true;
     else {
       this.sending = this.begin();
       this.sending.happen("type");
     }
-    if (sending.verdict && sending.state !== "denied") this.words.settled(sending.verdict);
+    const { verdict } = sending;
+    if (!verdict || sending.state === "denied") return;
+    await this.words.settled(verdict);
+    if (verdict.outcome === "refused") this.sayFirst(verdict.code);
+  }
+
+  /** Says before the usual causes of a refusal what was found at the fields, unless it says the code alone.
+   * @param {string} code */
+  sayFirst(code) {
+    const said = [...this.fields.querySelectorAll(".wrong:not(:empty)")].map((it) => it.textContent ?? "");
+    const found = said.filter((it) => !it.includes(code));
+    const first = [...new Set(found)].slice(0, MOST_FOUND).map((it) => element("p", { class: "found" }, it));
+    this.region.querySelector(".outcome")?.after(...first);
   }
 }

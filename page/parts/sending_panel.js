@@ -6,14 +6,14 @@ import { phrases } from "../language.js";
 import { locale } from "../words/figures.js";
 import { codeInWords } from "./code.js";
 import { button, element, notice, saying } from "./dom.js";
-import { notUnderstood, rawDetails } from "./raw.js";
+import { hubsReply, notUnderstood, rawDetails } from "./raw.js";
 
 /** @typedef {import("../hub/sending.js").Sending} Sending */
 /** @typedef {(sending: Sending) => Node[]} Tell what is said of an answer */
 
-/** The time on the clock of whoever reads.
- * @param {number} moment */
-export const clockTime = (moment) => new Date(moment).toLocaleTimeString(locale());
+/** The time on the clock of whoever reads; in the `medium` style with seconds, for what is waited for.
+ * @param {number} moment @param {"short" | "medium"} [timeStyle] */
+export const clockTime = (moment, timeStyle = "short") => new Date(moment).toLocaleTimeString(locale(), { timeStyle });
 
 /** The place that says how a document is doing. It is in the page before it speaks, so that a screen reader hears all of it. */
 export const sendingRegion = () => element("div", { class: "delivery", role: "status", "aria-live": "polite", tabindex: "-1" });
@@ -52,7 +52,7 @@ const whatWasSent = ({ facts }) => rawDetails(phrases.common.whatWasSent, facts.
  * @param {Sending} sending */
 export function pauseInWords({ facts }) {
   const why = facts.reason ? inWords(facts.reason) : denial(facts.reply);
-  const at = facts.until > Date.now() ? clockTime(facts.until) : "";
+  const at = facts.until > Date.now() ? clockTime(facts.until, "medium") : "";
   if (facts.state === "held") return phrases.sending.held(why, at);
   return `${phrases.sending.pausing(why, at)} ${phrases.sending.safe}`;
 }
@@ -63,11 +63,11 @@ function unanswered(sending) {
   const why = reason ? inWords(reason) : denial(reply);
   return notice(
     "warn",
-    element("h3", {}, phrases.sending.noAnswer),
+    element("h3", {}, phrases.sending.noReply),
     element("p", {}, phrases.sending.unanswered(what, tries, why)),
     reason === "unreadable" ? element("pre", { class: "raw" }, reply) : null,
     element("p", {}, phrases.sending.safe),
-    until > Date.now() ? element("p", {}, phrases.sending.askedToWait(clockTime(until))) : null,
+    until > Date.now() ? element("p", {}, phrases.sending.askedToWait(clockTime(until, "medium"))) : null,
     againButton(sending),
   );
 }
@@ -88,9 +88,8 @@ export function denial(reply) {
 export function verdictNotice({ state, verdict, facts: { reply } }) {
   if (state === "denied") return [saying("bad", denial(reply))];
   if (!verdict) return [notUnderstood(phrases.common.notUnderstood, reply)];
-  const good = verdict.outcome !== "refused";
+  const kind = { accepted: "good", partly: "warn", repeated: "good", refused: "bad" }[verdict.outcome];
   const words = [element("p", { class: "outcome" }, phrases.outcomes[verdict.outcome])];
   if (verdict.code) words.push(element("p", {}, codeInWords(verdict.code)));
-  const said = element("p", { class: "said" }, `${phrases.sending.hubSaid} `, element("code", {}, reply.trim()));
-  return [notice(good ? "good" : "bad", ...words, said)];
+  return [notice(kind, ...words, hubsReply(reply))];
 }

@@ -107,7 +107,7 @@ export class Table {
   /** The rows as they are shown, under the headings and without the sums.
    * @param {string} [language] */
   csv(language = navigator.language) {
-    const columns = this.columns.flatMap((it, place) => (it.title && it.csv !== false ? [place] : []));
+    const columns = this.columns.flatMap((it, place) => (isInFile(it) ? [place] : []));
     const rows = this.shown.map((row) => columns.map((place) => this.#written(row, place)));
     return csvText([columns.map((place) => this.columns[place].title), ...rows], separatorOf(language));
   }
@@ -146,9 +146,16 @@ export class Table {
   #sums(rows) {
     const sum = (/** @type {Column<Row>} */ { sum: summed, value }) =>
       summed && value ? figure(rows.reduce((all, row) => all + Number(value(row)), 0)) : "";
-    return this.#filled(this.columns.map((it, place) => (place === 0 ? phrases.table.sumOf(rows.length) : sum(it))));
+    const first = this.columns.findIndex(isInFile);
+    return this.#filled(this.columns.map((it, place) => (place === first ? phrases.table.sumOf(rows.length) : sum(it))));
   }
 }
+
+/**
+ * @template Row
+ * @param {Column<Row>} column
+ */
+const isInFile = ({ title, csv }) => title !== "" && csv !== false;
 
 /**
  * @template Row

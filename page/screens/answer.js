@@ -32,11 +32,11 @@ class LineAnswer {
     const label = phrases.answer.changedQuantity(line.line);
     const field = `answer.changedQuantity/${line.line}`;
     this.quantity = new Field({ label, field, hidden: true, inputmode: "numeric", maxlength: 9, class: "short" });
-    this.quantity.input.addEventListener("input", () => this.choose("changed"));
     const legend = element("legend", { class: "spoken" }, phrases.answer.answerToLine(line.line));
-    const words = { class: "choices", "data-field": `answer.answerToLine/${line.line}` };
+    const words = { class: "choices", "data-field": `answer.answerToLine/${line.line}`, "aria-describedby": this.quantity.wrong.id };
     this.choices = element("fieldset", words, legend, ...this.radios.map((it) => it.element));
-    this.choices.addEventListener("change", () => this.quantity.say(""));
+    this.choices.addEventListener("change", () => this.offerQuantity());
+    this.offerQuantity();
   }
 
   get waits() {
@@ -56,6 +56,24 @@ class LineAnswer {
   /** @param {Answer} answer */
   choose(answer) {
     for (const { input } of this.radios) input.checked = input.value === answer;
+    this.offerQuantity();
+  }
+
+  /** A quantity is typed for a change alone. */
+  offerQuantity() {
+    const { quantity } = this;
+    quantity.input.disabled = this.answer !== "changed";
+    if (quantity.input.disabled) quantity.value = "";
+    quantity.say("");
+  }
+
+  get isWrong() {
+    return this.quantity.isWrong;
+  }
+
+  /** Where what is wrong is corrected. */
+  get input() {
+    return this.quantity.input.disabled ? this.radios[0].input : this.quantity.input;
   }
 
   /** The quantities that a change may have: what is despatched stays. */
@@ -65,7 +83,7 @@ class LineAnswer {
   }
 
   check() {
-    if (!this.waits) return check(this.quantity, phrases.answer.waitsNoMore(this.known));
+    if (!this.waits) return check(this.quantity, phrases.answerRows.isAnswered(this.line.line, this.known));
     if (this.answer !== "changed") return check(this.quantity, "");
     const { least, most } = this.bounds;
     const quantity = wholeNumber(this.quantity.value);
@@ -101,7 +119,7 @@ export async function answerScreen(context, word) {
     what: () => phrases.answer.what(numberInWords(order.document)),
     noun: phrases.answer.noun,
     draft: `answer/${word}`,
-    content: [tools(waiting()), pasteAnswers(answers), lines, wrong, document.element],
+    content: [choicesHint(), tools(waiting()), pasteAnswers(answers), lines, wrong, document.element],
     check: () => checked(waiting(), document, wrong),
     summary: () => answerSummary(order.document, waiting()),
     write: ({ reference, moment }) => {
@@ -109,8 +127,8 @@ export async function answerScreen(context, word) {
       return isComplete(waiting()) ? interchangeText(words, messageOf(order, answers, document.value, moment)) : null;
     },
     settled: ({ outcome, code }) => {
-      if (outcome === "refused") showAtItsPlace(session, code, { order, answers, document });
-      else next.replaceChildren(nextSteps(Number(word)));
+      if (outcome === "refused") return showAtItsPlace(session, code, { order, answers, document });
+      next.replaceChildren(nextSteps(Number(word)));
     },
   });
   return {
@@ -123,6 +141,8 @@ export async function answerScreen(context, word) {
     ],
   };
 }
+
+const choicesHint = () => element("p", { class: "hint" }, phrases.answer.hint);
 
 /** @param {LineAnswer[]} waiting */
 function tools(waiting) {
@@ -163,7 +183,7 @@ const isComplete = (waiting) =>
 
 /** @param {LineAnswer[]} waiting @param {Field} document @param {HTMLElement} wrong */
 function checked(waiting, document, wrong) {
-  const fields = [...waiting.map((it) => it.quantity), document];
+  const fields = [...waiting, document];
   const right = waiting.map((it) => it.check()).every(Boolean) && check(document, wrongNumber(document.value));
   const some = waiting.some((it) => it.answer);
   wrong.replaceChildren(...(some ? [] : [saying("bad", phrases.answer.chooseOne)]));
@@ -199,7 +219,7 @@ async function showAtItsPlace(session, code, { order, answers, document }) {
   const ofQuantity = right && ["B08", "M08"].includes(code);
   if (ofQuantity) changed.forEach((it) => it.quantity.say(phrases.answer.wrongQuantities));
   if (code === "M02") document.say(phrases.common.numberNotTaken);
-  focusFirstWrong([...given.map((it) => it.quantity), document]);
+  focusFirstWrong([...given, document]);
 }
 
 /** @param {number} entry */

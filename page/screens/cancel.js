@@ -14,6 +14,7 @@ import { look } from "../parts/look.js";
 import { documentNumber } from "../parts/order_number.js";
 import { sendingForm } from "../parts/sending_form.js";
 import { clockTime } from "../parts/sending_panel.js";
+import { partyByName } from "../party_names.js";
 
 /** @typedef {Record<"supplier" | "order" | "line" | "quantity", Field>} Fields */
 
@@ -41,11 +42,11 @@ export async function cancelScreen(context, ...words) {
     content: all.map((it) => it.element),
     check: () => checked(fields, all),
     look: { ask: () => known.ask(typedIn(fields)), check: () => isOpen(fields, known) },
-    summary: () => summaryOf(fields, known),
+    summary: () => summaryOf(fields, known, (gln) => partyByName(session, gln)),
     write: ({ reference }) => bodyOf(fields, reference),
     settled: ({ outcome, code }) => {
-      if (outcome === "refused") showRefusal(fields, known, code);
-      else next.replaceChildren(nextSteps(fields.supplier.trimmed, go));
+      if (outcome === "refused") return showRefusal(fields, known, code);
+      next.replaceChildren(nextSteps(fields.supplier.trimmed, go));
     },
   });
   showOpen(fields, known);
@@ -91,13 +92,14 @@ function showOpen(fields, known) {
   fields.quantity.hint?.replaceChildren(words);
 }
 
-/** @param {Fields} fields @param {KnownLine} known @returns {import("../parts/summary.js").SummaryWords} */
-function summaryOf(fields, known) {
+/** @param {Fields} fields @param {KnownLine} known @param {(gln: string) => string} byName
+ * @returns {import("../parts/summary.js").SummaryWords} */
+function summaryOf(fields, known, byName) {
   const { supplier, order, line, quantity } = typedIn(fields);
   const it = known.of({ supplier, order, line });
   const article = it ? gtinAsPrinted(it.gtin) : "";
   const open = !it ? "" : known.isFresh ? phrases.cancel.nowOpen(it.open) : phrases.cancel.wereOpen(it.open, clockTime(known.at));
-  return { lead: [...phrases.cancel.lead(quantity, article, documentNumber(order), figure(line), supplier), open && ` ${open}`] };
+  return { lead: [...phrases.cancel.lead(quantity, article, documentNumber(order), figure(line), byName(supplier)), open && ` ${open}`] };
 }
 
 /** @param {Fields} fields @param {Field[]} all */

@@ -17,6 +17,7 @@ import { clockTime } from "../parts/sending_panel.js";
 import { Summary } from "../parts/summary.js";
 import { Table } from "../parts/table.js";
 import { ChosenLines } from "../suppliers/chosen_lines.js";
+import { partyByName } from "../party_names.js";
 import { plannerOf } from "../suppliers/planner.js";
 import { CancelResults } from "./cancel_results.js";
 import { lineColumns } from "./status.js";
@@ -38,7 +39,7 @@ export async function cancelLinesScreen({ session }, supplier = "") {
   const results = new CancelResults(queue, supplier);
   const ask = async () => (await session.status(supplier)).lines;
   const lines = chosen.chosen.length ? await ask() : [];
-  const form = new CancelForm({ supplier, name, queue, chosen, results, lines, ask });
+  const form = new CancelForm({ supplier, named: partyByName(session, supplier), queue, chosen, results, lines, ask });
   const back = element("p", { class: "back" }, link(`‹ ${phrases.common.statusOfThisSupplier}`, `supplier/${supplier}`));
   const shown = form.rows.length ? form.element : null;
   const none = noneChosen(form, queue.of(supplier).length);
@@ -54,11 +55,11 @@ function noneChosen({ rows, gone }, sent) {
 }
 
 class CancelForm {
-  /** @param {{ supplier: string, name: string, queue: CancelQueue, chosen: ChosenLines, results: CancelResults,
+  /** @param {{ supplier: string, named: string, queue: CancelQueue, chosen: ChosenLines, results: CancelResults,
    *   lines: StatusLine[], ask: () => Promise<StatusLine[]> }} words `ask` asks the hub for the lines as they are now */
-  constructor({ supplier, name, queue, chosen, results, lines, ask }) {
+  constructor({ supplier, named, queue, chosen, results, lines, ask }) {
     this.supplier = supplier;
-    this.named = name ? `${name} (${supplier})` : supplier;
+    this.named = named;
     this.queue = queue;
     this.chosen = chosen;
     this.results = results;
@@ -217,6 +218,6 @@ function wrongNumber(text, open) {
 
 /** @returns {import("../parts/table.js").Column<Row>[]} */
 const columns = () => [
-  ...lineColumns(new Articles(), ...WITHOUT),
+  ...lineColumns(new Articles(), phrases.common.suppliersAnswer, ...WITHOUT),
   { title: phrases.cancelLines.toCancel, cell: ({ field }) => field.element, csv: ({ field }) => field.trimmed },
 ];

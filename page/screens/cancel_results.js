@@ -7,7 +7,7 @@ import { phrases } from "../language.js";
 import { actions, button, element, figure, link, notice, saying } from "../parts/dom.js";
 import { orderNumber } from "../parts/order_number.js";
 import { Table } from "../parts/table.js";
-import { verdictPlace } from "../parts/verdict.js";
+import { verdictInFile, verdictPlace } from "../parts/verdict.js";
 import { lineColumns } from "./status.js";
 
 /** @typedef {import("../hub/cancel_queue.js").CancelQueue} CancelQueue */
@@ -72,12 +72,13 @@ function inWords(items) {
 
 /** @returns {import("../parts/table.js").Column<Item>[]} */
 function columns() {
-  const [, , article] = lineColumns(new Articles());
+  const [, , article] = lineColumns(new Articles(), "");
+  const result = (/** @type {Item} */ { sending }) => verdictPlace(sending, undefined, null);
   return [
     { title: phrases.common.order, cell: ({ line }) => orderNumber(line), value: ({ line }) => line.order },
     { title: phrases.common.line, cell: ({ line }) => line.line, value: ({ line }) => line.line },
     { title: article.title, kind: article.kind, cell: ({ line }) => article.cell(line), value: ({ line }) => line.gtin },
     { title: phrases.common.cancelled, cell: ({ quantity }) => figure(quantity), value: ({ quantity }) => quantity, number: true },
-    { title: phrases.common.whatTheHubSaid, cell: ({ sending }) => verdictPlace(sending, undefined, null) },
+    { title: phrases.common.result, cell: result, csv: ({ sending }) => verdictInFile(sending), kind: "long" },
   ];
 }

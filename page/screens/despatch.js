@@ -109,6 +109,7 @@ class DespatchForm {
       ...pallets.map((it, place) => it.check({ prefix, used: this.used, others: pallets.slice(0, place) })),
     ].every(Boolean);
     this.wrong.replaceChildren();
+    this.pallets.offerNewSsccs();
     if (right) return true;
     pallets.find((it) => it.isWrong)?.reveal();
     focusFirstWrong(this.fields);
@@ -146,6 +147,7 @@ class DespatchForm {
   /** @param {string} wrong */
   sayAtPallets(wrong) {
     for (const pallet of this.pallets.all) pallet.sscc.say(wrong);
+    this.pallets.offerNewSsccs();
   }
 }
 
@@ -183,11 +185,9 @@ export async function despatchScreen(context, word) {
       return message && interchangeText({ sender: session.hub.caller, recipient: parties.hub, reference, moment }, message);
     },
     settled: ({ outcome, code }) => {
-      if (outcome === "refused") form.showRefusal(code);
-      else {
-        form.sscc.held.announce(form.pallets.all.map((it) => it.number));
-        next.replaceChildren(nextSteps(go, sent));
-      }
+      if (outcome === "refused") return form.showRefusal(code);
+      form.sscc.held.announce(form.pallets.all.map((it) => it.number));
+      next.replaceChildren(nextSteps(go, sent));
     },
   });
   return { title, content: [heading(title), sending, next], leave: () => form.leave() };

@@ -7,6 +7,7 @@ import { button, element, heading, link, saying } from "../parts/dom.js";
 import { downloadButton } from "../parts/download.js";
 import { documentNumber, numberInWords } from "../parts/order_number.js";
 import { rawDetails } from "../parts/raw.js";
+import { nameOf, partyByName } from "../party_names.js";
 import { orderView } from "./order.js";
 import { receiptView } from "./receipt.js";
 
@@ -36,22 +37,25 @@ const missing = (word) => ({
 });
 
 /** @param {import("../start.js").Context} context @param {import("../session.js").Entry} entry */
-async function content(context, entry) {
-  if (entry.order) return orderView(entry.order, entry, await context.session.status());
-  if (entry.receipt) return receiptView(entry.receipt, entry, await context.session.status(), articlesOf(context.session));
+async function content({ session }, entry) {
+  const { order, receipt } = entry;
+  const status = await session.status();
+  if (order) return orderView(order, entry, status, (gln) => nameOf(session, gln));
+  if (receipt) return receiptView(receipt, entry, status, articlesOf(session), partyByName(session, receipt.buyer));
   return [saying("warn", phrases.entry.notUnderstood)];
 }
 
 /** @param {import("../start.js").Context} context @param {import("../session.js").Entry} entry */
 function actions({ session }, entry) {
   const said = element("span", { class: "said", role: "status", tabindex: "-1" });
-  const take = button(phrases.common.markAsTaken, async () => {
+  const mark = async () => {
     await session.hub.takeMail(entry.number);
     session.taken.add(entry.number);
     said.textContent = phrases.entry.marked;
     said.focus();
     take.disabled = true;
-  });
+  };
+  const take = button(phrases.common.markAsRead, mark, { title: phrases.mailbox.readHint });
   const file = `${entry.order ? "order" : "entry"}-${entry.number}.edi`;
   return element(
     "div",

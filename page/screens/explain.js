@@ -10,6 +10,7 @@ import { button, element, exact, heading, saying, terms } from "../parts/dom.js"
 import { dropZone } from "../parts/drop_zone.js";
 import { faultInWords } from "../parts/fault_in_words.js";
 import { notUnderstood } from "../parts/raw.js";
+import { partyByName } from "../party_names.js";
 
 /** @typedef {import("../edi/shown.js").Shown} Shown */
 /** @typedef {import("../edi/shown.js").ShownMessage} ShownMessage */
@@ -24,7 +25,7 @@ const LONGEST = 1_048_576;
 const LONG = { code: "E01", segment: null, offset: null };
 
 /** @param {import("../start.js").Context} context */
-export async function explainScreen({ go }) {
+export async function explainScreen({ session, go }) {
   const why = await whyNotHere();
   const { title } = phrases.explain;
   if (why === "absent") return { title, content: [heading(title), saying("plain", phrases.explain.why.absent)] };
@@ -33,11 +34,12 @@ export async function explainScreen({ go }) {
     const again = button(phrases.common.tryAgain, () => go("explain"), { class: "primary" });
     return { title, content: [heading(title), lead, saying("warn", phrases.explain.why[why]), again] };
   }
-  return { title, content: [heading(title), lead, ...checker()] };
+  return { title, content: [heading(title), lead, ...checker((gln) => partyByName(session, gln))] };
 }
 
-/** The place to choose a file, and what is said of the last one. */
-function checker() {
+/** The place to choose a file, and what is said of the last one.
+ * @param {(gln: string) => string} byName */
+function checker(byName) {
   const verdict = element("div", { role: "status", tabindex: "-1", class: "verdict" });
   const details = element("div", { class: "explained" });
   let last = 0;
@@ -46,7 +48,7 @@ function checker() {
     const now = (last += 1);
     verdict.replaceChildren(element("p", {}, phrases.explain.reading(file.name)));
     details.replaceChildren();
-    const said = others.length ? { verdict: [saying("warn", phrases.explain.oneAtATime)], details: [] } : await explained(file);
+    const said = others.length ? { verdict: [saying("warn", phrases.explain.oneAtATime)], details: [] } : await explained(file, byName);
     // another file may have been chosen meanwhile
     if (now !== last) return;
     verdict.replaceChildren(element("h2", {}, file.name), ...said.verdict);
@@ -56,8 +58,8 @@ function checker() {
   return [zone, verdict, details];
 }
 
-/** @param {File} file @returns {Promise<{ verdict: HTMLElement[], details: HTMLElement[] }>} */
-async function explained(file) {
+/** @param {File} file @param {(gln: string) => string} byName @returns {Promise<{ verdict: HTMLElement[], details: HTMLElement[] }>} */
+async function explained(file, byName) {
   if (file.size > LONGEST) return { verdict: [saying("bad", phrases.explain.refusedAsAWhole)], details: faultInWords(LONG, "") };
   const bytes = await file.arrayBuffer().catch(() => null);
   if (!bytes) return { verdict: [saying("bad", phrases.explain.unreadable)], details: [] };
@@ -65,7 +67,7 @@ async function explained(file) {
   if (why) return { verdict: [saying("warn", phrases.explain.why[why])], details: [] };
   const shown = readShown(text);
   if (!shown) return { verdict: [notUnderstood(phrases.explain.notUnderstood, text)], details: [] };
-  return { verdict: verdictOn(shown), details: detailsOf(shown, textOfBytes(bytes)) };
+  return { verdict: verdictOn(shown), details: detailsOf(shown, textOfBytes(bytes), byName) };
 }
 
 /** @param {Shown} shown @returns {HTMLElement[]} */
@@ -78,14 +80,14 @@ function verdictOn({ fault, messages }) {
   return [saying(kind, words), element("p", { class: "hint" }, phrases.explain.more)];
 }
 
-/** @param {Shown} shown @param {string} text of the file @returns {HTMLElement[]} */
-function detailsOf({ fault, head, messages }, text) {
+/** @param {Shown} shown @param {string} text of the file @param {(gln: string) => string} byName @returns {HTMLElement[]} */
+function detailsOf({ fault, head, messages }, text, byName) {
   if (fault) return faultInWords(fault, text);
   if (!head) return [];
   const rows = terms([
     [phrases.common.interchange, exact(head.reference)],
-    [phrases.explain.sender, exact(head.sender)],
-    [phrases.explain.recipient, exact(head.recipient)],
+    [phrases.explain.sender, exact(byName(head.sender))],
+    [phrases.explain.recipient, exact(byName(head.recipient))],
     [phrases.explain.prepared, preparedInWords(head.date, head.time)],
   ]);
   return [rows, ...messages.map((it) => messageCard(it, text))];

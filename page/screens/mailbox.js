@@ -1,7 +1,7 @@
 // @ts-check
-// The mailbox: what is new, and apart from it what was marked as taken.
+// The mailbox: what is new, and apart from it what was marked as read, which the hub calls taken.
 
-import { dateInWords, moment, preparedInWords, preparedMoment } from "../edi/dates.js";
+import { cameInInWords, dateInWords, moment, preparedMoment } from "../edi/dates.js";
 import { lastEntry } from "../entries.js";
 import { phrases } from "../language.js";
 import { button, element, heading, link } from "../parts/dom.js";
@@ -21,7 +21,7 @@ export async function mailboxScreen({ session }) {
   const table = new Table({
     caption: phrases.mailbox.caption,
     kind: "mailbox",
-    columns: columns((row) => button(phrases.common.markAsTaken, () => take(row), { class: "quiet", "aria-label": label(row) })),
+    columns: columns((row) => button(phrases.common.markAsRead, () => take(row), { class: "quiet", "aria-label": label(row) })),
     rows,
     empty: phrases.mailbox.empty,
   });
@@ -47,6 +47,7 @@ export async function mailboxScreen({ session }) {
     content: [
       heading(phrases.mailbox.title),
       count,
+      element("p", { class: "hint" }, phrases.mailbox.readHint),
       table.element,
       raw.length ? notUnderstood(phrases.mailbox.notUnderstoodLines, raw.join("\n")) : null,
       takenPart(session, new Set(entries.map((it) => it.number))),
@@ -80,7 +81,7 @@ async function fillDates(session, rows) {
       row.arrived.data = found.arrived;
       [row.moment, row.arrival] = [found.moment, found.arrival];
     } catch {
-      row.date.data = row.arrived.data = phrases.mailbox.notRead;
+      row.date.data = row.arrived.data = phrases.mailbox.notLoaded;
     }
   }
 }
@@ -92,7 +93,7 @@ function datesOf(entry) {
   return {
     date: record ? dateInWords(record.date, record.format) : phrases.mailbox.notUnderstood,
     moment: record ? moment(record.date, record.format) : 0,
-    arrived: interchange ? preparedInWords(interchange.date, interchange.time) : "",
+    arrived: interchange ? cameInInWords(interchange) : "",
     arrival: interchange ? preparedMoment(interchange.date, interchange.time) : 0,
   };
 }
@@ -101,13 +102,13 @@ function datesOf(entry) {
 function takenPart(session, untaken) {
   /** @type {Row[]} */
   const rows = [];
-  const words = { caption: phrases.mailbox.takenCaption, empty: phrases.mailbox.noneTaken };
+  const words = { caption: phrases.mailbox.readCaption, empty: phrases.mailbox.noneRead };
   const table = new Table({ ...words, kind: "mailbox", columns: columns(), rows });
   table.element.hidden = true;
   let next = 0;
   let begun = false;
   let isShowing = false;
-  const more = button(phrases.mailbox.showTaken, show);
+  const more = button(phrases.mailbox.showRead, show);
 
   async function show() {
     if (isShowing) return;
@@ -133,9 +134,8 @@ function takenPart(session, untaken) {
     }
   }
 
-  const title = element("h2", { tabindex: "-1" }, phrases.mailbox.taken);
-  const hint = element("p", { class: "hint" }, phrases.mailbox.takenHint);
-  return element("section", { class: "taken" }, title, hint, table.element, more);
+  const title = element("h2", { tabindex: "-1" }, phrases.mailbox.read);
+  return element("section", { class: "taken" }, title, table.element, more);
 }
 
 /** @param {import("../session.js").Entry | null} entry @param {number} number @returns {Row} */

@@ -34,7 +34,7 @@ const shown = (today, last) => [
   ["late", phrases.common.overdue, (it) => it.isLate],
   ["soon", phrases.openLines.soon(SOON_DAYS), (it) => it.isWanted && it.day >= today && it.day <= last],
   ["undated", phrases.openLines.undated, (it) => !it.isWanted],
-  ["waiting", phrases.common.waitingForAnAnswer, isUnanswered],
+  ["waiting", phrases.common.notAnsweredYet, isUnanswered],
 ];
 
 /** @param {import("../start.js").Context} context */
@@ -95,6 +95,6 @@ function learnedInWords(name, learned) {
 
 /** @param {(gln: string) => string} nameOf @returns {import("../parts/table.js").Column<OpenRow>[]} */
 function columns(nameOf) {
-  const ofLines = lineColumns(new Articles(), ...WITHOUT);
+  const ofLines = lineColumns(new Articles(), phrases.common.suppliersAnswer, ...WITHOUT);
   return [...supplierColumns((/** @type {OpenRow} */ it) => nameOf(it.gln)), ...ofLines, dueColumn((it) => it)];
 }

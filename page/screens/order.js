@@ -2,7 +2,7 @@
 // An order as a page: parties, dates, and lines with what became of them.
 
 import { detailsOfEntry } from "../articles.js";
-import { preparedInWords } from "../edi/dates.js";
+import { cameInInWords } from "../edi/dates.js";
 import { phrases } from "../language.js";
 import { articleCell, articleColumn } from "../parts/article.js";
 import { element, exact, figure, notice, terms } from "../parts/dom.js";
@@ -23,20 +23,25 @@ export function linesWithStatus(order, lines) {
   return order.lines.map((line) => ({ ...line, status: own.find((it) => it.line === line.line) ?? null }));
 }
 
-/** @param {Order} order @param {import("../session.js").Entry} entry @param {{ lines: StatusLine[] }} status */
-export function orderView(order, entry, status) {
+/** @param {Order} order @param {import("../session.js").Entry} entry @param {{ lines: StatusLine[] }} status
+ * @param {(gln: string) => string} nameOf the name of a party, if it is known */
+export function orderView(order, entry, status, nameOf) {
   const details = detailsOfEntry(entry);
   if (!details) return [];
   const { header, lines } = details;
   const rows = linesWithStatus(order, status.lines).map((it, place) => ({ ...it, details: lines[place] }));
   const columns = columnsOf(rows, header.currency);
   return [
-    element("div", { class: "columns" }, terms(header.parties.map(partyRow)), terms(facts(header, entry))),
+    element("div", { class: "columns" }, terms(header.parties.map((it) => partyRow(named(it, nameOf)))), terms(facts(header, entry))),
     ...header.texts.map((it) => element("p", { class: "free-text" }, exact(it))),
     unread(header.raw),
     new Table({ caption: phrases.order.caption(numberInWords(order.document)), kind: "order-lines", columns, rows, sums: true }).element,
   ];
 }
+
+// A party of which the order has the GLN alone.
+/** @param {Details["parties"][number]} party @param {(gln: string) => string} nameOf */
+const named = (party, nameOf) => (party.address.length ? party : { ...party, address: [nameOf(party.gln)] });
 
 /** @param {Details} header @param {import("../session.js").Entry} entry */
 function facts({ dates, descriptions, itemKinds, contracts, packs, currency }, entry) {
@@ -46,7 +51,7 @@ function facts({ dates, descriptions, itemKinds, contracts, packs, currency }, e
   contracts.forEach((it) => rows.push([phrases.order.contract, exact(it)]));
   packs.forEach((it) => rows.push([phrases.order.packages, packInWords(it)]));
   if (currency) rows.push([phrases.order.currency, currency]);
-  if (entry.interchange) rows.push([phrases.common.cameIn, preparedInWords(entry.interchange.date, entry.interchange.time)]);
+  if (entry.interchange) rows.push([phrases.common.cameIn, cameInInWords(entry.interchange)]);
   return rows;
 }
 
@@ -84,7 +89,7 @@ function columnsOf(rows, currency) {
     { title: phrases.common.ordered, cell: (it) => figure(it.quantity), value: (it) => it.quantity, number: true, sum: true },
     known(phrases.common.open, "open"),
     known(phrases.common.despatched, "despatched"),
-    { title: phrases.common.answer, cell: answerInWords, value: (it) => it.status?.answer ?? "" },
+    { title: phrases.answer.yourAnswer, cell: answerInWords, value: (it) => it.status?.answer ?? "" },
     ...some(remarks, ofRemarks),
   ];
 }

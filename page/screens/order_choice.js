@@ -1,6 +1,7 @@
 // @ts-check
 // The choice of the orders that a despatch is for, and what is wrong with it.
 
+import { isUnanswered } from "../hub/status_kinds.js";
 import { phrases } from "../language.js";
 import { element, newId } from "../parts/dom.js";
 import { orderNumber } from "../parts/order_number.js";
@@ -20,7 +21,8 @@ export class OrderChoice {
     this.input = this.inputs[0];
     const legend = element("legend", {}, phrases.orderChoice.legend);
     const words = { class: "orders", "data-field": "orderChoice.legend" };
-    this.element = element("fieldset", words, legend, ...choices.map((it) => it.element), this.wrong);
+    const hint = lines.some(isUnanswered) ? element("p", { class: "hint" }, phrases.orderChoice.unanswered) : null;
+    this.element = element("fieldset", words, legend, ...choices.map((it) => it.element), hint, this.wrong);
   }
 
   /** @param {string} order @param {StatusLine[]} lines @param {string} wrong the identifier of what is wrong */
@@ -35,7 +37,7 @@ export class OrderChoice {
       this.changed();
     });
     const pieces = lines.reduce((all, it) => all + it.open, 0);
-    const open = ` ${phrases.orderChoice.open(lines.length, pieces)}`;
+    const open = ` ${phrases.orderChoice.open(lines.length, pieces, lines.filter(isUnanswered).length)}`;
     const said = element("span", {}, orderNumber(lines[0]), element("small", {}, open));
     return { input, element: element("label", { class: "choice" }, input, said) };
   }

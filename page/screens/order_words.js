@@ -16,7 +16,7 @@ import { oneALine } from "../parts/raw.js";
 export const dateRow = ({ kind, text, format }) => [phrases.orderDates[kind], dateInWords(text, format)];
 
 /** @param {Party} party */
-export const partyInWords = ({ gln, address }) => [gln, ...address].filter(Boolean).join(", ");
+export const partyInWords = ({ gln, address }) => [...address, gln].filter(Boolean).join(", ");
 
 /** @param {Party} party @returns {[string, import("../parts/dom.js").Child]} */
 export const partyRow = (party) => [phrases.orderParties[party.kind], exact(partyInWords(party))];

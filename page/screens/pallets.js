@@ -95,7 +95,14 @@ export class Pallets {
    * @param {Pallet} pallet */
   async #holdOne(pallet) {
     const { number } = pallet;
-    if (!(await this.sscc.held.hold(number, LEAVING)) && pallet.number === number) pallet.sscc.say(phrases.pallets.heldElsewhere);
+    if ((await this.sscc.held.hold(number, LEAVING)) || pallet.number !== number) return;
+    pallet.sscc.say(phrases.pallets.heldElsewhere);
+    this.offerNewSsccs();
+  }
+
+  /** Offers new SSCCs once one is wrong, and which pallets keep theirs; the stylesheet hides both before. */
+  offerNewSsccs() {
+    if (this.all.some((it) => it.sscc.isWrong || it.isLabelled)) this.element.classList.add("needs-ssccs");
   }
 
   /** Adds a pallet for a person who goes on with it: it lists all lines, and the others only their own. */
@@ -141,7 +148,7 @@ export class Pallets {
    * @param {Pallet} from
    * @returns {Promise<string>} */
   async copy(from) {
-    if (!from.contents.length) return phrases.pallets.nothingToCopy;
+    if (!from.contents.length) return phrases.palletTools.nothingOnIt;
     if (this.all.length >= MOST_PALLETS) return phrases.pallets.full(MOST_PALLETS);
     if (!this.#leftOf(from).length) return phrases.pallets.nothingLeft;
     const [copy] = await this.addSeveral(1, this.#filledLook);
@@ -220,6 +227,7 @@ export class Pallets {
   drawRestored() {
     const isCollapsed = this.all.reduce((all, it) => all + it.load.size, 0) > MANY;
     for (const pallet of this.all) pallet.isCollapsed = isCollapsed;
+    this.offerNewSsccs();
     return this.drawAgain();
   }
 

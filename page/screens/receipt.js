@@ -1,7 +1,7 @@
 // @ts-check
 // A receiving advice beside what was announced: for each pallet and article what was sent, what was received, and the difference.
 
-import { dateInWords, preparedInWords } from "../edi/dates.js";
+import { cameInInWords, dateInWords } from "../edi/dates.js";
 import { sumsOf } from "../edi/receipt.js";
 import { phrases } from "../language.js";
 import { articleCell, articleColumn } from "../parts/article.js";
@@ -16,18 +16,18 @@ import { Table } from "../parts/table.js";
 /** @param {import("../edi/receipt.js").Receipt} receipt
  * @param {import("../session.js").Entry} entry
  * @param {{ pallets: StatusPallet[] }} status
- * @param {import("../articles.js").Articles} articles */
-export function receiptView(receipt, entry, status, articles) {
+ * @param {import("../articles.js").Articles} articles @param {string} from the buyer */
+export function receiptView(receipt, entry, status, articles, from) {
   const rows = receipt.units.flatMap((unit) => rowsOf(unit, status.pallets.filter((it) => it.sscc === unit.sscc)));
   return [
+    ...correctedSince(receipt, rows),
     terms([
-      [phrases.common.from, receipt.buyer || phrases.receipt.retailer],
+      [phrases.common.from, from || phrases.receipt.retailer],
       [phrases.receipt.date, dateInWords(receipt.date, receipt.format)],
-      [phrases.common.cameIn, entry.interchange ? preparedInWords(entry.interchange.date, entry.interchange.time) : ""],
+      [phrases.common.cameIn, entry.interchange ? cameInInWords(entry.interchange) : ""],
     ]),
     receipt.replaces && saying("plain", phrases.receipt.replaces),
     new Table({ caption: phrases.receipt.caption, columns: columns(articles), rows, sums: true }).element,
-    ...correctedSince(receipt, rows),
   ];
 }
 

@@ -23,7 +23,8 @@ export async function searchScreen({ session, go }, text = "") {
   const fetched = [...round.results.values()].filter((it) => it.figures).length;
   const named = (/** @type {{ gln: string }} */ it) => list.nameOf(it.gln);
   const words = { kind: "across", empty: phrases.search.empty };
-  const ofLines = [...supplierColumns(named), ...lineColumns(new Articles(), "refused", "cancelled", "shares")];
+  const answer = phrases.common.suppliersAnswer;
+  const ofLines = [...supplierColumns(named), ...lineColumns(new Articles(), answer, "refused", "cancelled", "shares")];
   const lines = new Table({ ...words, caption: phrases.common.orderLines, columns: ofLines, rows: found.lines });
   const ofPallets = [...supplierColumns(named), ...palletColumns(new Articles(), "returned", "destroyed")];
   const pallets = new Table({ ...words, caption: phrases.common.pallets, columns: ofPallets, rows: found.pallets });

@@ -82,7 +82,7 @@ async function begun(gln, key, tell) {
     if (!session) tell("bad", phrases.signIn.denied);
     return session;
   } catch (why) {
-    if (why instanceof Broken) tell("warn", phrases.signIn.noAnswer);
+    if (why instanceof Broken) tell("warn", phrases.signIn.noReply);
     else tell("warn", phrases.signIn.notAHub(why instanceof Error ? why.message : String(why)));
     return undefined;
   }

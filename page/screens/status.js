@@ -15,12 +15,13 @@ import { notUnderstood } from "../parts/raw.js";
 /** @typedef {import("../hub/replies.js").StatusLine} StatusLine */
 /** @typedef {import("../hub/replies.js").StatusPallet} StatusPallet */
 /** @typedef {import("../parts/dom.js").Child} Child */
+/** @typedef {import("../parts/table.js").Column<StatusLine>} Column a column of the order lines */
 
 /** @returns {[string, string, (line: StatusLine) => boolean][]} */
 const linesShown = () => [
   ["all", phrases.status.allLines, () => true],
   ["open", phrases.common.withSomethingOpen, isOpen],
-  ["waiting", phrases.common.waitingForAnAnswer, isUnanswered],
+  ["waiting", phrases.common.notAnsweredYet, isUnanswered],
   ["refused", phrases.status.withSomethingRefused, (it) => it.refused > 0],
   ["cancelled", phrases.status.withSomethingCancelled, (it) => it.cancelled > 0],
 ];
@@ -35,19 +36,19 @@ const palletsShown = () => [
 /** @param {import("../start.js").Context} context @param {string} [sscc] of the pallet to begin with, above the order lines */
 export async function statusScreen({ session }, sscc = "") {
   const status = await session.status();
-  const [lines, pallets, raw] = statusView(status, articlesOf(session), { sscc });
+  const [lines, pallets, raw] = statusView(status, articlesOf(session), { answer: phrases.answer.yourAnswer, sscc });
   return { title: phrases.common.status, content: [heading(phrases.common.status), ...(sscc ? [pallets, lines] : [lines, pallets]), raw] };
 }
 
 /** @param {{ lines: StatusLine[], pallets: StatusPallet[], raw: string[] }} status
  * @param {Articles} articles
- * @param {{ sscc?: string, without?: string[], more?: import("../parts/table.js").Column<StatusLine>[],
- *   under?: (shown: () => StatusLine[]) => Child }} words by which `sscc` the pallets are filtered to begin with, columns of the lines that
- * are left out and added, and what is under the lines */
-export function statusView(status, articles, { sscc = "", without = [], more = [], under = () => null }) {
+ * @param {{ answer: string, sscc?: string, without?: string[], more?: Record<"first" | "last", Column[]>,
+ *   under?: (shown: () => StatusLine[]) => Child }} words whose `answer` the lines have, by which `sscc` the pallets are filtered to begin
+ * with, columns of the lines that are left out and added, and what is under the lines */
+export function statusView(status, articles, { answer, sscc = "", without = [], more = { first: [], last: [] }, under = () => null }) {
   const ofLines = { caption: phrases.common.orderLines, kind: "lines", empty: phrases.status.noLineFits, sums: true };
   const lines = new FilteredTable(
-    { ...ofLines, columns: [...lineColumns(articles, ...without), ...more], rows: status.lines },
+    { ...ofLines, columns: [...more.first, ...lineColumns(articles, answer, ...without), ...more.last], rows: status.lines },
     { label: phrases.status.filterLines, kinds: linesShown(), words: (it) => [it.order, it.gtin, articles.words(it)] },
   );
   const ofPallets = { caption: phrases.common.pallets, kind: "pallet-rows", empty: phrases.status.noPalletFits, sums: true };
@@ -64,9 +65,9 @@ export function statusView(status, articles, { sscc = "", without = [], more = [
   ];
 }
 
-/** @param {Articles} articles @param {...string} without names of columns that are left out
- * @returns {import("../parts/table.js").Column<StatusLine>[]} */
-export function lineColumns(articles, ...without) {
+/** @param {Articles} articles @param {string} answer the title of the answers @param {...string} without names of columns that are left out
+ * @returns {Column[]} */
+export function lineColumns(articles, answer, ...without) {
   const quantity = (/** @type {string} */ title, /** @type {"ordered" | "despatched" | "open" | "refused" | "cancelled"} */ name) => ({
     name,
     title,
@@ -75,12 +76,12 @@ export function lineColumns(articles, ...without) {
     number: true,
     sum: true,
   });
-  /** @type {import("../parts/table.js").Column<StatusLine>[]} */
+  /** @type {Column[]} */
   const columns = [
     { title: phrases.common.order, cell: orderNumber, value: (it) => it.order },
     { title: phrases.common.line, cell: (it) => it.line, value: (it) => it.line },
     { ...articleColumn((/** @type {StatusLine} */ it) => it.gtin, (it) => articleCell(it.gtin, articles.of(it))), value: (it) => it.gtin },
-    { title: phrases.common.answer, cell: (it) => phrases.answers[it.answer], value: (it) => phrases.answers[it.answer] },
+    { title: answer, cell: (it) => phrases.answers[it.answer], value: (it) => phrases.answers[it.answer] },
     quantity(phrases.common.ordered, "ordered"),
     quantity(phrases.common.despatched, "despatched"),
     quantity(phrases.common.open, "open"),

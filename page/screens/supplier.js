@@ -39,7 +39,7 @@ export async function supplierScreen(context, gln = context.session.supplier) {
   const status = isRight ? await shown(context, gln) : [];
   const name = planner.list.nameOf(gln);
   const content = [heading(name && isRight ? phrases.supplier.statusOf(name) : phrases.supplier.heading), form, ...status];
-  const title = isRight ? phrases.supplier.statusOf(gln) : phrases.common.status;
+  const title = isRight ? phrases.supplier.statusOf(name || gln) : phrases.common.status;
   return { title, content, focus: field.isWrong ? field.input : undefined };
 }
 
@@ -60,11 +60,15 @@ async function shown(context, gln) {
     session.supplier = gln;
     const choice = new LineChoice(context, gln, status.lines);
     /** @type {import("../parts/table.js").Column<StatusLine>} */
-    const actions = { title: phrases.menu.cancel, csv: false, cell: (it) => action(gln, it, choice), kind: "action" };
+    const tick = { title: phrases.lineChoice.column, csv: false, cell: (it) => choice.cell(it) ?? "", kind: "tick-cell" };
+    /** @type {import("../parts/table.js").Column<StatusLine>} */
+    const cancel = { title: "", cell: (it) => (it.open > 0 ? cancelLink(gln, it) : ""), kind: "action" };
     const wanted = await wantedColumn(session, gln, status.lines);
     // there is no room for both
     const without = wanted.length ? ["shares"] : [];
-    return statusView(status, new Articles(), { without, more: [...wanted, actions], under: (lines) => choice.bar(lines) });
+    const more = { first: [tick], last: [...wanted, cancel] };
+    const answer = phrases.common.suppliersAnswer;
+    return statusView(status, new Articles(), { answer, without, more, under: (lines) => choice.bar(lines) });
   } catch (why) {
     if (!(why instanceof Refused && why.status === 404)) throw why;
     return [saying("bad", phrases.supplier.unknown(gln))];
@@ -78,11 +82,6 @@ async function wantedColumn(session, gln, lines) {
   const today = day(new Date());
   const due = (/** @type {StatusLine} */ it) => dueOf(planner, gln, it.order, today, it.open > 0);
   return lines.some((it) => due(it).isWanted) ? [dueColumn(due)] : [];
-}
-
-/** @param {string} gln @param {StatusLine} line @param {LineChoice} choice */
-function action(gln, line, choice) {
-  return line.open > 0 ? element("span", { class: "line-actions" }, cancelLink(gln, line), choice.cell(line)) : null;
 }
 
 // Of an order of which the number is unsure the person types it, with its blanks.

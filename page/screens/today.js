@@ -95,7 +95,7 @@ class Today {
     } catch (why) {
       if (!(why instanceof Broken)) throw why;
       this.draw();
-      this.problem.replaceChildren(saying("warn", phrases.today.noAnswer(clockTime(this.lookedAt))));
+      this.problem.replaceChildren(saying("warn", phrases.today.noReply(clockTime(this.lookedAt))));
     } finally {
       this.isLooking = false;
     }
@@ -149,11 +149,11 @@ export async function todayScreen({ session }) {
 
 /** @param {Rows} rows */
 function inWords({ orders, lines, pallets, short }) {
-  const { toAnswer, toShip, overdue, announced, receivedShort, nothing } = phrases.today;
+  const { toAnswer, toDespatch, overdue, announced, receivedShort, nothing } = phrases.today;
   const late = lines.filter((it) => it.isLate).length;
   const kinds = /** @type {const} */ ([
     [orders.length, toAnswer],
-    [lines.length, toShip],
+    [lines.length, toDespatch],
     [late, overdue],
     [pallets.length, announced],
     [short.length, receivedShort],

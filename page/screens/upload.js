@@ -144,13 +144,13 @@ function columns(names, nameOf) {
   const supplierOf = (/** @type {MessageReply} */ { reference }) => names.get(reference)?.supplier ?? "";
   const documentOf = (/** @type {MessageReply} */ { reference }) => names.get(reference)?.document ?? "";
   const result = (/** @type {MessageReply} */ { outcome, code }) =>
-    element("span", { class: `result ${outcome}` }, code ? codeInWords(code) : phrases.outcomes[outcome]);
+    element("span", { class: `result ${outcome}` }, phrases.outcomes[outcome], code && " ", code && codeInWords(code));
   return [
     { title: phrases.upload.message, cell: (it) => it.reference },
     { title: phrases.common.type, cell: (it) => phrases.types[it.type] ?? it.type },
     { title: phrases.upload.document, cell: (it) => documentNumber(documentOf(it)), value: documentOf },
     { title: phrases.common.supplier, cell: (it) => supplierInWords(supplierOf(it), nameOf), value: supplierOf },
-    { title: phrases.upload.result, cell: result },
+    { title: phrases.common.result, cell: result, kind: "long" },
   ];
 }
 

@@ -125,6 +125,6 @@ function read(text) {
 function wrongInWords(why) {
   if (why instanceof Refused && why.status === 404) return phrases.round.unknown;
   if (why instanceof Refused && why.status === 403) return phrases.round.denied;
-  if (why instanceof Broken) return phrases.round.noAnswer(inWords(why.reason));
+  if (why instanceof Broken) return phrases.round.noReply(inWords(why.reason));
   return why instanceof Error ? why.message : String(why);
 }

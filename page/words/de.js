@@ -23,7 +23,7 @@ export const de = {
     interchange: "Übertragungsdatei",
     searchAllSuppliers: "Alle Lieferanten durchsuchen",
     whatWasSent: "Was gesendet wurde",
-    notUnderstood: "Die Seite versteht die Antwort des Hubs nicht. Sie lautet:",
+    notUnderstood: "Die Seite versteht die Rückmeldung des Hubs nicht. Sie lautet:",
     supplier: "Lieferant",
     waits: "Wartet, bis es an der Reihe ist…",
     ordered: "Bestellt",
@@ -32,22 +32,23 @@ export const de = {
     announceADespatch: "Lieferung avisieren",
     continueWithTheRest: "Mit den übrigen weitermachen",
     cancelled: "Storniert",
-    whatTheHubSaid: "Antwort des Hubs",
+    whatTheHubReplied: "Rückmeldung des Hubs",
+    result: "Ergebnis",
     labels: "Etiketten",
     status: "Status",
     entry: (number) => `Eintrag ${number}`,
-    markAsTaken: "Als erledigt markieren",
+    markAsRead: "Als gelesen markieren",
     downloadEdi: ".edi herunterladen",
     tryAgain: "Noch einmal versuchen",
-    left: "Übrig",
+    left: "Noch zu laden",
     type: "Art",
     cameIn: "Eingegangen",
     overdue: "Überfällig",
-    waitingForAnAnswer: "Noch nicht beantwortet",
+    notAnsweredYet: "Noch nicht beantwortet",
     openLines: "Offene Positionen",
     noneFetched: "Noch ist kein Status abgerufen: Das geht in der Übersicht.",
     despatched: "Versandt",
-    answer: "Antwort",
+    suppliersAnswer: "Antwort des Lieferanten",
     withSomethingOpen: "Mit offener Menge",
     announcedNotReceived: "Avisiert, nicht eingegangen",
     withADifference: "Mit Differenz",
@@ -69,14 +70,16 @@ export const de = {
     answerOrder: (order) => ["Bestellung ", order, " beantworten"],
     acceptAll: (lines) => (lines === 1 ? "Die Position annehmen" : `Alle ${figure(lines)} Positionen annehmen`),
     noun: "Antwort",
-    waitsNoMore: (known) => `Diese Position wartet nicht mehr auf eine Antwort: Sie ist ${known}.`,
     giveANumber: (least, most) => `Geben Sie eine ganze Zahl von ${figure(least)} bis ${figure(most)} ein.`,
     noOrder: "Keine Bestellung",
     entryIsNoOrder: "Dieser Eintrag ist keine Bestellung",
     numberHint: "Frei wählbar; der Vorschlag kommt von der Uhr.",
     what: (order) => `Ihre Antwort auf Bestellung ${order}`,
-    noneWaits: "Keine Position dieser Bestellung wartet auf eine Antwort.",
+    noneWaits: "Keine Position dieser Bestellung wartet auf Ihre Antwort.",
     refuseAll: "Alle ablehnen",
+    hint:
+      "Annehmen: Sie liefern alles, was offen ist. Ablehnen: Sie liefern nichts davon. Ändern: Geben Sie ein, wie viel Sie insgesamt " +
+      "liefern, samt dem, was schon versandt ist.",
     caption: "Positionen der Bestellung mit Ihrer Antwort",
     yourAnswer: "Ihre Antwort",
     changedTo: "Geändert auf",
@@ -90,7 +93,7 @@ export const de = {
     twice: (line) => `Position ${line} steht schon in einer früheren Zeile.`,
     lineMissing: "Die Positionsnummer fehlt.",
     noLine: (line) => `Die Bestellung hat keine Position ${line}.`,
-    waitsNoMore: (line, known) => `Position ${line} wartet nicht mehr auf eine Antwort: Sie ist ${known}.`,
+    isAnswered: (line, known) => `Position ${line} ist schon beantwortet: ${known}.`,
     notAnAnswer: (word, line) => `„${word}“ ist keine Antwort auf Position ${line}. Schreiben Sie angenommen, abgelehnt oder geändert.`,
     ofLine: (line, wrong) => `Position ${line}: ${wrong}`,
     giveANumber: (least, most) => `Geben Sie eine ganze Zahl von ${figure(least)} bis ${figure(most)} an.`,
@@ -105,7 +108,7 @@ export const de = {
     lineRefused: (line) => `Position ${line}: abgelehnt`,
     lineChanged: (line, change) => `Position ${line}: ${change}`,
   },
-  answers: { W: "unbeantwortet", A: "angenommen", N: "nicht angenommen", C: "geändert" },
+  answers: { W: "noch nicht beantwortet", A: "angenommen", N: "nicht angenommen", C: "geändert" },
   article: {
     yours: (number) => ["Ihr Artikel ", number],
     buyers: (number) => ["Artikel des Käufers ", number],
@@ -113,7 +116,7 @@ export const de = {
   banner: {
     sentAt: (what, time) => `${what}, gesendet um ${time}:`,
     isBeingSent: (what) => `${what} wird gesendet.`,
-    noAnswer: (what) => `${what} wurde gesendet, und es kam keine Antwort. Sie können genau dasselbe gefahrlos noch einmal senden.`,
+    noReply: (what) => `${what} wurde gesendet, und es kam keine Rückmeldung. Sie können genau dasselbe gefahrlos noch einmal senden.`,
     close: "Diesen Hinweis schließen",
   },
   bar: {
@@ -129,7 +132,7 @@ export const de = {
   },
   cancel: {
     nowOpen: (pieces) => `Zurzeit ${plural(pieces, "ist", "sind")} ${figure(pieces)} Stück offen.`,
-    wereOpen: (pieces, time) => `Um ${time} ${plural(pieces, "war", "waren")} ${figure(pieces)} Stück offen; gerade antwortet der Hub nicht.`,
+    wereOpen: (pieces, time) => `Um ${time} ${plural(pieces, "war", "waren")} ${figure(pieces)} Stück offen; gerade meldet sich der Hub nicht.`,
     tooMuch: (open, time) => `Nur ${figure(open)} Stück ${plural(open, "ist", "sind")} offen (Stand ${time}).`,
     noneOpen: (time) => `Von dieser Position ist nichts mehr offen (Stand ${time}).`,
     lead: (pieces, article, order, line, supplier) => [
@@ -167,7 +170,7 @@ export const de = {
       `Bestellung ${order}, Position ${line}, Artikel ${article}: ${figure(quantity)} von ${figure(open)} offenen Stück`,
     lead: (given, named) => `Sie stornieren ${given}, beim Lieferanten ${named}.`,
     giveANumber: (open) => `Geben Sie eine ganze Zahl von 1 bis ${figure(open)} ein.`,
-    asOf: (time) => `Die offenen Mengen sind die von ${time}: Gerade antwortet der Hub nicht.`,
+    asOf: (time) => `Die offenen Mengen sind die von ${time}: Gerade meldet sich der Hub nicht.`,
     toCancel: "Zu stornieren",
   },
   cancelResults: {
@@ -177,7 +180,7 @@ export const de = {
       return `${counted(all, "Stornierung", "Stornierungen")}: ${parts.filter(Boolean).join(", ")}.`;
     },
     paused:
-      "Eine Stornierung hat keine Antwort bekommen, deshalb warten die folgenden. Senden Sie diese zuerst noch einmal, oder machen Sie " +
+      "Zu einer Stornierung kam keine Rückmeldung, deshalb warten die folgenden. Senden Sie diese zuerst noch einmal, oder machen Sie " +
       "mit den übrigen weiter.",
     caption: "Stornierungen",
     title: "Was daraus geworden ist",
@@ -213,7 +216,9 @@ export const de = {
     numberHint: "Die Ihres Lieferscheins. Jede gilt nur einmal.",
     numberUsed: "Sie haben schon ein Lieferavis mit dieser Nummer gesendet. Nehmen Sie eine andere.",
     otherPrefix: "Der Hub meldet, dass eine SSCC nicht zu Ihren Basisnummern gehört. Sehen Sie diese hier nach.",
-    ssccUsed: "Der Hub meldet, dass eine SSCC schon verwendet wurde, von Ihnen oder jemand anderem. Nummerieren Sie die Paletten neu.",
+    ssccUsed:
+      "Der Hub meldet, dass eine SSCC schon verwendet wurde, von Ihnen oder jemand anderem. Nehmen Sie neue SSCCs, mit der Schaltfläche " +
+      "unter den Paletten.",
     unknownLine: "Der Hub kennt eine dieser Bestellpositionen nicht. Öffnen Sie das Formular noch einmal.",
     nothingOpen: "Nichts ist offen, also gibt es nichts zu avisieren.",
     what: (number) => `Ihr Lieferavis ${number}`,
@@ -221,7 +226,7 @@ export const de = {
       `Mehrere Bestellungen heißen ${order} und unterscheiden sich nur in Leerzeichen am Ende. Öffnen Sie zuerst jede im Postfach.`,
     collapse: "Alle Paletten zuklappen",
     expand: "Alle Paletten aufklappen",
-    renumber: "Paletten ohne Etikett neu nummerieren",
+    renumber: "Neue SSCCs für Paletten ohne gedrucktes Etikett",
     add: "Palette hinzufügen",
     another: "Noch eine Lieferung",
   },
@@ -255,7 +260,7 @@ export const de = {
     missing: "Diesen Eintrag gibt es nicht",
     hasNo: (number) => `Ihr Postfach hat keinen Eintrag ${number}.`,
     notUnderstood: "Die Seite versteht diesen Eintrag nicht. Er steht unten, wie der Hub ihn geliefert hat.",
-    marked: "Als erledigt markiert: Er steht nicht mehr bei den neuen.",
+    marked: "Als gelesen markiert: Er steht nicht mehr bei den neuen.",
     print: "Drucken",
   },
   explain: {
@@ -271,7 +276,7 @@ export const de = {
       absent: "Diese Website prüft keine Dateien. Alles andere geht auch so; wer die Seite eingerichtet hat, kann es einschalten.",
       busy: "Gerade werden andere Dateien geprüft. Versuchen Sie es in einer Minute noch einmal.",
       long: "Der Server dieser Seite nimmt keine Datei dieser Größe.",
-      broken: "Der Server dieser Seite antwortet nicht, deshalb lässt sich gerade keine Datei prüfen. Alles andere geht.",
+      broken: "Der Server dieser Seite meldet sich nicht, deshalb lässt sich gerade keine Datei prüfen. Alles andere geht.",
     },
     lead:
       "Sehen Sie, was eine EDIFACT-Datei sagt oder was an ihr falsch ist und wo. Die Datei geht an den Server dieser Seite, der sie " +
@@ -327,6 +332,12 @@ export const de = {
     TU: "Handelseinheit",
     VQ: "mengenvariables Produkt",
   },
+  knownCause: {
+    nothing: "Die Menge ist 0.",
+    notPieces: (unit) => `Die Einheit „${unit}“ ist nicht Stück (PCE).`,
+    notAGtin: (text) => `„${text}“ ist keine GTIN: Sehen Sie nach, ob eine Ziffer falsch ist.`,
+    notADate: (text) => `„${text}“ ist kein Datum.`,
+  },
   label: {
     content: "Inhalt",
     several: (articles, pieces) => `${counted(articles, "Artikel", "Artikel")}, ${figure(pieces)} Stück`,
@@ -350,15 +361,17 @@ export const de = {
   languageChoice: { label: "Sprache", own: "Deutsch" },
   leaving: { stay: "Bleiben" },
   leftLines: {
-    left: (pieces, some, lines) => `Übrig: ${figure(pieces)} Stück von ${figure(some)} von ${counted(lines, "Position", "Positionen")}`,
-    nothing: "Übrig: nichts",
+    left: (pieces, some, lines) => 
+      `Noch zu laden: ${figure(pieces)} Stück von ${figure(some)} von ${counted(lines, "Position", "Positionen")}`,
+    nothing: "Nichts mehr zu laden",
     tooMuch: (lines) => `zu viel von ${counted(lines, "Position", "Positionen")}`,
-    caption: "Was von den Positionen übrig ist",
+    caption: "Was noch zu laden ist",
     empty: "Alles Offene ist auf Ihren Paletten.",
     onPallets: "Auf Ihren Paletten",
   },
   lineChoice: {
     hint: (most) => `Kreuzen Sie Positionen an, um mehrere auf einmal zu stornieren, höchstens ${figure(most)}.`,
+    column: "Auswahl",
     chosen: (lines, pieces) =>
       `${counted(lines, "Position", "Positionen")} gewählt, davon ${plural(pieces, "ist", "sind")} ${figure(pieces)} Stück offen.`,
     cancel: (lines) => `${counted(lines, "Position", "Positionen")} stornieren…`,
@@ -372,20 +385,22 @@ export const de = {
   mailbox: {
     newEntries: (entries) => counted(entries, "neuer Eintrag", "neue Einträge"),
     title: "Postfach",
-    markOne: (document) => `${document} als erledigt markieren`,
+    markOne: (document) => `${document} als gelesen markieren`,
     caption: "Neue Einträge im Postfach",
-    empty: "Keine neue Post. Was Sie als erledigt markiert haben, steht unten.",
+    empty: "Keine neue Post. Was Sie als gelesen markiert haben, steht unten.",
     notUnderstoodLines: "Die Seite versteht diese Zeilen der Liste nicht:",
     number: "Nummer",
     document: "Dokument",
-    notRead: "nicht gelesen",
+    notLoaded: "nicht geladen",
     notUnderstood: "nicht verstanden",
-    takenCaption: "Als erledigt markierte Einträge",
-    noneTaken: "Nichts ist als erledigt markiert.",
-    showTaken: "Erledigte anzeigen",
+    readCaption: "Als gelesen markierte Einträge",
+    noneRead: "Nichts ist als gelesen markiert.",
+    showRead: "Gelesene anzeigen",
     showEarlier: "Frühere anzeigen",
-    takenHint: "Einträge, die Sie markiert haben, bleiben lesbar.",
-    taken: "Erledigt",
+    readHint:
+      "„Als gelesen markieren“ verschiebt einen Eintrag nach unten zu „Gelesen“, wo Sie ihn weiter öffnen können. Die Bestellung ist " +
+      "damit nicht beantwortet.",
+    read: "Gelesen",
   },
   menu: {
     today: "Heute",
@@ -405,8 +420,8 @@ export const de = {
       return `${open} ${plural(lines, "ist", "sind")} offen, ${rest}.`;
     },
     learned: (name, dated, undated) => {
-      const orders = `${counted(dated, "Bestellung nennt ihren", "Bestellungen nennen ihren")} Termin`;
-      return `${name}: ${orders}${undated ? `, ${figure(undated)} ${plural(undated, "nennt", "nennen")} keinen` : ""}.`;
+      const without = undated ? `, ${figure(undated)} ohne Wunschtermin` : "";
+      return `${name}: Wunschtermin von ${counted(dated, "Bestellung", "Bestellungen")} gefunden${without}.`;
     },
     choose: "Wählen Sie Dateien mit Bestellungen (ORDERS), oder ziehen Sie sie hierher",
     chooseHint:
@@ -417,7 +432,7 @@ export const de = {
     undated: "Ohne Wunschtermin",
     empty: "Keine offene Position passt.",
     filter: "Lieferant, Bestellung oder Artikel",
-    give: "Dateien mit Bestellungen angeben",
+    give: "Wunschtermine aus Ihren Bestelldateien ergänzen",
     noOrder: (name) => `${name}: Die Seite findet darin keine Bestellung.`,
   },
   order: {
@@ -433,8 +448,12 @@ export const de = {
     price: "Preis",
   },
   orderChoice: {
-    open: (lines, pieces) => `${counted(lines, "Position", "Positionen")}, ${figure(pieces)} offen`,
-    legend: "Bestellungen mit offener Menge",
+    open: (lines, pieces, unanswered) => {
+      const said = unanswered ? ` (${figure(unanswered)} noch nicht beantwortet)` : "";
+      return `${counted(lines, "Position", "Positionen")}${said}, ${figure(pieces)} offen`;
+    },
+    legend: "Bestellungen in dieser Lieferung",
+    unanswered: "Auch Positionen, die noch nicht beantwortet sind, können Sie versenden. Ihre Antwort wird weiter erwartet.",
     chooseOne: "Wählen Sie mindestens eine Bestellung.",
   },
   orderDates: {
@@ -461,6 +480,7 @@ export const de = {
   outcomes: {
     accepted: "Angenommen: Der Hub hat es übernommen und bewahrt es auf.",
     repeated: "Der Hub hatte es schon: Es wurde früher angenommen, und nichts geschah doppelt.",
+    partly: "Teilweise angenommen: Einige Nachrichten hat der Hub abgelehnt. Unter „Gesendet“ steht, welche und warum.",
     refused: "Abgelehnt: Nichts wurde geändert.",
   },
   overview: {
@@ -495,14 +515,14 @@ export const de = {
     on: (lines, pieces) => `${counted(lines, "Position", "Positionen")}, ${figure(pieces)} Stück`,
     nothingOnIt: "Noch nichts darauf",
     toCorrect: (on, wrong) => `${on}, ${figure(wrong)} zu berichtigen`,
-    labelled: "Etikettiert: Ihr Etikett ist gedruckt",
+    labelled: "Etikett ist gedruckt: diese SSCC behalten",
     nothing: "Laden Sie etwas auf diese Palette, oder entfernen Sie sie.",
-    hint: "18 Ziffern, getippt oder gescannt. Tippen Sie 17, und die Seite ergänzt die Prüfziffer.",
+    hint: "Die Nummer auf dem Etikett der Palette: 18 Ziffern, getippt oder gescannt. Tippen Sie 17, und die Seite ergänzt die Prüfziffer.",
     digits: "Eine SSCC hat 18 Ziffern.",
     lastDigit: (digit) => `Die letzte Ziffer müsste ${digit} sein: Sehen Sie nach, ob eine Ziffer falsch ist.`,
-    otherPrefix: (prefix) => `Nach der ersten Ziffer beginnt sie nicht mit Ihrer Basisnummer ${prefix}.`,
+    otherPrefix: (prefix) => `Nach der ersten Ziffer müsste Ihre Basisnummer ${prefix} folgen.`,
     twice: "Eine andere Palette dieses Formulars hat dieselbe SSCC.",
-    used: "Diese SSCC haben Sie schon verwendet. Nehmen Sie eine neue: Eine SSCC gilt nur einmal, für immer.",
+    used: "Diese SSCC haben Sie schon verwendet. Nehmen Sie eine neue: Jede SSCC gilt nur für eine Palette.",
   },
   palletLines: {
     quantityOf: (order, line) => `Menge von Bestellung ${order}, Position ${line}`,
@@ -537,12 +557,12 @@ export const de = {
   palletTools: {
     tooFew: (pieces) => `Nur ${figure(pieces)} Stück ${plural(pieces, "ist", "sind")} darauf.`,
     listAll: (lines) => `Alle ${counted(lines, "Position", "Positionen")} zeigen`,
-    count: "Gleichmäßig auf wie viele Paletten verteilen",
+    count: "Gleichmäßig auf so viele Paletten verteilen",
     split: "Verteilen",
-    fill: "Alles Offene darauf laden",
+    fill: "Alles Übrige auf diese Palette laden",
     copy: "Diese Palette kopieren",
     remove: "Diese Palette entfernen",
-    listOwn: "Nur ihre eigenen Positionen zeigen",
+    listOwn: "Nur die Positionen auf dieser Palette zeigen",
     giveANumber: (most) => `Geben Sie eine ganze Zahl von 2 bis ${figure(most)} ein.`,
     nothingOnIt: "Laden Sie zuerst etwas auf diese Palette.",
   },
@@ -550,9 +570,9 @@ export const de = {
     renumbered: (pallets) =>
       plural(pallets, `${figure(pallets)} Palette hat eine neue SSCC.`, `${figure(pallets)} Paletten haben neue SSCCs.`),
     unchanged: (pallets) => `${figure(pallets)} unverändert.`,
-    copied: (pallet) => `Palette ${pallet} ist eine Kopie davon.`,
-    copiedWhatWasLeft: (pallet, pieces) =>
-      `Palette ${pallet} ist eine Kopie davon mit dem, was übrig war: ${figure(pieces)} Stück weniger.`,
+    copied: (pallet) => `Palette ${pallet} ist eine Kopie dieser Palette.`,
+    copiedWhatWasLeft: (pallet, pieces) => 
+      `Palette ${pallet} ist eine Kopie dieser Palette mit dem, was noch zu laden war: ${figure(pieces)} Stück weniger.`,
     split: (first, last) => `Fertig: verteilt auf diese Palette und ${first === last ? `Palette ${first}` : `die Paletten ${first} bis ${last}`}.`,
     placed: (pieces, rows, pallets) => {
       const some = `${figure(pieces)} Stück aus ${counted(rows, "Zeile", "Zeilen")} ${plural(pieces, "ist", "sind")}`;
@@ -560,9 +580,8 @@ export const de = {
     },
     pallet: (pallet) => `Palette ${pallet}`,
     full: (most) => `Eine Lieferung hat höchstens ${figure(most)} Paletten.`,
-    heldElsewhere: "Ein Formular in einem anderen Tab dieses Browsers hat dieselbe SSCC.",
-    nothingToCopy: "Nichts ist darauf.",
-    nothingLeft: "Von ihren Positionen ist nichts übrig, deshalb gibt es keine Kopie.",
+    heldElsewhere: "Ein Formular in einem anderen Tab dieses Browsers verwendet diese SSCC schon.",
+    nothingLeft: "Von ihren Positionen ist nichts mehr zu laden, deshalb gibt es keine Kopie.",
   },
   pasteAnswers: {
     taken: (lines) => `${counted(lines, "Position ist", "Positionen sind")} wie in den Zeilen beantwortet. Noch ist nichts gesendet.`,
@@ -596,15 +615,15 @@ export const de = {
   prices: { AAA: "netto", AAB: "brutto", CA: "laut Katalog", CT: "laut Vertrag" },
   reasons: {
     connection: "Die Verbindung ist abgebrochen.",
-    patience: "Vier Minuten lang kam keine Antwort.",
+    patience: "Vier Minuten lang kam keine Rückmeldung.",
     cut: "Nur ein Teil davon hat den Hub erreicht (400).",
     slow: "Es hat zu lange gedauert, den Hub zu erreichen: Ihre Verbindung ist langsam (408).",
     "too many": "Von Ihrer Netzadresse kamen zu viele Anfragen (429).",
     busy: "Der Hub ist ausgelastet (503).",
     stopped: "Der Hub hielt an, während er daran arbeitete (503).",
     away: "Der Hub ist nicht zu erreichen (502 oder 504).",
-    unreadable: "Was zurückkam, ist keine Antwort des Hubs.",
-    reload: "Die Seite wurde neu geladen, bevor eine Antwort kam.",
+    unreadable: "Was zurückkam, ist keine Rückmeldung des Hubs.",
+    reload: "Die Seite wurde neu geladen, bevor eine Rückmeldung kam.",
   },
   receipt: {
     replacedLater: (advice, pallets, ssccs) =>
@@ -621,7 +640,7 @@ export const de = {
     denied: "Verweigert: Melden Sie sich ab und wieder an.",
     unknown: "Dem Hub nicht bekannt.",
     unreadable: "Die Seite versteht den Bericht nicht ganz: Öffnen Sie den Status.",
-    noAnswer: (reason) => `Keine Antwort. ${reason}`,
+    noReply: (reason) => `Keine Rückmeldung. ${reason}`,
   },
   rows: {
     line: ["position", "pos."],
@@ -650,28 +669,27 @@ export const de = {
   },
   searchForm: {
     tooShort: (least) => `Geben Sie mindestens ${figure(least)} Zeichen ein.`,
-    label: "Bestellung, Artikel oder SSCC",
+    label: "Bestellung, Artikel oder Palette (SSCC)",
   },
   sending: {
     first:
-      "Etwas, das Sie vorher gesendet haben, hat noch keine Antwort. Senden Sie das zuerst noch einmal, mit der Schaltfläche oben auf " +
-      "der Seite.",
+      "Zu etwas, das Sie vorher gesendet haben, fehlt noch die Rückmeldung. Senden Sie das zuerst noch einmal, mit der Schaltfläche oben " +
+      "auf der Seite.",
     safe: "Noch einmal zu senden ist gefahrlos: Der Hub merkt sich die Referenz und tut nie dasselbe zweimal.",
     held: (why, at) => `${why} Es wurde nicht ausgeführt. Die Seite sendet es von selbst${at && `, um ${at}`}.`,
     pausing: (why, at) => `${why} Die Seite sendet genau dasselbe von selbst noch einmal${at && `, um ${at}`}.`,
     unanswered: (what, tries, why) =>
-      `${what} wurde ${tries === 1 ? "einmal" : `${figure(tries)}-mal`} gesendet, und es kam keine Antwort. ` +
+      `${what} wurde ${tries === 1 ? "einmal" : `${figure(tries)}-mal`} gesendet, und es kam keine Rückmeldung. ` +
       "Vielleicht ist es angekommen, vielleicht nicht. " +
       `Beim letzten Mal: ${why}`,
     sending: "Wird gesendet…",
     resending: "Dasselbe wird noch einmal gesendet…",
-    noAnswer: "Keine Antwort vom Hub",
+    noReply: "Keine Rückmeldung vom Hub",
     askedToWait: (time) => `Sie sollen bis ${time} warten: Dann sendet die Seite es.`,
     again: "Dasselbe noch einmal senden",
     denied: "Verweigert: Der Hub kennt diese GLN nicht mit diesem Schlüssel, oder das darf nur die andere Seite. Melden Sie sich neu an.",
     tooLarge: "Zu groß: Eine Übertragungsdatei hat höchstens 1.048.576 Byte. Teilen Sie sie.",
-    notTaken: (reply) => `Der Hub hat es nicht angenommen, und nichts wurde geändert. Seine Antwort: ${reply}`,
-    hubSaid: "Antwort des Hubs:",
+    notTaken: (reply) => `Der Hub hat es nicht angenommen, und nichts wurde geändert. Seine Rückmeldung: ${reply}`,
   },
   sendingForm: {
     isBack: "Was Sie hier früher eingegeben haben, ist wieder da. Es wurde nicht gesendet.",
@@ -689,7 +707,7 @@ export const de = {
     what: "Was",
     txt: ".txt herunterladen",
   },
-  session: { begins: (text) => `Die Antwort beginnt mit ${text}` },
+  session: { begins: (text) => `Die Rückmeldung beginnt mit ${text}` },
   signIn: {
     denied:
       "Verweigert: Der Hub kennt diese GLN nicht mit diesem Schlüssel. Prüfen Sie beides, und fragen Sie den Händler, ob Sie zugelassen " +
@@ -714,8 +732,8 @@ export const de = {
     key: "Schlüssel",
     keyHint: "Der Schlüssel, den der Händler Ihnen gegeben hat.",
     wrongKey: "Ein Schlüssel hat 8 bis 64 Buchstaben, Ziffern oder Zeichen, ohne Leerzeichen.",
-    noAnswer: "Der Hub antwortet nicht. Versuchen Sie es gleich noch einmal.",
-    notAHub: (what) => `So antwortet kein Hub: ${what}. Vielleicht fragt Sie zuerst Ihr Netz.`,
+    noReply: "Der Hub meldet sich nicht. Versuchen Sie es gleich noch einmal.",
+    notAHub: (what) => `So meldet sich kein Hub: ${what}. Vielleicht fragt Sie zuerst Ihr Netz.`,
   },
   sortChoice: {
     descending: (title) => `${title}, absteigend`,
@@ -727,8 +745,9 @@ export const de = {
     prefix: "Ihre GS1-Basisnummer",
     first: "Erste laufende Nummer",
     wrongPrefix: "Eine Basisnummer hat 4 bis 12 Ziffern.",
-    prefixHint: "4 bis 12 Ziffern. Damit schlägt die Seite die nächste SSCC vor. Sie bleibt in diesem Tab.",
-    firstHint: "Freiwillig. Die Seite schlägt SSCCs ab dieser Nummer vor, sonst nach Ihrer letzten.",
+    prefixHint:
+      "Die 4 bis 12 Ziffern, die GS1 Ihrem Unternehmen gegeben hat. Damit schlägt die Seite SSCCs vor. Dieser Tab merkt sie sich.",
+    firstHint: "Freiwillig. Der Teil der SSCC, der Ihre Paletten zählt: Die Seite zählt ab hier, sonst nach Ihrer letzten weiter.",
     digitsAlone: "Eine laufende Nummer besteht nur aus Ziffern.",
     prefixToo: "Geben Sie auch Ihre Basisnummer ein: Die laufende Nummer folgt auf sie.",
     tooLong: (prefix, most) => `Nach der Basisnummer ${prefix} hat eine laufende Nummer höchstens ${most} Ziffern.`,
@@ -736,17 +755,17 @@ export const de = {
   },
   start: {
     sides: { supplier: "Lieferant", retailer: "Händler" },
-    withoutAnswer: (documents) => `(${figure(documents)} ohne Antwort)`,
+    withoutReply: (documents) => `(${figure(documents)} ohne Rückmeldung)`,
     tryAfter: (time) => `Nichts ist verloren: Versuchen Sie es nach ${time} noch einmal.`,
     tryInAMoment: "Nichts ist verloren: Versuchen Sie es gleich noch einmal.",
     kept:
       "Dieser Tab behält, was Sie eingegeben haben: Öffnen Sie die Ansicht wieder, und es ist da. Es ist weg, wenn Sie sich abmelden " +
       "oder den Tab schließen.",
     notSentYet: (what) => `${what} ist noch nicht gesendet`,
-    noAnswerYet: (what) => `${what} hat noch keine Antwort`,
+    noReplyYet: (what) => `Noch keine Rückmeldung: ${what}`,
     reload: "Neu laden",
     leave: "Verlassen",
-    noAnswer: "Keine Antwort",
+    noReply: "Keine Rückmeldung",
     notAgain: "Wenn Sie sich abmelden, können Sie dasselbe von hier nicht noch einmal senden.",
     unkept: "Ihr Browser hat keinen Platz für das, was Sie eingegeben haben: Wenn Sie diese Ansicht verlassen oder neu laden, ist es weg.",
     typedGone: "Wenn Sie sich abmelden, ist weg, was Sie eingegeben haben.",
@@ -769,7 +788,7 @@ export const de = {
     noLineFits: "Keine Bestellposition passt.",
     filterLines: "Bestellung oder Artikel",
     noPalletFits: "Keine Palette passt.",
-    filterPallets: "SSCC oder Artikel",
+    filterPallets: "Palette (SSCC) oder Artikel",
     notUnderstood: "Die Seite versteht diese Zeilen des Berichts nicht:",
     refused: "Abgelehnt",
     shares: "Anteile",
@@ -803,7 +822,7 @@ export const de = {
     more: (rows) => `… und ${figure(rows)} weitere`,
     none: "Noch gibt es keine Liste der Lieferanten. Ohne Liste fragen Sie unter Status nach jedem Lieferanten mit seiner GLN.",
     useAnother: "Andere Liste verwenden",
-    give: "Liste angeben",
+    give: "Liste der Lieferanten hinzufügen",
     leftOut: "Dies wurde weggelassen:",
     unkept: "Ihr Browser hat keinen Platz für diese Liste: Wenn Sie die Seite neu laden, ist sie weg.",
     unread: (file) => `${file} neben dieser Seite ließ sich nicht lesen. Die Übersicht versucht es wieder, wenn Sie sie öffnen.`,
@@ -815,7 +834,7 @@ export const de = {
   },
   today: {
     toAnswer: (orders) => counted(orders, "Bestellung zu beantworten", "Bestellungen zu beantworten"),
-    toShip: (lines) => counted(lines, "Position zu liefern", "Positionen zu liefern"),
+    toDespatch: (lines) => counted(lines, "Position zu versenden", "Positionen zu versenden"),
     overdue: (lines) => `davon ${figure(lines)} überfällig`,
     announced: (pallets) => counted(pallets, "Palette avisiert und nicht eingegangen", "Paletten avisiert und nicht eingegangen"),
     receivedShort: (pallets) => `${figure(pallets)} mit Fehlmenge`,
@@ -833,19 +852,19 @@ export const de = {
     order: (order) => `Bestellung ${order}`,
     leftOver: "Ihr Postfach ist noch nicht ganz durchgesehen: Einige Termine und Links fehlen. Der Rest kommt beim nächsten Nachsehen.",
     first: (most) => `Dies sind die ersten ${figure(most)}. Unter Status stehen alle.`,
-    noAnswer: (time) => `Der Hub hat um ${time} nicht geantwortet. Die Seite fragt wieder.`,
+    noReply: (time) => `Der Hub hat sich um ${time} nicht gemeldet. Die Seite fragt wieder.`,
     again: "Jetzt wieder nachsehen",
     ordersTitle: "Zu beantwortende Bestellungen",
-    noOrders: "Keine Bestellung wartet auf eine Antwort.",
+    noOrders: "Keine Bestellung wartet auf Ihre Antwort.",
     lines: "Positionen",
     pieces: "Stück",
-    linesTitle: "Zu liefernde Positionen",
+    linesTitle: "Zu versendende Positionen",
     noLines: "Keine beantwortete Position hat noch etwas offen.",
     noPallets: "Alle Paletten, die Sie avisiert haben, sind eingegangen.",
     articles: "Artikel",
     show: "Zeigen",
     showPallet: (sscc) => `Palette ${sscc} im Status zeigen`,
-    noShort: "Keine neue Fehlmenge. Eine Palette verlässt diese Liste, sobald Sie ihre Wareneingangsmeldung als erledigt markieren.",
+    noShort: "Keine neue Fehlmenge. Eine Palette verlässt diese Liste, sobald Sie ihre Wareneingangsmeldung als gelesen markieren.",
     read: "Meldung lesen",
     readOf: (sscc) => `Meldung zu Palette ${sscc} lesen`,
   },
@@ -858,8 +877,8 @@ export const de = {
   upload: {
     choose: "Wählen Sie .edi-Dateien, oder ziehen Sie sie hierher",
     chooseHint:
-      "Bestellungen (ORDERS) und Wareneingangsmeldungen (RECADV). Eine Datei wird gesendet, wie sie ist, und darf viele Nachrichten " +
-      "haben.",
+      "Bestellungen (ORDERS) und Wareneingangsmeldungen (RECADV). Das Ablegen sendet noch nichts: Die Seite zeigt die Dateien, und Sie " +
+      "senden sie mit einer Schaltfläche. Eine Datei wird gesendet, wie sie ist, und darf viele Nachrichten haben.",
     cannotBeSent: (files) => `${counted(files, "Datei kann", "Dateien können")} nicht gesendet werden: Unten steht, warum.`,
     youAreSending: (files) => `Sie senden ${counted(files, "Datei", "Dateien")}.`,
     send: (files) => `${counted(files, "Datei", "Dateien")} senden`,
@@ -869,8 +888,8 @@ export const de = {
       "Ihr Browser konnte diese Datei nicht lesen. Vielleicht wurde sie verschoben oder geändert: Wählen Sie sie noch einmal. Die " +
       "anderen Dateien werden gesendet.",
     paused:
-      "Eine Datei hat keine Antwort bekommen, deshalb warten die folgenden. Senden Sie diese zuerst noch einmal, oder machen Sie mit " +
-      "den übrigen weiter.",
+      "Zu einer Datei kam keine Rückmeldung, deshalb warten die folgenden. Senden Sie diese zuerst noch einmal, oder machen Sie mit den " +
+      "übrigen weiter.",
     title: "Hochladen",
     remove: "Entfernen",
     removeOne: (name) => `${name} entfernen`,
@@ -880,12 +899,11 @@ export const de = {
     interchange: (reference) => `Übertragungsdatei ${reference}`,
     message: "Nachricht",
     document: "Bestellung oder Meldung",
-    result: "Ergebnis",
   },
   verdict: {
     about: (type, document, supplier) => `(${type} ${document}, Lieferant ${supplier})`,
     message: (reference) => `Nachricht ${reference}`,
     beingSent: "Wird gesendet…",
-    noAnswer: (why) => `Keine Antwort. Vielleicht ist es angekommen, vielleicht nicht. ${why}`,
+    noReply: (why) => `Keine Rückmeldung. Vielleicht ist es angekommen, vielleicht nicht. ${why}`,
   },
 };

@@ -24,7 +24,7 @@ export const en = {
     interchange: "Interchange",
     searchAllSuppliers: "Search all suppliers",
     whatWasSent: "What was sent",
-    notUnderstood: "The page does not understand the hub's answer. It said:",
+    notUnderstood: "The page does not understand the hub's reply. It says:",
     supplier: "Supplier",
     waits: "Waiting for its turn…",
     ordered: "Ordered",
@@ -33,22 +33,23 @@ export const en = {
     announceADespatch: "Announce a despatch",
     continueWithTheRest: "Continue with the rest",
     cancelled: "Cancelled",
-    whatTheHubSaid: "What the hub said",
+    whatTheHubReplied: "What the hub replied",
+    result: "Result",
     labels: "Labels",
     status: "Status",
     entry: (/** @type {string | number} */ number) => `Entry ${number}`,
-    markAsTaken: "Mark as taken",
+    markAsRead: "Mark as read",
     downloadEdi: "Download .edi",
     tryAgain: "Try again",
-    left: "Left",
+    left: "Left to load",
     type: "Type",
     cameIn: "Came in",
     overdue: "Overdue",
-    waitingForAnAnswer: "Waiting for an answer",
+    notAnsweredYet: "Not answered yet",
     openLines: "Open lines",
     noneFetched: "No status is fetched yet: do that in the overview.",
     despatched: "Despatched",
-    answer: "Answer",
+    suppliersAnswer: "Supplier's answer",
     withSomethingOpen: "With something open",
     announcedNotReceived: "Announced, not received",
     withADifference: "With a difference",
@@ -70,15 +71,17 @@ export const en = {
     answerOrder: (/** @type {Child} */ order) => ["Answer order ", order],
     acceptAll: (/** @type {number} */ lines) => (lines === 1 ? "Accept the line" : `Accept all ${figure(lines)} lines`),
     noun: "answer",
-    waitsNoMore: (/** @type {string | number} */ known) => `This line waits no more: it is ${known}.`,
     giveANumber: (/** @type {number} */ least, /** @type {number} */ most) =>
       `Give a whole number from ${figure(least)} to ${figure(most)}.`,
     noOrder: "No order",
     entryIsNoOrder: "This entry is no order",
     numberHint: "Your own reference. Keep this one, or type another.",
     what: (/** @type {string | number} */ order) => `Your answer to order ${order}`,
-    noneWaits: "No line of this order waits for an answer.",
+    noneWaits: "No line of this order waits for your answer.",
     refuseAll: "Refuse all",
+    hint:
+      "Accept: you deliver all that is open. Refuse: you deliver none of it. Change: type how much you deliver in all, with what is " +
+      "despatched already.",
     caption: "Lines of the order, each with your answer",
     yourAnswer: "Your answer",
     changedTo: "Changed to",
@@ -93,8 +96,7 @@ export const en = {
     twice: (/** @type {string | number} */ line) => `Line ${line} is in an earlier row too.`,
     lineMissing: "The line number is missing.",
     noLine: (/** @type {string | number} */ line) => `The order has no line ${line}.`,
-    waitsNoMore: (/** @type {string | number} */ line, /** @type {string | number} */ known) =>
-      `Line ${line} waits no more: it is ${known}.`,
+    isAnswered: (/** @type {string | number} */ line, /** @type {string | number} */ known) => `Line ${line} is answered already: ${known}.`,
     notAnAnswer: (/** @type {string | number} */ word, /** @type {string | number} */ line) =>
       `“${word}” is not an answer to line ${line}. Write accepted, refused or changed.`,
     ofLine: (/** @type {string | number} */ line, /** @type {string | number} */ wrong) => `Line ${line}: ${wrong}`,
@@ -110,12 +112,12 @@ export const en = {
     changed: (/** @type {number} */ count, /** @type {boolean} */ isFirst) =>
       `${isFirst ? counted(count, "line", "lines") : figure(count)} changed`,
     unanswered: (/** @type {number} */ count, /** @type {boolean} */ isFirst) =>
-      `${isFirst ? counted(count, "line", "lines") : figure(count)} left waiting`,
+      `${isFirst ? counted(count, "line", "lines") : figure(count)} left without an answer`,
     change: (/** @type {number} */ from, /** @type {number} */ to) => `from ${figure(from)} to ${figure(to)}`,
     lineRefused: (/** @type {number} */ line) => `Line ${line}: refused`,
     lineChanged: (/** @type {number} */ line, /** @type {string} */ change) => `Line ${line}: ${change}`,
   },
-  answers: /** @type {Record<string, string>} */ ({ W: "waiting", A: "accepted", N: "not accepted", C: "changed" }),
+  answers: /** @type {Record<string, string>} */ ({ W: "not answered yet", A: "accepted", N: "not accepted", C: "changed" }),
   article: {
     yours: (/** @type {Child} */ number) => ["Your article ", number],
     buyers: (/** @type {Child} */ number) => ["Buyer's article ", number],
@@ -123,7 +125,7 @@ export const en = {
   banner: {
     sentAt: (/** @type {string} */ what, /** @type {string} */ time) => `${what}, sent at ${time}:`,
     isBeingSent: (/** @type {string | number} */ what) => `${what} is being sent.`,
-    noAnswer: (/** @type {string | number} */ what) => `${what} was sent, and no answer came. Sending the very same again is safe.`,
+    noReply: (/** @type {string | number} */ what) => `${what} was sent, and no reply came. Sending the very same again is safe.`,
     close: "Close this notice",
   },
   bar: {
@@ -140,7 +142,7 @@ export const en = {
   cancel: {
     nowOpen: (/** @type {number} */ pieces) => `${counted(pieces, "piece is", "pieces are")} open at the moment.`,
     wereOpen: (/** @type {number} */ pieces, /** @type {string} */ time) =>
-      `${counted(pieces, "piece was", "pieces were")} open at ${time}; the hub does not answer just now.`,
+      `${counted(pieces, "piece was", "pieces were")} open at ${time}; the hub does not reply just now.`,
     tooMuch: (/** @type {number} */ open, /** @type {string} */ time) =>
       `Only ${counted(open, "piece is", "pieces are")} open, as of ${time}.`,
     noneOpen: (/** @type {string} */ time) => `Nothing of this line is open any more, as of ${time}.`,
@@ -193,7 +195,7 @@ export const en = {
       `Order ${order}, line ${line}, article ${article}: ${figure(quantity)} of ${counted(open, "open piece", "open pieces")}`,
     lead: (/** @type {string | number} */ given, /** @type {string | number} */ named) => `You cancel ${given}, of supplier ${named}.`,
     giveANumber: (/** @type {number} */ open) => `Give a whole number from 1 to ${figure(open)}.`,
-    asOf: (/** @type {string} */ time) => `The open quantities are those of ${time}: the hub does not answer just now.`,
+    asOf: (/** @type {string} */ time) => `The open quantities are those of ${time}: the hub does not reply just now.`,
     toCancel: "To cancel",
   },
   cancelResults: {
@@ -202,7 +204,7 @@ export const en = {
       const parts = [accepted && `${figure(accepted)} accepted`, others && `${figure(others)} not accepted`];
       return `${counted(all, "cancellation", "cancellations")}: ${parts.filter(Boolean).join(", ")}.`;
     },
-    paused: "A cancellation got no answer, so those after it wait. Send it again first, or continue with the rest.",
+    paused: "A cancellation got no reply, so those after it wait. Send it again first, or continue with the rest.",
     caption: "Cancellations",
     title: "What became of them",
   },
@@ -238,8 +240,8 @@ export const en = {
     noun: "despatch advice",
     numberHint: "The number of your delivery note. Use each only once.",
     numberUsed: "You have sent a despatch advice of this number before. Take another one.",
-    otherPrefix: "The hub says that an SSCC is under none of your prefixes. Look at this one.",
-    ssccUsed: "The hub says that an SSCC was used before, by you or another. Renumber the pallets.",
+    otherPrefix: "The hub reports an SSCC that is under none of your company prefixes. Check this one.",
+    ssccUsed: "The hub reports that an SSCC was used before, by you or another. Take new SSCCs, by the button below the pallets.",
     unknownLine: "The hub does not know one of these order lines. Open the form again.",
     nothingOpen: "Nothing is open: there is nothing to despatch.",
     what: (/** @type {string | number} */ number) => `Your despatch advice ${number}`,
@@ -247,7 +249,7 @@ export const en = {
       `Several orders are called ${order}, but for blanks at the end. Open each in the mailbox first.`,
     collapse: "Collapse all pallets",
     expand: "Expand all pallets",
-    renumber: "Renumber the pallets without a label",
+    renumber: "New SSCCs for pallets without a printed label",
     add: "Add a pallet",
     another: "Another despatch",
   },
@@ -287,7 +289,7 @@ export const en = {
     missing: "No such entry",
     hasNo: (/** @type {string | number} */ number) => `Your mailbox has no entry ${number}.`,
     notUnderstood: "The page does not understand this entry. It is below as the hub gave it.",
-    marked: "Marked as taken: it is no longer listed as new.",
+    marked: "Marked as read: it is no longer listed as new.",
     print: "Print",
   },
   explain: {
@@ -305,7 +307,7 @@ export const en = {
       absent: "This site does not check files. Everything else works without it; whoever set up the page can switch it on.",
       busy: "Other files are being checked at the moment. Try again in a minute.",
       long: "The server of this page does not take a file of this size.",
-      broken: "The server of this page does not answer, so no file can be checked at the moment. Everything else works.",
+      broken: "The server of this page does not reply, so no file can be checked at the moment. Everything else works.",
     },
     lead:
       "See what an EDIFACT file says, or what is wrong with it and where. The file goes to the server of this page, which reads it and " +
@@ -363,6 +365,12 @@ export const en = {
     TU: "traded unit",
     VQ: "variable quantity product",
   }),
+  knownCause: {
+    nothing: "The quantity is 0.",
+    notPieces: (/** @type {string} */ unit) => `The unit “${unit}” is not pieces (PCE).`,
+    notAGtin: (/** @type {string} */ text) => `“${text}” is not a GTIN: look for a wrong digit.`,
+    notADate: (/** @type {string} */ text) => `“${text}” is not a date.`,
+  },
   label: {
     content: "Content",
     several: (/** @type {number} */ articles, /** @type {number} */ pieces) =>
@@ -387,16 +395,17 @@ export const en = {
     stay: "Stay",
   },
   leftLines: {
-    left: (/** @type {number} */ pieces, /** @type {number} */ some, /** @type {number} */ lines) =>
-      `Left: ${counted(pieces, "piece", "pieces")} of ${figure(some)} of ${counted(lines, "line", "lines")}`,
-    nothing: "Left: nothing",
+    left: (/** @type {number} */ pieces, /** @type {number} */ some, /** @type {number} */ lines) => 
+      `Left to load: ${counted(pieces, "piece", "pieces")} of ${figure(some)} of ${counted(lines, "line", "lines")}`,
+    nothing: "Nothing left to load",
     tooMuch: (/** @type {number} */ lines) => `too much of ${counted(lines, "line", "lines")}`,
-    caption: "What is left of the lines",
+    caption: "What is left to load",
     empty: "All that is open is on your pallets.",
     onPallets: "On your pallets",
   },
   lineChoice: {
     hint: (/** @type {number} */ most) => `Tick lines to cancel several at once, at most ${figure(most)}.`,
+    column: "Choose",
     chosen: (/** @type {number} */ lines, /** @type {number} */ pieces) =>
       `${counted(lines, "line", "lines")} chosen, of which ${counted(pieces, "piece is", "pieces are")} open.`,
     cancel: (/** @type {number} */ lines) => `Cancel ${counted(lines, "line", "lines")}…`,
@@ -411,20 +420,20 @@ export const en = {
   mailbox: {
     newEntries: (/** @type {number} */ entries) => counted(entries, "new entry", "new entries"),
     title: "Mailbox",
-    markOne: (/** @type {string | number} */ document) => `Mark ${document} as taken`,
+    markOne: (/** @type {string | number} */ document) => `Mark ${document} as read`,
     caption: "New entries of the mailbox",
-    empty: "No new mail. What you marked as taken is below.",
+    empty: "No new mail. What you marked as read is below.",
     notUnderstoodLines: "The page does not understand these lines of the list:",
     number: "Number",
     document: "Document",
-    notRead: "not read",
+    notLoaded: "not loaded",
     notUnderstood: "not understood",
-    takenCaption: "Entries marked as taken",
-    noneTaken: "Nothing was marked as taken.",
-    showTaken: "Show what was taken",
+    readCaption: "Entries marked as read",
+    noneRead: "Nothing was marked as read.",
+    showRead: "Show read entries",
     showEarlier: "Show earlier ones",
-    takenHint: "Entries that you marked stay readable.",
-    taken: "Taken",
+    readHint: "“Mark as read” moves an entry down to “Read”, where you can still open it. It does not answer the order.",
+    read: "Read",
   },
   menu: {
     today: "Today",
@@ -444,8 +453,8 @@ export const en = {
       return `${open}, ${figure(late)} of them overdue, ${figure(undated)} without a wanted day.`;
     },
     learned: (/** @type {string} */ name, /** @type {number} */ dated, /** @type {number} */ undated) => {
-      const orders = plural(dated, `${figure(dated)} order names its day`, `${figure(dated)} orders name their days`);
-      return `${name}: ${orders}${undated ? `, ${figure(undated)} name none` : ""}.`;
+      const without = undated ? `, ${figure(undated)} without one` : "";
+      return `${name}: wanted day found for ${counted(dated, "order", "orders")}${without}.`;
     },
     choose: "Choose files of orders (ORDERS), or drop them here",
     chooseHint: "They say on which day delivery is wanted. They are only read in this tab, and not sent. A reload forgets them.",
@@ -454,7 +463,7 @@ export const en = {
     undated: "Without a wanted day",
     empty: "No open line fits.",
     filter: "Supplier, order or article",
-    give: "Give files of orders",
+    give: "Add the wanted days from your order files",
     noOrder: (/** @type {string | number} */ name) => `${name}: the page finds no order in it.`,
   },
   order: {
@@ -470,8 +479,12 @@ export const en = {
     price: "Price",
   },
   orderChoice: {
-    open: (/** @type {number} */ lines, /** @type {number} */ pieces) => `${counted(lines, "line", "lines")}, ${figure(pieces)} open`,
-    legend: "Orders that have something open",
+    open: (/** @type {number} */ lines, /** @type {number} */ pieces, /** @type {number} */ unanswered) => {
+      const said = unanswered ? ` (${figure(unanswered)} not answered yet)` : "";
+      return `${counted(lines, "line", "lines")}${said}, ${figure(pieces)} open`;
+    },
+    legend: "Orders in this despatch",
+    unanswered: "You can despatch lines that are not answered yet. Your answer is still expected.",
     chooseOne: "Choose at least one order.",
   },
   orderDates: /** @type {Record<string, string>} */ ({
@@ -504,6 +517,7 @@ export const en = {
   outcomes: /** @type {Record<string, string>} */ ({
     accepted: "Accepted: the hub has taken it, and keeps it.",
     repeated: "The hub had it already: it was accepted before, and nothing was done twice.",
+    partly: "Accepted in part: the hub has refused some of the messages. Sent says which, and why.",
     refused: "Refused: nothing was changed.",
   }),
   overview: {
@@ -539,14 +553,14 @@ export const en = {
       `${counted(lines, "line", "lines")}, ${counted(pieces, "piece", "pieces")}`,
     nothingOnIt: "Nothing on it yet",
     toCorrect: (/** @type {string} */ on, /** @type {number} */ wrong) => `${on}, ${figure(wrong)} to correct`,
-    labelled: "Labelled: its label is printed",
+    labelled: "Its label is printed: keep this SSCC",
     nothing: "Put something on this pallet, or remove it.",
-    hint: "18 digits, typed or scanned. Type 17, and the page adds the check digit.",
+    hint: "The number on the pallet's label: 18 digits, typed or scanned. Type 17, and the page adds the check digit.",
     digits: "An SSCC has 18 digits.",
     lastDigit: (/** @type {string | number} */ digit) => `The last digit should be ${digit}: look for a wrong digit.`,
-    otherPrefix: (/** @type {string | number} */ prefix) => `After its first digit it does not begin with your prefix ${prefix}.`,
+    otherPrefix: (/** @type {string | number} */ prefix) => `After its first digit your company prefix ${prefix} should follow.`,
     twice: "Another pallet of this form has the same SSCC.",
-    used: "You have used this SSCC before. Take a new one: an SSCC is used once, for ever.",
+    used: "You have used this SSCC before. Take a new one: each SSCC is for one pallet only.",
   },
   palletLines: {
     quantityOf: (/** @type {string} */ order, /** @type {number | string} */ line) => `Quantity of order ${order}, line ${line}`,
@@ -580,13 +594,13 @@ export const en = {
   palletStates: /** @type {Record<string, string>} */ ({ A: "announced", R: "received", C: "received, corrected" }),
   palletTools: {
     tooFew: (/** @type {number} */ pieces) => `Only ${plural(pieces, `${figure(pieces)} piece is`, `${figure(pieces)} pieces are`)} on it.`,
-    listAll: (/** @type {number} */ lines) => `List all ${counted(lines, "line", "lines")}`,
-    count: "Split evenly over how many pallets",
+    listAll: (/** @type {number} */ lines) => `Show all ${counted(lines, "line", "lines")}`,
+    count: "Split evenly over this many pallets",
     split: "Split",
-    fill: "Put all that is open on it",
+    fill: "Load all that is left on this pallet",
     copy: "Copy this pallet",
     remove: "Remove this pallet",
-    listOwn: "List only the lines on it",
+    listOwn: "Show only the lines on this pallet",
     giveANumber: (/** @type {number} */ most) => `Give a whole number from 2 to ${figure(most)}.`,
     nothingOnIt: "Put something on this pallet first.",
   },
@@ -594,9 +608,9 @@ export const en = {
     renumbered: (/** @type {number} */ pallets) =>
       plural(pallets, `${figure(pallets)} pallet has a new SSCC.`, `${figure(pallets)} pallets have new SSCCs.`),
     unchanged: (/** @type {number} */ pallets) => `${figure(pallets)} unchanged.`,
-    copied: (/** @type {number} */ pallet) => `Pallet ${pallet} is a copy of it.`,
-    copiedWhatWasLeft: (/** @type {number} */ pallet, /** @type {number} */ pieces) =>
-      `Pallet ${pallet} is a copy of it with what was left: ${counted(pieces, "piece", "pieces")} less.`,
+    copied: (/** @type {number} */ pallet) => `Pallet ${pallet} is a copy of this one.`,
+    copiedWhatWasLeft: (/** @type {number} */ pallet, /** @type {number} */ pieces) => 
+      `Pallet ${pallet} is a copy of this one with what was left to load: ${counted(pieces, "piece", "pieces")} less.`,
     split: (/** @type {number} */ first, /** @type {number} */ last) =>
       `Done: split over this pallet and ${first === last ? `pallet ${first}` : `pallets ${first} to ${last}`}.`,
     placed: (/** @type {number} */ pieces, /** @type {number} */ rows, /** @type {number} */ pallets) => {
@@ -605,9 +619,8 @@ export const en = {
     },
     pallet: (/** @type {number | string} */ pallet) => `Pallet ${pallet}`,
     full: (/** @type {number} */ most) => `A despatch has at most ${figure(most)} pallets.`,
-    heldElsewhere: "A form in another tab of this browser has the same SSCC.",
-    nothingToCopy: "Nothing is on it.",
-    nothingLeft: "Nothing is left of its lines, so there is no copy.",
+    heldElsewhere: "A form in another tab of this browser uses this SSCC already.",
+    nothingLeft: "Nothing of its lines is left to load, so there is no copy.",
   },
   pasteAnswers: {
     taken: (/** @type {number} */ lines) =>
@@ -640,15 +653,15 @@ export const en = {
   prices: /** @type {Record<string, string>} */ ({ AAA: "net", AAB: "gross", CA: "by catalogue", CT: "by contract" }),
   reasons: {
     connection: "The connection broke.",
-    patience: "No answer came for four minutes.",
+    patience: "No reply came for four minutes.",
     cut: "Only a part of it reached the hub (400).",
     slow: "It took too long to reach the hub: your connection is slow (408).",
     "too many": "Too many requests came from your network address (429).",
     busy: "The hub is busy (503).",
     stopped: "The hub stopped while it worked on it (503).",
     away: "The hub is away (502 or 504).",
-    unreadable: "What came back is not an answer of the hub.",
-    reload: "The page was loaded again before an answer came.",
+    unreadable: "What came back is not a reply of the hub.",
+    reload: "The page was loaded again before a reply came.",
   },
   receipt: {
     replacedLater: (/** @type {string} */ advice, /** @type {number} */ pallets, /** @type {string} */ ssccs) =>
@@ -666,7 +679,7 @@ export const en = {
     denied: "Denied: sign out and in again.",
     unknown: "Not known to the hub.",
     unreadable: "The page does not understand all of the report: open its status.",
-    noAnswer: (/** @type {string | number} */ reason) => `No answer. ${reason}`,
+    noReply: (/** @type {string | number} */ reason) => `No reply. ${reason}`,
   },
   rows: {
     line: ["line"],
@@ -691,27 +704,26 @@ export const en = {
   },
   searchForm: {
     tooShort: (/** @type {number} */ least) => `Give at least ${figure(least)} characters.`,
-    label: "Order, article or SSCC",
+    label: "Order, article or pallet (SSCC)",
   },
   sending: {
-    first: "Something that you sent before has no answer yet. Send that again first, by the button at the top of the page.",
+    first: "Something that you sent before has no reply yet. Send that again first, by the button at the top of the page.",
     safe: "Sending it again is safe: the hub remembers the reference, and never does the same twice.",
     held: (/** @type {string} */ why, /** @type {string} */ at) =>
       `${why} It was not done. The page sends it by itself${at && `, at ${at}`}.`,
     pausing: (/** @type {string} */ why, /** @type {string} */ at) =>
       `${why} The page sends the very same again, by itself${at && `, at ${at}`}.`,
     unanswered: (/** @type {string} */ what, /** @type {number} */ tries, /** @type {string} */ why) =>
-      `${what} was sent ${tries === 1 ? "once" : `${tries} times`}, and no answer came. It may have arrived or not. ` +
-      `Of the last time: ${why}`,
+      `${what} was sent ${tries === 1 ? "once" : `${tries} times`}, and no reply came. It may have arrived or not. ` +
+      `The last time: ${why}`,
     sending: "Sending…",
     resending: "Sending the same again…",
-    noAnswer: "No answer from the hub",
+    noReply: "No reply from the hub",
     askedToWait: (/** @type {string | number} */ time) => `You are asked to wait until ${time}: the page will send it then.`,
     again: "Send the same again",
     denied: "Denied: the hub does not know this GLN with this key, or the other side asks this. Sign in again.",
     tooLarge: "Too large: an interchange has at most 1,048,576 bytes. Split it.",
-    notTaken: (/** @type {string | number} */ reply) => `The hub did not take it, and nothing was changed. It said: ${reply}`,
-    hubSaid: "The hub said:",
+    notTaken: (/** @type {string | number} */ reply) => `The hub did not take it, and nothing was changed. It replied: ${reply}`,
   },
   sendingForm: {
     isBack: "What you typed here before is back. It was not sent.",
@@ -749,8 +761,8 @@ export const en = {
     key: "Key",
     keyHint: "The key that the retailer gave to you.",
     wrongKey: "A key has 8 to 64 letters, digits or signs, without blanks.",
-    noAnswer: "The hub does not answer. Try again in a moment.",
-    notAHub: (/** @type {string | number} */ what) => `This is not what a hub answers: ${what}. Perhaps your network asks you first.`,
+    noReply: "The hub does not reply. Try again in a moment.",
+    notAHub: (/** @type {string | number} */ what) => `This is not what a hub replies: ${what}. Perhaps your network asks you first.`,
   },
   sortChoice: {
     descending: (/** @type {string} */ title) => `${title}, descending`,
@@ -762,8 +774,8 @@ export const en = {
     prefix: "Your GS1 company prefix",
     first: "First serial number",
     wrongPrefix: "A company prefix has 4 to 12 digits.",
-    prefixHint: "4 to 12 digits. With it the page proposes the next SSCC. It stays in this tab.",
-    firstHint: "Optional. The page proposes SSCCs from this number on; otherwise after your last one.",
+    prefixHint: "The 4 to 12 digits that GS1 gave your company. With them the page proposes SSCCs. This tab remembers them.",
+    firstHint: "Optional. The part of an SSCC that counts your pallets: the page counts from here on, or else after your last one.",
     digitsAlone: "A serial number has digits alone.",
     prefixToo: "Give your company prefix too: the serial number comes after it.",
     tooLong: (/** @type {string | number} */ prefix, /** @type {string | number} */ most) =>
@@ -772,15 +784,15 @@ export const en = {
   },
   start: {
     sides: { supplier: "Supplier", retailer: "Retailer" },
-    withoutAnswer: (/** @type {number} */ documents) => `(${figure(documents)} without answer)`,
+    withoutReply: (/** @type {number} */ documents) => `(${figure(documents)} without a reply)`,
     tryAfter: (/** @type {string} */ time) => `Nothing is lost: try again after ${time}.`,
     tryInAMoment: "Nothing is lost: try again in a moment.",
     kept: "This tab keeps what you typed: open the screen again, and it is there. It is gone when you sign out or close the tab.",
     notSentYet: (/** @type {string} */ what) => `${what} is not sent yet`,
-    noAnswerYet: (/** @type {string} */ what) => `${what} has no answer yet`,
+    noReplyYet: (/** @type {string} */ what) => `${what} has no reply yet`,
     reload: "Reload",
     leave: "Leave",
-    noAnswer: "No answer",
+    noReply: "No reply",
     notAgain: "If you sign out, the same cannot be sent again from here.",
     unkept: "Your browser has no room to keep what you typed: if you leave this screen or load the page again, it is gone.",
     typedGone: "If you sign out, what you typed is gone.",
@@ -803,7 +815,7 @@ export const en = {
     noLineFits: "No order line fits.",
     filterLines: "Order or article",
     noPalletFits: "No pallet fits.",
-    filterPallets: "SSCC or article",
+    filterPallets: "Pallet (SSCC) or article",
     notUnderstood: "The page does not understand these lines of the report:",
     refused: "Refused",
     shares: "Shares",
@@ -836,7 +848,7 @@ export const en = {
     more: (/** @type {number} */ rows) => `… and ${figure(rows)} more`,
     none: "There is no list of suppliers yet. Without one, ask for each supplier under Status, by its GLN.",
     useAnother: "Use another list",
-    give: "Give a list",
+    give: "Add a list of suppliers",
     leftOut: "This was left out:",
     unkept: "Your browser has no room to keep this list: if you load the page again, it is gone.",
     unread: (/** @type {string} */ file) => `${file} beside this page could not be read. The overview tries again when you open it.`,
@@ -849,7 +861,7 @@ export const en = {
   },
   today: {
     toAnswer: (/** @type {number} */ orders) => counted(orders, "order to answer", "orders to answer"),
-    toShip: (/** @type {number} */ lines) => counted(lines, "line to ship", "lines to ship"),
+    toDespatch: (/** @type {number} */ lines) => counted(lines, "line to despatch", "lines to despatch"),
     overdue: (/** @type {number} */ lines) => `${figure(lines)} of them overdue`,
     announced: (/** @type {number} */ pallets) =>
       counted(pallets, "pallet announced and not received", "pallets announced and not received"),
@@ -867,19 +879,19 @@ export const en = {
     order: (/** @type {string} */ order) => `order ${order}`,
     leftOver: "Not all of your mailbox is looked through yet: some dates and links are missing. The rest comes with the next looks.",
     first: (/** @type {number} */ most) => `These are the first ${figure(most)}. Status has all of them.`,
-    noAnswer: (/** @type {string | number} */ time) => `The hub did not answer at ${time}. The page asks again.`,
+    noReply: (/** @type {string | number} */ time) => `The hub did not reply at ${time}. The page asks again.`,
     again: "Look again now",
     ordersTitle: "Orders to answer",
-    noOrders: "No order waits for an answer.",
+    noOrders: "No order waits for your answer.",
     lines: "Lines",
     pieces: "Pieces",
-    linesTitle: "Lines to ship",
+    linesTitle: "Lines to despatch",
     noLines: "No answered line has anything open.",
     noPallets: "All pallets that you announced are received.",
     articles: "Articles",
     show: "Show",
     showPallet: (/** @type {string | number} */ sscc) => `Show pallet ${sscc} in the status`,
-    noShort: "Nothing new was received short. A pallet leaves this list once you mark its receiving advice as taken.",
+    noShort: "Nothing new was received short. A pallet leaves this list once you mark its receiving advice as read.",
     read: "Read the advice",
     readOf: (/** @type {string | number} */ sscc) => `Read the advice of pallet ${sscc}`,
   },
@@ -891,7 +903,9 @@ export const en = {
   }),
   upload: {
     choose: "Choose .edi files, or drop them here",
-    chooseHint: "Orders (ORDERS) and receiving advices (RECADV). A file is sent as it is, and may have many messages.",
+    chooseHint:
+      "Orders (ORDERS) and receiving advices (RECADV). Dropping a file does not send it yet: the page lists the files, and you send them " +
+      "by a button. A file is sent as it is, and may have many messages.",
     cannotBeSent: (/** @type {number} */ files) => `${counted(files, "file", "files")} cannot be sent: it says below why.`,
     youAreSending: (/** @type {number} */ files) => `You are sending ${counted(files, "file", "files")}.`,
     send: (/** @type {number} */ files) => `Send ${counted(files, "file", "files")}`,
@@ -899,7 +913,7 @@ export const en = {
       `${messages}, ${counted(bytes, "byte", "bytes")}. Not sent yet.`,
     unread: (/** @type {number} */ bytes) => `${counted(bytes, "byte", "bytes")}, in a spelling that the page does not read. Not sent yet.`,
     unreadable: "Your browser could not read this file. Perhaps it was moved or changed: choose it again. The other files are sent.",
-    paused: "A file got no answer, so those after it wait. Send it again first, or continue with the rest.",
+    paused: "A file got no reply, so those after it wait. Send it again first, or continue with the rest.",
     title: "Upload",
     remove: "Remove",
     removeOne: (/** @type {string | number} */ name) => `Remove ${name}`,
@@ -909,13 +923,12 @@ export const en = {
     interchange: (/** @type {string | number} */ reference) => `Interchange ${reference}`,
     message: "Message",
     document: "Order or advice",
-    result: "Result",
   },
   verdict: {
     about: (/** @type {string} */ type, /** @type {string} */ document, /** @type {string} */ supplier) =>
       `(${type} ${document}, supplier ${supplier})`,
     message: (/** @type {string} */ reference) => `Message ${reference}`,
     beingSent: "Being sent…",
-    noAnswer: (/** @type {string | number} */ why) => `No answer. It may have arrived or not. ${why}`,
+    noReply: (/** @type {string | number} */ why) => `No reply. It may have arrived or not. ${why}`,
   },
 };

@@ -23,7 +23,7 @@ export const fr = {
     interchange: "Interchange",
     searchAllSuppliers: "Chercher chez tous les fournisseurs",
     whatWasSent: "Ce qui a été envoyé",
-    notUnderstood: "La page ne comprend pas la réponse du hub. La voici :",
+    notUnderstood: "La page ne comprend pas le retour du hub. Le voici :",
     supplier: "Fournisseur",
     waits: "Attend son tour…",
     ordered: "Commandé",
@@ -32,22 +32,23 @@ export const fr = {
     announceADespatch: "Annoncer une expédition",
     continueWithTheRest: "Continuer avec la suite",
     cancelled: "Annulé",
-    whatTheHubSaid: "Réponse du hub",
+    whatTheHubReplied: "Retour du hub",
+    result: "Résultat",
     labels: "Étiquettes",
     status: "Statut",
     entry: (number) => `Entrée ${number}`,
-    markAsTaken: "Marquer comme traité",
+    markAsRead: "Marquer comme lu",
     downloadEdi: "Télécharger .edi",
     tryAgain: "Réessayer",
-    left: "Reste",
+    left: "Reste à charger",
     type: "Type",
     cameIn: "Arrivé",
     overdue: "En retard",
-    waitingForAnAnswer: "En attente d'une réponse",
+    notAnsweredYet: "Encore sans réponse",
     openLines: "Lignes ouvertes",
     noneFetched: "Aucun statut n'est encore relevé : faites-le dans la vue d'ensemble.",
     despatched: "Expédié",
-    answer: "Réponse",
+    suppliersAnswer: "Réponse du fournisseur",
     withSomethingOpen: "Avec une quantité ouverte",
     announcedNotReceived: "Annoncé, non reçu",
     withADifference: "Avec un écart",
@@ -69,14 +70,16 @@ export const fr = {
     answerOrder: (order) => ["Répondre à la commande ", order],
     acceptAll: (lines) => (lines === 1 ? "Accepter la ligne" : `Accepter les ${figure(lines)} lignes`),
     noun: "la réponse",
-    waitsNoMore: (known) => `Cette ligne n'attend plus de réponse : elle est ${known}.`,
     giveANumber: (least, most) => `Indiquez un nombre entier de ${figure(least)} à ${figure(most)}.`,
     noOrder: "Pas de commande",
     entryIsNoOrder: "Cette entrée n'est pas une commande",
     numberHint: "À votre choix ; la proposition vient de l'horloge.",
     what: (order) => `Votre réponse à la commande ${order}`,
-    noneWaits: "Aucune ligne de cette commande n'attend de réponse.",
+    noneWaits: "Aucune ligne de cette commande n'attend votre réponse.",
     refuseAll: "Tout refuser",
+    hint:
+      "Accepter : vous livrez tout ce qui est ouvert. Refuser : vous n'en livrez rien. Modifier : indiquez combien vous livrez en tout, " +
+      "avec ce qui est déjà expédié.",
     caption: "Lignes de la commande, chacune avec votre réponse",
     yourAnswer: "Votre réponse",
     changedTo: "Modifié en",
@@ -90,7 +93,7 @@ export const fr = {
     twice: (line) => `La ligne ${line} figure déjà dans un rang précédent.`,
     lineMissing: "Le numéro de ligne manque.",
     noLine: (line) => `La commande n'a pas de ligne ${line}.`,
-    waitsNoMore: (line, known) => `La ligne ${line} n'attend plus de réponse : elle est ${known}.`,
+    isAnswered: (line, known) => `La ligne ${line} a déjà sa réponse : ${known}.`,
     notAnAnswer: (word, line) => `« ${word} » n'est pas une réponse à la ligne ${line}. Écrivez acceptée, refusée ou modifiée.`,
     ofLine: (line, wrong) => `Ligne ${line} : ${wrong}`,
     giveANumber: (least, most) => `indiquez un nombre entier de ${figure(least)} à ${figure(most)}.`,
@@ -106,7 +109,7 @@ export const fr = {
     lineRefused: (line) => `Ligne ${line} : refusée`,
     lineChanged: (line, change) => `Ligne ${line} : ${change}`,
   },
-  answers: { W: "en attente", A: "acceptée", N: "non acceptée", C: "modifiée" },
+  answers: { W: "encore sans réponse", A: "acceptée", N: "non acceptée", C: "modifiée" },
   article: {
     yours: (number) => ["Votre article ", number],
     buyers: (number) => ["Article de l'acheteur ", number],
@@ -114,7 +117,7 @@ export const fr = {
   banner: {
     sentAt: (what, time) => `${what}, envoi à ${time} :`,
     isBeingSent: (what) => `Envoi en cours : ${what}.`,
-    noAnswer: (what) => `${what} : aucune réponse n'est venue après l'envoi. Vous pouvez renvoyer exactement la même chose sans risque.`,
+    noReply: (what) => `${what} : aucun retour du hub après l'envoi. Vous pouvez renvoyer exactement la même chose sans risque.`,
     close: "Fermer ce message",
   },
   bar: {
@@ -181,7 +184,7 @@ export const fr = {
       ];
       return `${counted(all, "annulation", "annulations")} : ${parts.filter(Boolean).join(", ")}.`;
     },
-    paused: "Une annulation n'a pas eu de réponse, les suivantes attendent donc. Renvoyez-la d'abord, ou continuez avec la suite.",
+    paused: "Une annulation est restée sans retour du hub, les suivantes attendent donc. Renvoyez-la d'abord, ou continuez avec la suite.",
     caption: "Annulations",
     title: "Ce qu'elles sont devenues",
   },
@@ -216,7 +219,8 @@ export const fr = {
     numberHint: "Celui de votre bon de livraison. Chacun ne sert qu'une fois.",
     numberUsed: "Vous avez déjà envoyé un avis d'expédition de ce numéro. Prenez-en un autre.",
     otherPrefix: "Le hub signale qu'un SSCC ne relève d'aucun de vos préfixes. Vérifiez celui-ci.",
-    ssccUsed: "Le hub signale qu'un SSCC a déjà servi, à vous ou à quelqu'un d'autre. Renumérotez les palettes.",
+    ssccUsed:
+      "Le hub signale qu'un SSCC a déjà servi, à vous ou à quelqu'un d'autre. Prenez de nouveaux SSCC, avec le bouton sous les palettes.",
     unknownLine: "Le hub ne connaît pas l'une de ces lignes de commande. Rouvrez le formulaire.",
     nothingOpen: "Rien n'est ouvert : il n'y a rien à annoncer.",
     what: (number) => `Votre avis d'expédition ${number}`,
@@ -224,7 +228,7 @@ export const fr = {
       `Plusieurs commandes s'appellent ${order}, à des espaces près à la fin. Ouvrez d'abord chacune dans la boîte de réception.`,
     collapse: "Replier toutes les palettes",
     expand: "Déplier toutes les palettes",
-    renumber: "Renuméroter les palettes sans étiquette",
+    renumber: "Nouveaux SSCC pour les palettes sans étiquette imprimée",
     add: "Ajouter une palette",
     another: "Autre expédition",
   },
@@ -259,7 +263,7 @@ export const fr = {
     missing: "Cette entrée n'existe pas",
     hasNo: (number) => `Votre boîte de réception n'a pas d'entrée ${number}.`,
     notUnderstood: "La page ne comprend pas cette entrée. Elle figure ci-dessous telle que le hub l'a donnée.",
-    marked: "Marqué comme traité : cette entrée ne figure plus parmi les nouvelles.",
+    marked: "Marqué comme lu : cette entrée ne figure plus parmi les nouvelles.",
     print: "Imprimer",
   },
   explain: {
@@ -330,6 +334,12 @@ export const fr = {
     TU: "unité commerciale",
     VQ: "produit à quantité variable",
   },
+  knownCause: {
+    nothing: "La quantité est 0.",
+    notPieces: (unit) => `L'unité « ${unit} » n'est pas la pièce (PCE).`,
+    notAGtin: (text) => `« ${text} » n'est pas un GTIN : cherchez un chiffre faux.`,
+    notADate: (text) => `« ${text} » n'est pas une date.`,
+  },
   label: {
     content: "Contenu",
     several: (articles, pieces) => `${counted(articles, "article", "articles")}, ${counted(pieces, "pièce", "pièces")}`,
@@ -353,16 +363,17 @@ export const fr = {
   languageChoice: { label: "Langue", own: "Français" },
   leaving: { stay: "Rester" },
   leftLines: {
-    left: (pieces, some, lines) =>
-      `Reste : ${counted(pieces, "pièce", "pièces")} de ${figure(some)} sur ${counted(lines, "ligne", "lignes")}`,
-    nothing: "Reste : rien",
+    left: (pieces, some, lines) => 
+      `Reste à charger : ${counted(pieces, "pièce", "pièces")} de ${figure(some)} sur ${counted(lines, "ligne", "lignes")}`,
+    nothing: "Rien ne reste à charger",
     tooMuch: (lines) => `trop de ${counted(lines, "ligne", "lignes")}`,
-    caption: "Ce qui reste des lignes",
+    caption: "Ce qui reste à charger",
     empty: "Tout ce qui est ouvert est sur vos palettes.",
     onPallets: "Sur vos palettes",
   },
   lineChoice: {
     hint: (most) => `Cochez des lignes pour en annuler plusieurs à la fois, au plus ${figure(most)}.`,
+    column: "Choix",
     chosen: (lines, pieces) =>
       `${counted(lines, "ligne choisie", "lignes choisies")}, dont ${counted(pieces, "pièce ouverte", "pièces ouvertes")}.`,
     cancel: (lines) => `Annuler ${counted(lines, "ligne", "lignes")}…`,
@@ -376,20 +387,21 @@ export const fr = {
   mailbox: {
     newEntries: (entries) => counted(entries, "nouvelle entrée", "nouvelles entrées"),
     title: "Boîte de réception",
-    markOne: (document) => `Marquer ${document} comme traité`,
+    markOne: (document) => `Marquer ${document} comme lu`,
     caption: "Nouvelles entrées de la boîte de réception",
-    empty: "Rien de nouveau. Ce que vous avez marqué comme traité figure ci-dessous.",
+    empty: "Rien de nouveau. Ce que vous avez marqué comme lu figure ci-dessous.",
     notUnderstoodLines: "La page ne comprend pas ces lignes de la liste :",
     number: "Numéro",
     document: "Document",
-    notRead: "non lu",
+    notLoaded: "non chargé",
     notUnderstood: "non compris",
-    takenCaption: "Entrées marquées comme traitées",
-    noneTaken: "Rien n'est marqué comme traité.",
-    showTaken: "Afficher ce qui est traité",
+    readCaption: "Entrées marquées comme lues",
+    noneRead: "Rien n'est marqué comme lu.",
+    showRead: "Afficher les entrées lues",
     showEarlier: "Afficher les précédentes",
-    takenHint: "Les entrées que vous avez marquées restent lisibles.",
-    taken: "Traité",
+    readHint:
+      "« Marquer comme lu » déplace une entrée plus bas, sous « Lu », où vous pouvez toujours l'ouvrir. Cela ne répond pas à la commande.",
+    read: "Lu",
   },
   menu: {
     today: "Aujourd'hui",
@@ -409,8 +421,8 @@ export const fr = {
       return `${open} de ${of}, dont ${figure(late)} en retard et ${figure(undated)} sans date souhaitée.`;
     },
     learned: (name, dated, undated) => {
-      const orders = counted(dated, "commande indique sa date", "commandes indiquent leur date");
-      return `${name} : ${orders}${undated ? `, ${counted(undated, "n'en indique aucune", "n'en indiquent aucune")}` : ""}.`;
+      const without = undated ? `, ${figure(undated)} sans date` : "";
+      return `${name} : date souhaitée trouvée pour ${counted(dated, "commande", "commandes")}${without}.`;
     },
     choose: "Choisissez des fichiers de commandes (ORDERS), ou déposez-les ici",
     chooseHint:
@@ -421,7 +433,7 @@ export const fr = {
     undated: "Sans date souhaitée",
     empty: "Aucune ligne ouverte ne correspond.",
     filter: "Fournisseur, commande ou article",
-    give: "Donner des fichiers de commandes",
+    give: "Ajouter les dates souhaitées depuis vos fichiers de commandes",
     noOrder: (name) => `${name} : la page n'y trouve aucune commande.`,
   },
   order: {
@@ -437,8 +449,12 @@ export const fr = {
     price: "Prix",
   },
   orderChoice: {
-    open: (lines, pieces) => `${counted(lines, "ligne", "lignes")}, ${counted(pieces, "ouverte", "ouvertes")}`,
-    legend: "Commandes avec une quantité ouverte",
+    open: (lines, pieces, unanswered) => {
+      const said = unanswered ? ` (${figure(unanswered)} sans réponse)` : "";
+      return `${counted(lines, "ligne", "lignes")}${said}, ${counted(pieces, "ouverte", "ouvertes")}`;
+    },
+    legend: "Commandes de cette expédition",
+    unanswered: "Vous pouvez expédier des lignes encore sans réponse. Votre réponse reste attendue.",
     chooseOne: "Choisissez au moins une commande.",
   },
   orderDates: {
@@ -465,6 +481,7 @@ export const fr = {
   outcomes: {
     accepted: "Accepté : le hub l'a pris, et le conserve.",
     repeated: "Le hub l'avait déjà : il a été accepté auparavant, et rien n'a été fait deux fois.",
+    partly: "Accepté en partie : le hub a refusé certains messages. « Envois » dit lesquels, et pourquoi.",
     refused: "Refusé : rien n'a été modifié.",
   },
   overview: {
@@ -499,14 +516,14 @@ export const fr = {
     on: (lines, pieces) => `${counted(lines, "ligne", "lignes")}, ${counted(pieces, "pièce", "pièces")}`,
     nothingOnIt: "Encore rien dessus",
     toCorrect: (on, wrong) => `${on}, ${figure(wrong)} à corriger`,
-    labelled: "Étiquetée : son étiquette est imprimée",
+    labelled: "Étiquette imprimée : garder ce SSCC",
     nothing: "Mettez quelque chose sur cette palette, ou retirez-la.",
-    hint: "18 chiffres, tapés ou scannés. Tapez-en 17, et la page ajoute le chiffre de contrôle.",
+    hint: "Le numéro sur l'étiquette de la palette : 18 chiffres, tapés ou scannés. Tapez-en 17, et la page ajoute le chiffre de contrôle.",
     digits: "Un SSCC a 18 chiffres.",
     lastDigit: (digit) => `Le dernier chiffre devrait être ${digit} : cherchez un chiffre faux.`,
-    otherPrefix: (prefix) => `Après son premier chiffre, il ne commence pas par votre préfixe ${prefix}.`,
+    otherPrefix: (prefix) => `Après son premier chiffre devrait venir votre préfixe ${prefix}.`,
     twice: "Une autre palette de ce formulaire a le même SSCC.",
-    used: "Vous avez déjà utilisé ce SSCC. Prenez-en un nouveau : un SSCC ne sert qu'une fois, pour toujours.",
+    used: "Vous avez déjà utilisé ce SSCC. Prenez-en un nouveau : chaque SSCC ne vaut que pour une palette.",
   },
   palletLines: {
     quantityOf: (order, line) => `Quantité de la commande ${order}, ligne ${line}`,
@@ -539,21 +556,21 @@ export const fr = {
   palletTools: {
     tooFew: (pieces) => `Seulement ${counted(pieces, "pièce est", "pièces sont")} dessus.`,
     listAll: (lines) => `Afficher ${plural(lines, "la", "les")} ${counted(lines, "ligne", "lignes")}`,
-    count: "Répartir également sur combien de palettes",
+    count: "Répartir également sur ce nombre de palettes",
     split: "Répartir",
-    fill: "Y mettre tout ce qui est ouvert",
+    fill: "Charger tout le reste sur cette palette",
     copy: "Copier cette palette",
     remove: "Retirer cette palette",
-    listOwn: "Afficher seulement ses lignes",
+    listOwn: "Afficher seulement les lignes de cette palette",
     giveANumber: (most) => `Indiquez un nombre entier de 2 à ${figure(most)}.`,
     nothingOnIt: "Mettez d'abord quelque chose sur cette palette.",
   },
   pallets: {
     renumbered: (pallets) => `${counted(pallets, "palette a un nouveau SSCC", "palettes ont de nouveaux SSCC")}.`,
     unchanged: (pallets) => `${counted(pallets, "inchangée", "inchangées")}.`,
-    copied: (pallet) => `La palette ${pallet} en est une copie.`,
-    copiedWhatWasLeft: (pallet, pieces) =>
-      `La palette ${pallet} en est une copie avec ce qui restait : ${counted(pieces, "pièce", "pièces")} de moins.`,
+    copied: (pallet) => `La palette ${pallet} est une copie de celle-ci.`,
+    copiedWhatWasLeft: (pallet, pieces) => 
+      `La palette ${pallet} est une copie de celle-ci avec ce qui restait à charger : ${counted(pieces, "pièce", "pièces")} de moins.`,
     split: (first, last) =>
       `Terminé : réparti sur cette palette et ${first === last ? `la palette ${first}` : `les palettes ${first} à ${last}`}.`,
     placed: (pieces, rows, pallets) => {
@@ -562,9 +579,8 @@ export const fr = {
     },
     pallet: (pallet) => `Palette ${pallet}`,
     full: (most) => `Une expédition a au plus ${figure(most)} palettes.`,
-    heldElsewhere: "Un formulaire dans un autre onglet de ce navigateur a le même SSCC.",
-    nothingToCopy: "Il n'y a rien dessus.",
-    nothingLeft: "Il ne reste rien de ses lignes, il n'y a donc pas de copie.",
+    heldElsewhere: "Un formulaire dans un autre onglet de ce navigateur utilise déjà ce SSCC.",
+    nothingLeft: "Rien ne reste à charger de ses lignes, il n'y a donc pas de copie.",
   },
   pasteAnswers: {
     taken: (lines) =>
@@ -599,15 +615,15 @@ export const fr = {
   prices: { AAA: "net", AAB: "brut", CA: "selon catalogue", CT: "selon contrat" },
   reasons: {
     connection: "La connexion s'est interrompue.",
-    patience: "Aucune réponse n'est venue en quatre minutes.",
+    patience: "Aucun retour du hub en quatre minutes.",
     cut: "Seule une partie est arrivée au hub (400).",
     slow: "L'envoi au hub a pris trop de temps : votre connexion est lente (408).",
     "too many": "Trop de demandes sont venues de votre adresse réseau (429).",
     busy: "Le hub est occupé (503).",
     stopped: "Le hub s'est arrêté pendant le traitement (503).",
     away: "Le hub est absent (502 ou 504).",
-    unreadable: "Ce qui est revenu n'est pas une réponse du hub.",
-    reload: "La page a été rechargée avant l'arrivée d'une réponse.",
+    unreadable: "Ce qui est revenu ne vient pas du hub.",
+    reload: "La page a été rechargée avant le retour du hub.",
   },
   receipt: {
     replacedLater: (advice, pallets, ssccs) =>
@@ -624,7 +640,7 @@ export const fr = {
     denied: "Refus : déconnectez-vous et reconnectez-vous.",
     unknown: "Inconnu du hub.",
     unreadable: "La page ne comprend pas tout le rapport : ouvrez le statut.",
-    noAnswer: (reason) => `Pas de réponse. ${reason}`,
+    noReply: (reason) => `Pas de retour. ${reason}`,
   },
   rows: {
     line: ["ligne"],
@@ -653,25 +669,24 @@ export const fr = {
   },
   searchForm: {
     tooShort: (least) => `Donnez au moins ${figure(least)} caractères.`,
-    label: "Commande, article ou SSCC",
+    label: "Commande, article ou palette (SSCC)",
   },
   sending: {
-    first: "Un envoi précédent n'a pas encore de réponse. Renvoyez-le d'abord, avec le bouton en haut de la page.",
+    first: "Un envoi précédent est encore sans retour du hub. Renvoyez-le d'abord, avec le bouton en haut de la page.",
     safe: "Renvoyer est sans risque : le hub retient la référence, et ne fait jamais deux fois la même chose.",
     held: (why, at) => `${why} Cela n'a pas été fait. La page l'envoie d'elle-même${at && `, à ${at}`}.`,
     pausing: (why, at) => `${why} La page renvoie exactement la même chose, d'elle-même${at && `, à ${at}`}.`,
     unanswered: (what, tries, why) =>
-      `${what} : ${tries === 1 ? "un envoi" : `${figure(tries)} envois`}, et aucune réponse. C'est peut-être arrivé, peut-être pas. ` +
+      `${what} : ${tries === 1 ? "un envoi" : `${figure(tries)} envois`}, et aucun retour. C'est peut-être arrivé, peut-être pas. ` +
       `La dernière fois : ${why}`,
     sending: "Envoi en cours…",
     resending: "Nouvel envoi de la même chose…",
-    noAnswer: "Pas de réponse du hub",
+    noReply: "Pas de retour du hub",
     askedToWait: (time) => `Vous êtes prié d'attendre jusqu'à ${time} : la page l'enverra alors.`,
     again: "Renvoyer la même chose",
     denied: "Refus : le hub ne connaît pas ce GLN avec cette clé, ou cette demande est réservée à l'autre partie. Reconnectez-vous.",
     tooLarge: "Trop grand : un interchange a au plus 1 048 576 octets. Divisez-le.",
-    notTaken: (reply) => `Le hub ne l'a pas pris, et rien n'a été modifié. Sa réponse : ${reply}`,
-    hubSaid: "Réponse du hub :",
+    notTaken: (reply) => `Le hub ne l'a pas pris, et rien n'a été modifié. Son retour : ${reply}`,
   },
   sendingForm: {
     isBack: "Ce que vous aviez saisi ici est de retour. Cela n'a pas été envoyé.",
@@ -689,7 +704,7 @@ export const fr = {
     what: "Quoi",
     txt: "Télécharger .txt",
   },
-  session: { begins: (text) => `elle commence par ${text}` },
+  session: { begins: (text) => `cela commence par ${text}` },
   signIn: {
     denied: "Refus : le hub ne connaît pas ce GLN avec cette clé. Vérifiez les deux, et demandez au distributeur si vous êtes admis.",
     kept:
@@ -710,8 +725,8 @@ export const fr = {
     key: "Clé",
     keyHint: "La clé que le distributeur vous a donnée.",
     wrongKey: "Une clé a de 8 à 64 lettres, chiffres ou signes, sans espaces.",
-    noAnswer: "Le hub ne répond pas. Réessayez dans un instant.",
-    notAHub: (what) => `Ce n'est pas la réponse d'un hub : ${what}. Votre réseau vous demande peut-être d'abord quelque chose.`,
+    noReply: "Le hub ne répond pas. Réessayez dans un instant.",
+    notAHub: (what) => `Ce n'est pas ce que renvoie un hub : ${what}. Votre réseau vous demande peut-être d'abord quelque chose.`,
   },
   sortChoice: {
     descending: (title) => `${title}, décroissant`,
@@ -723,8 +738,8 @@ export const fr = {
     prefix: "Votre préfixe entreprise GS1",
     first: "Premier numéro de série",
     wrongPrefix: "Un préfixe entreprise a de 4 à 12 chiffres.",
-    prefixHint: "De 4 à 12 chiffres. Avec lui, la page propose le SSCC suivant. Il reste dans cet onglet.",
-    firstHint: "Facultatif. La page propose des SSCC à partir de ce numéro, sinon après votre dernier.",
+    prefixHint: "Les 4 à 12 chiffres que GS1 a donnés à votre entreprise. Avec eux, la page propose des SSCC. Cet onglet les retient.",
+    firstHint: "Facultatif. La partie du SSCC qui compte vos palettes : la page compte à partir d'ici, sinon après votre dernière.",
     digitsAlone: "Un numéro de série n'a que des chiffres.",
     prefixToo: "Donnez aussi votre préfixe entreprise : le numéro de série vient après lui.",
     tooLong: (prefix, most) => `Après le préfixe ${prefix}, un numéro de série a au plus ${most} chiffres.`,
@@ -732,17 +747,17 @@ export const fr = {
   },
   start: {
     sides: { supplier: "Fournisseur", retailer: "Distributeur" },
-    withoutAnswer: (documents) => `(${figure(documents)} sans réponse)`,
+    withoutReply: (documents) => `(${figure(documents)} sans retour)`,
     tryAfter: (time) => `Rien n'est perdu : réessayez après ${time}.`,
     tryInAMoment: "Rien n'est perdu : réessayez dans un instant.",
     kept:
       "Cet onglet garde ce que vous avez saisi : rouvrez l'écran, et vous le retrouvez. C'est perdu quand vous vous déconnectez ou " +
       "fermez l'onglet.",
     notSentYet: (what) => `Pas encore envoyé : ${what}`,
-    noAnswerYet: (what) => `Pas encore de réponse : ${what}`,
+    noReplyYet: (what) => `Pas encore de retour : ${what}`,
     reload: "Recharger",
     leave: "Quitter",
-    noAnswer: "Pas de réponse",
+    noReply: "Pas de retour",
     notAgain: "Si vous vous déconnectez, la même chose ne pourra plus être renvoyée d'ici.",
     unkept:
       "Votre navigateur n'a pas de place pour garder ce que vous avez saisi : si vous quittez cet écran ou rechargez la page, c'est perdu.",
@@ -766,7 +781,7 @@ export const fr = {
     noLineFits: "Aucune ligne de commande ne correspond.",
     filterLines: "Commande ou article",
     noPalletFits: "Aucune palette ne correspond.",
-    filterPallets: "SSCC ou article",
+    filterPallets: "Palette (SSCC) ou article",
     notUnderstood: "La page ne comprend pas ces lignes du rapport :",
     refused: "Refusé",
     shares: "Parts",
@@ -800,7 +815,7 @@ export const fr = {
     more: (rows) => `… et ${counted(rows, "autre", "autres")}`,
     none: "Il n'y a pas encore de liste de fournisseurs. Sans elle, demandez chaque fournisseur sous Statut, par son GLN.",
     useAnother: "Utiliser une autre liste",
-    give: "Donner une liste",
+    give: "Ajouter une liste de fournisseurs",
     leftOut: "Ceci a été laissé de côté :",
     unkept: "Votre navigateur n'a pas de place pour garder cette liste : si vous rechargez la page, elle disparaît.",
     unread: (file) => `${file}, à côté de cette page, n'a pas pu être lu. La vue d'ensemble réessaie quand vous l'ouvrez.`,
@@ -812,7 +827,7 @@ export const fr = {
   },
   today: {
     toAnswer: (orders) => `${counted(orders, "commande", "commandes")} sans réponse`,
-    toShip: (lines) => `${counted(lines, "ligne", "lignes")} à expédier`,
+    toDespatch: (lines) => `${counted(lines, "ligne", "lignes")} à expédier`,
     overdue: (lines) => `dont ${figure(lines)} en retard`,
     announced: (pallets) => counted(pallets, "palette annoncée et non reçue", "palettes annoncées et non reçues"),
     receivedShort: (pallets) => counted(pallets, "réception incomplète", "réceptions incomplètes"),
@@ -831,10 +846,10 @@ export const fr = {
     leftOver:
       "Votre boîte n'est pas encore entièrement parcourue : quelques dates et liens manquent. Le reste viendra aux prochains passages.",
     first: (most) => `Ce sont les ${figure(most)} premiers. Tous figurent sous Statut.`,
-    noAnswer: (time) => `Le hub n'a pas répondu à ${time}. La page redemandera.`,
+    noReply: (time) => `Le hub n'a pas répondu à ${time}. La page redemandera.`,
     again: "Regarder de nouveau",
     ordersTitle: "Commandes sans réponse",
-    noOrders: "Aucune commande n'attend de réponse.",
+    noOrders: "Aucune commande n'attend votre réponse.",
     lines: "Lignes",
     pieces: "Pièces",
     linesTitle: "Lignes à expédier",
@@ -844,8 +859,8 @@ export const fr = {
     show: "Afficher",
     showPallet: (sscc) => `Afficher la palette ${sscc} dans le statut`,
     noShort:
-      "Rien de nouveau n'a été reçu en moindre quantité. Une palette quitte cette liste dès que vous marquez son avis de réception " +
-      "comme traité.",
+      "Rien de nouveau n'a été reçu en moindre quantité. Une palette quitte cette liste dès que vous marquez son avis de réception comme " +
+      "lu.",
     read: "Lire l'avis",
     readOf: (sscc) => `Lire l'avis de la palette ${sscc}`,
   },
@@ -857,7 +872,9 @@ export const fr = {
   },
   upload: {
     choose: "Choisissez des fichiers .edi, ou déposez-les ici",
-    chooseHint: "Commandes (ORDERS) et avis de réception (RECADV). Un fichier est envoyé tel quel, et peut avoir beaucoup de messages.",
+    chooseHint:
+      "Commandes (ORDERS) et avis de réception (RECADV). Déposer un fichier ne l'envoie pas encore : la page montre les fichiers, et " +
+      "vous les envoyez avec un bouton. Un fichier est envoyé tel quel, et peut avoir beaucoup de messages.",
     cannotBeSent: (files) =>
       `${counted(files, "fichier ne peut", "fichiers ne peuvent")} pas être ${plural(files, "envoyé", "envoyés")} : la raison figure ` +
       "ci-dessous.",
@@ -868,7 +885,7 @@ export const fr = {
     unreadable:
       "Votre navigateur n'a pas pu lire ce fichier. Il a peut-être été déplacé ou modifié : choisissez-le de nouveau. Les autres " +
       "fichiers sont envoyés.",
-    paused: "Un fichier n'a pas eu de réponse, les suivants attendent donc. Renvoyez-le d'abord, ou continuez avec la suite.",
+    paused: "Un fichier est resté sans retour du hub, les suivants attendent donc. Renvoyez-le d'abord, ou continuez avec la suite.",
     title: "Envoyer des fichiers",
     remove: "Retirer",
     removeOne: (name) => `Retirer ${name}`,
@@ -878,12 +895,11 @@ export const fr = {
     interchange: (reference) => `Interchange ${reference}`,
     message: "Message",
     document: "Commande ou avis",
-    result: "Résultat",
   },
   verdict: {
     about: (type, document, supplier) => `(${type} ${document}, fournisseur ${supplier})`,
     message: (reference) => `Message ${reference}`,
     beingSent: "Envoi en cours…",
-    noAnswer: (why) => `Pas de réponse. C'est peut-être arrivé, peut-être pas. ${why}`,
+    noReply: (why) => `Pas de retour. C'est peut-être arrivé, peut-être pas. ${why}`,
   },
 };

@@ -23,7 +23,7 @@ export const nl = {
     interchange: "Interchange",
     searchAllSuppliers: "Alle leveranciers doorzoeken",
     whatWasSent: "Wat is verzonden",
-    notUnderstood: "De pagina begrijpt het antwoord van de hub niet. Het luidt:",
+    notUnderstood: "De pagina begrijpt de reactie van de hub niet. Die luidt:",
     supplier: "Leverancier",
     waits: "Wacht op zijn beurt…",
     ordered: "Besteld",
@@ -32,22 +32,23 @@ export const nl = {
     announceADespatch: "Zending aankondigen",
     continueWithTheRest: "Doorgaan met de rest",
     cancelled: "Geannuleerd",
-    whatTheHubSaid: "Antwoord van de hub",
+    whatTheHubReplied: "Reactie van de hub",
+    result: "Resultaat",
     labels: "Labels",
     status: "Status",
     entry: (number) => `Item ${number}`,
-    markAsTaken: "Als verwerkt markeren",
+    markAsRead: "Als gelezen markeren",
     downloadEdi: ".edi downloaden",
     tryAgain: "Opnieuw proberen",
-    left: "Over",
+    left: "Nog te laden",
     type: "Soort",
     cameIn: "Binnengekomen",
     overdue: "Te laat",
-    waitingForAnAnswer: "Wacht op een antwoord",
+    notAnsweredYet: "Nog niet beantwoord",
     openLines: "Open regels",
     noneFetched: "Er is nog geen status opgehaald: doe dat in het overzicht.",
     despatched: "Verzonden",
-    answer: "Antwoord",
+    suppliersAnswer: "Antwoord van leverancier",
     withSomethingOpen: "Met iets open",
     announcedNotReceived: "Aangekondigd, niet ontvangen",
     withADifference: "Met een verschil",
@@ -69,14 +70,16 @@ export const nl = {
     answerOrder: (order) => ["Bestelling ", order, " beantwoorden"],
     acceptAll: (lines) => (lines === 1 ? "De regel accepteren" : `Alle ${figure(lines)} regels accepteren`),
     noun: "Antwoord",
-    waitsNoMore: (known) => `Deze regel wacht niet meer op een antwoord: hij is ${known}.`,
     giveANumber: (least, most) => `Geef een geheel getal van ${figure(least)} tot en met ${figure(most)}.`,
     noOrder: "Geen bestelling",
     entryIsNoOrder: "Dit item is geen bestelling",
     numberHint: "Naar keuze; het voorstel komt van de klok.",
     what: (order) => `Uw antwoord op bestelling ${order}`,
-    noneWaits: "Geen regel van deze bestelling wacht op een antwoord.",
+    noneWaits: "Geen regel van deze bestelling wacht op uw antwoord.",
     refuseAll: "Alle weigeren",
+    hint:
+      "Accepteren: u levert alles wat openstaat. Weigeren: u levert er niets van. Wijzigen: vul in hoeveel u in totaal levert, met wat " +
+      "al verzonden is.",
     caption: "Regels van de bestelling, elk met uw antwoord",
     yourAnswer: "Uw antwoord",
     changedTo: "Gewijzigd in",
@@ -90,7 +93,7 @@ export const nl = {
     twice: (line) => `Regel ${line} staat ook in een eerdere rij.`,
     lineMissing: "Het regelnummer ontbreekt.",
     noLine: (line) => `De bestelling heeft geen regel ${line}.`,
-    waitsNoMore: (line, known) => `Regel ${line} wacht niet meer op een antwoord: hij is ${known}.`,
+    isAnswered: (line, known) => `Regel ${line} is al beantwoord: ${known}.`,
     notAnAnswer: (word, line) => `“${word}” is geen antwoord op regel ${line}. Schrijf geaccepteerd, geweigerd of gewijzigd.`,
     ofLine: (line, wrong) => `Regel ${line}: ${wrong}`,
     giveANumber: (least, most) => `geef een geheel getal van ${figure(least)} tot en met ${figure(most)}.`,
@@ -105,7 +108,7 @@ export const nl = {
     lineRefused: (line) => `Regel ${line}: geweigerd`,
     lineChanged: (line, change) => `Regel ${line}: ${change}`,
   },
-  answers: { W: "onbeantwoord", A: "geaccepteerd", N: "niet geaccepteerd", C: "gewijzigd" },
+  answers: { W: "nog niet beantwoord", A: "geaccepteerd", N: "niet geaccepteerd", C: "gewijzigd" },
   article: {
     yours: (number) => ["Uw artikel ", number],
     buyers: (number) => ["Artikel van de koper ", number],
@@ -113,7 +116,7 @@ export const nl = {
   banner: {
     sentAt: (what, time) => `${what}, verzonden om ${time}:`,
     isBeingSent: (what) => `${what} wordt verzonden.`,
-    noAnswer: (what) => `${what} is verzonden, en er kwam geen antwoord. U kunt precies hetzelfde veilig nog een keer verzenden.`,
+    noReply: (what) => `${what} is verzonden, en er kwam geen reactie. U kunt precies hetzelfde veilig nog een keer verzenden.`,
     close: "Deze melding sluiten",
   },
   bar: {
@@ -130,7 +133,7 @@ export const nl = {
   cancel: {
     nowOpen: (pieces) => `Op dit moment ${plural(pieces, "staat", "staan")} er ${counted(pieces, "stuk", "stuks")} open.`,
     wereOpen: (pieces, time) =>
-      `Om ${time} ${plural(pieces, "stond", "stonden")} er ${counted(pieces, "stuk", "stuks")} open; nu antwoordt de hub niet.`,
+      `Om ${time} ${plural(pieces, "stond", "stonden")} er ${counted(pieces, "stuk", "stuks")} open; nu reageert de hub niet.`,
     tooMuch: (open, time) => `Er ${plural(open, "staat", "staan")} maar ${counted(open, "stuk", "stuks")} open (stand om ${time}).`,
     noneOpen: (time) => `Van deze regel staat niets meer open (stand om ${time}).`,
     lead: (pieces, article, order, line, supplier) => [
@@ -168,7 +171,7 @@ export const nl = {
       `Bestelling ${order}, regel ${line}, artikel ${article}: ${figure(quantity)} van ${counted(open, "openstaand stuk", "openstaande stuks")}`,
     lead: (given, named) => `U annuleert ${given}, bij leverancier ${named}.`,
     giveANumber: (open) => `Geef een geheel getal van 1 tot en met ${figure(open)}.`,
-    asOf: (time) => `De openstaande aantallen zijn die van ${time}: nu antwoordt de hub niet.`,
+    asOf: (time) => `De openstaande aantallen zijn die van ${time}: nu reageert de hub niet.`,
     toCancel: "Te annuleren",
   },
   cancelResults: {
@@ -177,7 +180,7 @@ export const nl = {
       const parts = [accepted && `${figure(accepted)} geaccepteerd`, others && `${figure(others)} niet geaccepteerd`];
       return `${counted(all, "annulering", "annuleringen")}: ${parts.filter(Boolean).join(", ")}.`;
     },
-    paused: "Een annulering kreeg geen antwoord, dus de volgende wachten. Verzend die eerst opnieuw, of ga door met de rest.",
+    paused: "Op een annulering kwam geen reactie, dus de volgende wachten. Verzend die eerst opnieuw, of ga door met de rest.",
     caption: "Annuleringen",
     title: "Wat ervan is geworden",
   },
@@ -213,7 +216,7 @@ export const nl = {
     numberHint: "Dat van uw pakbon. Elk wordt maar één keer gebruikt.",
     numberUsed: "U hebt al een verzendbericht met dit nummer verzonden. Neem een ander.",
     otherPrefix: "De hub meldt dat een SSCC onder geen van uw prefixen valt. Kijk deze na.",
-    ssccUsed: "De hub meldt dat een SSCC al is gebruikt, door u of door een ander. Nummer de pallets opnieuw.",
+    ssccUsed: "De hub meldt dat een SSCC al is gebruikt, door u of door een ander. Neem nieuwe SSCC’s, met de knop onder de pallets.",
     unknownLine: "De hub kent een van deze bestelregels niet. Open het formulier opnieuw.",
     nothingOpen: "Er staat niets open, dus er is niets aan te kondigen.",
     what: (number) => `Uw verzendbericht ${number}`,
@@ -221,7 +224,7 @@ export const nl = {
       `Meerdere bestellingen heten ${order} en verschillen alleen in spaties aan het einde. Open eerst elk daarvan in het postvak.`,
     collapse: "Alle pallets inklappen",
     expand: "Alle pallets uitklappen",
-    renumber: "Pallets zonder label opnieuw nummeren",
+    renumber: "Nieuwe SSCC’s voor pallets zonder afgedrukt label",
     add: "Pallet toevoegen",
     another: "Nog een zending",
   },
@@ -256,7 +259,7 @@ export const nl = {
     missing: "Dit item bestaat niet",
     hasNo: (number) => `Uw postvak heeft geen item ${number}.`,
     notUnderstood: "De pagina begrijpt dit item niet. Het staat hieronder zoals de hub het gaf.",
-    marked: "Als verwerkt gemarkeerd: het staat niet meer bij de nieuwe.",
+    marked: "Als gelezen gemarkeerd: het staat niet meer bij de nieuwe.",
     print: "Afdrukken",
   },
   explain: {
@@ -273,7 +276,7 @@ export const nl = {
       absent: "Deze site controleert geen bestanden. Al het andere werkt ook zo; wie de pagina heeft ingericht, kan het aanzetten.",
       busy: "Op dit moment worden andere bestanden gecontroleerd. Probeer het over een minuut opnieuw.",
       long: "De server van deze pagina neemt geen bestand van deze grootte aan.",
-      broken: "De server van deze pagina antwoordt niet, dus er kan nu geen bestand worden gecontroleerd. Al het andere werkt.",
+      broken: "De server van deze pagina reageert niet, dus er kan nu geen bestand worden gecontroleerd. Al het andere werkt.",
     },
     lead:
       "Zie wat een EDIFACT-bestand zegt, of wat eraan mankeert en waar. Het bestand gaat naar de server van deze pagina, die het leest " +
@@ -327,6 +330,12 @@ export const nl = {
     TU: "handelseenheid",
     VQ: "product met variabele hoeveelheid",
   },
+  knownCause: {
+    nothing: "Het aantal is 0.",
+    notPieces: (unit) => `De eenheid “${unit}” is niet stuks (PCE).`,
+    notAGtin: (text) => `“${text}” is geen GTIN: zoek naar een fout cijfer.`,
+    notADate: (text) => `“${text}” is geen datum.`,
+  },
   label: {
     content: "Inhoud",
     several: (articles, pieces) => `${counted(articles, "artikel", "artikelen")}, ${counted(pieces, "stuk", "stuks")}`,
@@ -348,15 +357,17 @@ export const nl = {
   languageChoice: { label: "Taal", own: "Nederlands" },
   leaving: { stay: "Blijven" },
   leftLines: {
-    left: (pieces, some, lines) => `Over: ${counted(pieces, "stuk", "stuks")} van ${figure(some)} van ${counted(lines, "regel", "regels")}`,
-    nothing: "Over: niets",
+    left: (pieces, some, lines) => 
+      `Nog te laden: ${counted(pieces, "stuk", "stuks")} van ${figure(some)} van ${counted(lines, "regel", "regels")}`,
+    nothing: "Niets meer te laden",
     tooMuch: (lines) => `te veel van ${counted(lines, "regel", "regels")}`,
-    caption: "Wat er van de regels over is",
+    caption: "Wat nog te laden is",
     empty: "Alles wat openstaat, staat op uw pallets.",
     onPallets: "Op uw pallets",
   },
   lineChoice: {
     hint: (most) => `Vink regels aan om er meerdere tegelijk te annuleren, hoogstens ${figure(most)}.`,
+    column: "Keuze",
     chosen: (lines, pieces) =>
       `${counted(lines, "regel", "regels")} gekozen, waarvan ${counted(pieces, "stuk openstaat", "stuks openstaan")}.`,
     cancel: (lines) => `${counted(lines, "regel", "regels")} annuleren…`,
@@ -370,20 +381,22 @@ export const nl = {
   mailbox: {
     newEntries: (entries) => counted(entries, "nieuw item", "nieuwe items"),
     title: "Postvak",
-    markOne: (document) => `${document} als verwerkt markeren`,
+    markOne: (document) => `${document} als gelezen markeren`,
     caption: "Nieuwe items in het postvak",
-    empty: "Geen nieuwe post. Wat u als verwerkt hebt gemarkeerd, staat hieronder.",
+    empty: "Geen nieuwe post. Wat u als gelezen hebt gemarkeerd, staat hieronder.",
     notUnderstoodLines: "De pagina begrijpt deze regels van de lijst niet:",
     number: "Nummer",
     document: "Document",
-    notRead: "niet gelezen",
+    notLoaded: "niet geladen",
     notUnderstood: "niet begrepen",
-    takenCaption: "Als verwerkt gemarkeerde items",
-    noneTaken: "Er is niets als verwerkt gemarkeerd.",
-    showTaken: "Verwerkte tonen",
+    readCaption: "Als gelezen gemarkeerde items",
+    noneRead: "Er is niets als gelezen gemarkeerd.",
+    showRead: "Gelezen items tonen",
     showEarlier: "Eerdere tonen",
-    takenHint: "Items die u hebt gemarkeerd, blijven leesbaar.",
-    taken: "Verwerkt",
+    readHint:
+      "‘Als gelezen markeren’ verplaatst een item naar beneden, naar ‘Gelezen’, waar u het nog kunt openen. De bestelling is daarmee " +
+      "niet beantwoord.",
+    read: "Gelezen",
   },
   menu: {
     today: "Vandaag",
@@ -402,8 +415,8 @@ export const nl = {
       return `${open} ${plural(lines, "staat", "staan")} open, waarvan ${figure(late)} te laat en ${figure(undated)} zonder gewenste dag.`;
     },
     learned: (name, dated, undated) => {
-      const orders = counted(dated, "bestelling noemt haar dag", "bestellingen noemen hun dag");
-      return `${name}: ${orders}${undated ? `, ${counted(undated, "noemt er geen", "noemen er geen")}` : ""}.`;
+      const without = undated ? `, ${figure(undated)} zonder gewenste dag` : "";
+      return `${name}: gewenste dag gevonden van ${counted(dated, "bestelling", "bestellingen")}${without}.`;
     },
     choose: "Kies bestanden met bestellingen (ORDERS), of sleep ze hierheen",
     chooseHint:
@@ -413,7 +426,7 @@ export const nl = {
     undated: "Zonder gewenste dag",
     empty: "Geen open regel past.",
     filter: "Leverancier, bestelling of artikel",
-    give: "Bestanden met bestellingen opgeven",
+    give: "Gewenste dagen toevoegen uit uw bestelbestanden",
     noOrder: (name) => `${name}: de pagina vindt er geen bestelling in.`,
   },
   order: {
@@ -429,8 +442,12 @@ export const nl = {
     price: "Prijs",
   },
   orderChoice: {
-    open: (lines, pieces) => `${counted(lines, "regel", "regels")}, ${figure(pieces)} open`,
-    legend: "Bestellingen waarvan iets openstaat",
+    open: (lines, pieces, unanswered) => {
+      const said = unanswered ? ` (${figure(unanswered)} nog niet beantwoord)` : "";
+      return `${counted(lines, "regel", "regels")}${said}, ${figure(pieces)} open`;
+    },
+    legend: "Bestellingen in deze zending",
+    unanswered: "U kunt ook regels verzenden die nog niet beantwoord zijn. Uw antwoord wordt nog verwacht.",
     chooseOne: "Kies minstens één bestelling.",
   },
   orderDates: {
@@ -457,6 +474,7 @@ export const nl = {
   outcomes: {
     accepted: "Geaccepteerd: de hub heeft het aangenomen, en bewaart het.",
     repeated: "De hub had het al: het is eerder geaccepteerd, en er is niets dubbel gedaan.",
+    partly: "Deels geaccepteerd: de hub heeft sommige berichten geweigerd. Onder ‘Verzonden’ staat welke, en waarom.",
     refused: "Geweigerd: er is niets gewijzigd.",
   },
   overview: {
@@ -491,14 +509,14 @@ export const nl = {
     on: (lines, pieces) => `${counted(lines, "regel", "regels")}, ${counted(pieces, "stuk", "stuks")}`,
     nothingOnIt: "Nog niets erop",
     toCorrect: (on, wrong) => `${on}, ${figure(wrong)} te verbeteren`,
-    labelled: "Gelabeld: het label is afgedrukt",
+    labelled: "Label is afgedrukt: deze SSCC houden",
     nothing: "Zet iets op deze pallet, of verwijder hem.",
-    hint: "18 cijfers, getypt of gescand. Typ er 17, en de pagina voegt het controlecijfer toe.",
+    hint: "Het nummer op het label van de pallet: 18 cijfers, getypt of gescand. Typ er 17, en de pagina voegt het controlecijfer toe.",
     digits: "Een SSCC heeft 18 cijfers.",
     lastDigit: (digit) => `Het laatste cijfer moet ${digit} zijn: zoek naar een fout cijfer.`,
-    otherPrefix: (prefix) => `Na het eerste cijfer begint hij niet met uw prefix ${prefix}.`,
+    otherPrefix: (prefix) => `Na het eerste cijfer moet uw prefix ${prefix} komen.`,
     twice: "Een andere pallet van dit formulier heeft dezelfde SSCC.",
-    used: "U hebt deze SSCC al gebruikt. Neem een nieuwe: een SSCC wordt maar één keer gebruikt, voor altijd.",
+    used: "U hebt deze SSCC al gebruikt. Neem een nieuwe: elke SSCC is maar voor één pallet.",
   },
   palletLines: {
     quantityOf: (order, line) => `Aantal van bestelling ${order}, regel ${line}`,
@@ -530,21 +548,21 @@ export const nl = {
   palletTools: {
     tooFew: (pieces) => `Er ${plural(pieces, "staat", "staan")} maar ${counted(pieces, "stuk", "stuks")} op.`,
     listAll: (lines) => `Alle ${counted(lines, "regel", "regels")} tonen`,
-    count: "Gelijk verdelen over hoeveel pallets",
+    count: "Gelijk verdelen over dit aantal pallets",
     split: "Verdelen",
-    fill: "Alles wat openstaat erop zetten",
+    fill: "Alles wat over is op deze pallet laden",
     copy: "Deze pallet kopiëren",
     remove: "Deze pallet verwijderen",
-    listOwn: "Alleen de eigen regels tonen",
+    listOwn: "Alleen de regels op deze pallet tonen",
     giveANumber: (most) => `Geef een geheel getal van 2 tot en met ${figure(most)}.`,
     nothingOnIt: "Zet eerst iets op deze pallet.",
   },
   pallets: {
     renumbered: (pallets) => `${counted(pallets, "pallet heeft een nieuwe SSCC", "pallets hebben nieuwe SSCC’s")}.`,
     unchanged: (pallets) => `${figure(pallets)} ongewijzigd.`,
-    copied: (pallet) => `Pallet ${pallet} is een kopie ervan.`,
-    copiedWhatWasLeft: (pallet, pieces) =>
-      `Pallet ${pallet} is een kopie ervan met wat over was: ${counted(pieces, "stuk", "stuks")} minder.`,
+    copied: (pallet) => `Pallet ${pallet} is een kopie van deze.`,
+    copiedWhatWasLeft: (pallet, pieces) => 
+      `Pallet ${pallet} is een kopie van deze met wat nog te laden was: ${counted(pieces, "stuk", "stuks")} minder.`,
     split: (first, last) => `Klaar: verdeeld over deze pallet en ${first === last ? `pallet ${first}` : `pallets ${first} tot en met ${last}`}.`,
     placed: (pieces, rows, pallets) => {
       const some = `${counted(pieces, "stuk", "stuks")} uit ${counted(rows, "rij", "rijen")} ${plural(pieces, "staat", "staan")}`;
@@ -552,9 +570,8 @@ export const nl = {
     },
     pallet: (pallet) => `Pallet ${pallet}`,
     full: (most) => `Een zending heeft hoogstens ${figure(most)} pallets.`,
-    heldElsewhere: "Een formulier in een ander tabblad van deze browser heeft dezelfde SSCC.",
-    nothingToCopy: "Er staat niets op.",
-    nothingLeft: "Van de regels is niets over, dus er is geen kopie.",
+    heldElsewhere: "Een formulier in een ander tabblad van deze browser gebruikt deze SSCC al.",
+    nothingLeft: "Van de regels is niets meer te laden, dus er is geen kopie.",
   },
   pasteAnswers: {
     taken: (lines) => `${counted(lines, "regel is", "regels zijn")} beantwoord zoals in de rijen. Er is nog niets verzonden.`,
@@ -586,15 +603,15 @@ export const nl = {
   prices: { AAA: "netto", AAB: "bruto", CA: "volgens catalogus", CT: "volgens contract" },
   reasons: {
     connection: "De verbinding is verbroken.",
-    patience: "Er kwam vier minuten lang geen antwoord.",
+    patience: "Er kwam vier minuten lang geen reactie.",
     cut: "Slechts een deel ervan bereikte de hub (400).",
     slow: "Het duurde te lang om de hub te bereiken: uw verbinding is traag (408).",
     "too many": "Er kwamen te veel verzoeken van uw netwerkadres (429).",
     busy: "De hub is bezet (503).",
     stopped: "De hub stopte terwijl hij eraan werkte (503).",
     away: "De hub is niet bereikbaar (502 of 504).",
-    unreadable: "Wat terugkwam, is geen antwoord van de hub.",
-    reload: "De pagina werd opnieuw geladen voordat er een antwoord kwam.",
+    unreadable: "Wat terugkwam, is geen reactie van de hub.",
+    reload: "De pagina werd opnieuw geladen voordat er een reactie kwam.",
   },
   receipt: {
     replacedLater: (advice, pallets, ssccs) =>
@@ -611,7 +628,7 @@ export const nl = {
     denied: "Geweigerd: log uit en weer in.",
     unknown: "Niet bekend bij de hub.",
     unreadable: "De pagina begrijpt niet het hele rapport: open de status.",
-    noAnswer: (reason) => `Geen antwoord. ${reason}`,
+    noReply: (reason) => `Geen reactie. ${reason}`,
   },
   rows: {
     line: ["regel"],
@@ -640,25 +657,24 @@ export const nl = {
   },
   searchForm: {
     tooShort: (least) => `Geef minstens ${figure(least)} tekens.`,
-    label: "Bestelling, artikel of SSCC",
+    label: "Bestelling, artikel of pallet (SSCC)",
   },
   sending: {
-    first: "Iets dat u eerder hebt verzonden, heeft nog geen antwoord. Verzend dat eerst opnieuw, met de knop boven aan de pagina.",
+    first: "Op iets dat u eerder hebt verzonden, kwam nog geen reactie. Verzend dat eerst opnieuw, met de knop boven aan de pagina.",
     safe: "Opnieuw verzenden is veilig: de hub onthoudt de referentie, en doet nooit twee keer hetzelfde.",
     held: (why, at) => `${why} Het is niet gedaan. De pagina verzendt het vanzelf${at && `, om ${at}`}.`,
     pausing: (why, at) => `${why} De pagina verzendt precies hetzelfde vanzelf opnieuw${at && `, om ${at}`}.`,
     unanswered: (what, tries, why) =>
-      `${what} is ${tries === 1 ? "één keer" : `${figure(tries)} keer`} verzonden, en er kwam geen antwoord. ` +
+      `${what} is ${tries === 1 ? "één keer" : `${figure(tries)} keer`} verzonden, en er kwam geen reactie. ` +
       `Misschien is het aangekomen, misschien niet. De laatste keer: ${why}`,
     sending: "Wordt verzonden…",
     resending: "Hetzelfde wordt opnieuw verzonden…",
-    noAnswer: "Geen antwoord van de hub",
+    noReply: "Geen reactie van de hub",
     askedToWait: (time) => `U wordt gevraagd te wachten tot ${time}: dan verzendt de pagina het.`,
     again: "Hetzelfde opnieuw verzenden",
     denied: "Geweigerd: de hub kent deze GLN niet met deze sleutel, of dit mag alleen de andere kant. Log opnieuw in.",
     tooLarge: "Te groot: een interchange heeft hoogstens 1.048.576 bytes. Splits hem.",
-    notTaken: (reply) => `De hub heeft het niet aangenomen, en er is niets gewijzigd. Het antwoord: ${reply}`,
-    hubSaid: "Antwoord van de hub:",
+    notTaken: (reply) => `De hub heeft het niet aangenomen, en er is niets gewijzigd. De reactie: ${reply}`,
   },
   sendingForm: {
     isBack: "Wat u hier eerder hebt getypt, is terug. Het is niet verzonden.",
@@ -696,8 +712,8 @@ export const nl = {
     key: "Sleutel",
     keyHint: "De sleutel die de retailer u heeft gegeven.",
     wrongKey: "Een sleutel heeft 8 tot 64 letters, cijfers of tekens, zonder spaties.",
-    noAnswer: "De hub antwoordt niet. Probeer het zo dadelijk opnieuw.",
-    notAHub: (what) => `Zo antwoordt een hub niet: ${what}. Misschien vraagt uw netwerk u eerst iets.`,
+    noReply: "De hub reageert niet. Probeer het zo dadelijk opnieuw.",
+    notAHub: (what) => `Zo reageert een hub niet: ${what}. Misschien vraagt uw netwerk u eerst iets.`,
   },
   sortChoice: {
     descending: (title) => `${title}, aflopend`,
@@ -709,8 +725,8 @@ export const nl = {
     prefix: "Uw GS1-bedrijfsprefix",
     first: "Eerste serienummer",
     wrongPrefix: "Een bedrijfsprefix heeft 4 tot 12 cijfers.",
-    prefixHint: "4 tot 12 cijfers. Daarmee stelt de pagina de volgende SSCC voor. Hij blijft in dit tabblad.",
-    firstHint: "Niet verplicht. De pagina stelt SSCC’s vanaf dit nummer voor, en anders na uw laatste.",
+    prefixHint: "De 4 tot 12 cijfers die GS1 uw bedrijf heeft gegeven. Daarmee stelt de pagina SSCC’s voor. Dit tabblad onthoudt ze.",
+    firstHint: "Niet verplicht. Het deel van de SSCC dat uw pallets telt: de pagina telt vanaf hier, en anders na uw laatste.",
     digitsAlone: "Een serienummer heeft alleen cijfers.",
     prefixToo: "Geef ook uw bedrijfsprefix: het serienummer komt erna.",
     tooLong: (prefix, most) => `Na de prefix ${prefix} heeft een serienummer hoogstens ${most} cijfers.`,
@@ -718,15 +734,15 @@ export const nl = {
   },
   start: {
     sides: { supplier: "Leverancier", retailer: "Retailer" },
-    withoutAnswer: (documents) => `(${figure(documents)} zonder antwoord)`,
+    withoutReply: (documents) => `(${figure(documents)} zonder reactie)`,
     tryAfter: (time) => `Er is niets verloren: probeer het na ${time} opnieuw.`,
     tryInAMoment: "Er is niets verloren: probeer het zo dadelijk opnieuw.",
     kept: "Dit tabblad bewaart wat u hebt getypt: open het scherm opnieuw, en het is er. Het is weg als u uitlogt of het tabblad sluit.",
     notSentYet: (what) => `${what} is nog niet verzonden`,
-    noAnswerYet: (what) => `${what} heeft nog geen antwoord`,
+    noReplyYet: (what) => `Nog geen reactie: ${what}`,
     reload: "Opnieuw laden",
     leave: "Verlaten",
-    noAnswer: "Geen antwoord",
+    noReply: "Geen reactie",
     notAgain: "Als u uitlogt, kan hetzelfde van hieruit niet opnieuw worden verzonden.",
     unkept: "Uw browser heeft geen ruimte om te bewaren wat u hebt getypt: als u dit scherm verlaat of opnieuw laadt, is het weg.",
     typedGone: "Als u uitlogt, is weg wat u hebt getypt.",
@@ -749,7 +765,7 @@ export const nl = {
     noLineFits: "Geen bestelregel past.",
     filterLines: "Bestelling of artikel",
     noPalletFits: "Geen pallet past.",
-    filterPallets: "SSCC of artikel",
+    filterPallets: "Pallet (SSCC) of artikel",
     notUnderstood: "De pagina begrijpt deze regels van het rapport niet:",
     refused: "Geweigerd",
     shares: "Verdeling",
@@ -782,7 +798,7 @@ export const nl = {
     more: (rows) => `… en nog ${figure(rows)}`,
     none: "Er is nog geen lijst van leveranciers. Vraag zonder lijst elke leverancier onder Status op, met de GLN.",
     useAnother: "Een andere lijst gebruiken",
-    give: "Een lijst opgeven",
+    give: "Lijst van leveranciers toevoegen",
     leftOut: "Dit is weggelaten:",
     unkept: "Uw browser heeft geen ruimte om deze lijst te bewaren: als u de pagina opnieuw laadt, is ze weg.",
     unread: (file) => `${file} naast deze pagina kon niet worden gelezen. Het overzicht probeert het opnieuw als u het opent.`,
@@ -794,7 +810,7 @@ export const nl = {
   },
   today: {
     toAnswer: (orders) => `${counted(orders, "bestelling", "bestellingen")} te beantwoorden`,
-    toShip: (lines) => `${counted(lines, "regel", "regels")} te leveren`,
+    toDespatch: (lines) => `${counted(lines, "regel", "regels")} te verzenden`,
     overdue: (lines) => `waarvan ${figure(lines)} te laat`,
     announced: (pallets) => `${counted(pallets, "pallet", "pallets")} aangekondigd en niet ontvangen`,
     receivedShort: (pallets) => `${figure(pallets)} met te weinig ontvangen`,
@@ -812,19 +828,19 @@ export const nl = {
     order: (order) => `bestelling ${order}`,
     leftOver: "Uw postvak is nog niet helemaal doorgekeken: sommige data en links ontbreken. De rest komt bij de volgende keren.",
     first: (most) => `Dit zijn de eerste ${figure(most)}. Onder Status staan ze allemaal.`,
-    noAnswer: (time) => `De hub antwoordde om ${time} niet. De pagina vraagt het opnieuw.`,
+    noReply: (time) => `De hub reageerde om ${time} niet. De pagina vraagt het opnieuw.`,
     again: "Nu opnieuw kijken",
     ordersTitle: "Te beantwoorden bestellingen",
-    noOrders: "Geen bestelling wacht op een antwoord.",
+    noOrders: "Geen bestelling wacht op uw antwoord.",
     lines: "Regels",
     pieces: "Stuks",
-    linesTitle: "Te leveren regels",
+    linesTitle: "Te verzenden regels",
     noLines: "Van geen beantwoorde regel staat nog iets open.",
     noPallets: "Alle pallets die u hebt aangekondigd, zijn ontvangen.",
     articles: "Artikelen",
     show: "Tonen",
     showPallet: (sscc) => `Pallet ${sscc} in de status tonen`,
-    noShort: "Er is niets nieuws te weinig ontvangen. Een pallet verlaat deze lijst zodra u het ontvangstbericht als verwerkt markeert.",
+    noShort: "Er is niets nieuws te weinig ontvangen. Een pallet verlaat deze lijst zodra u het ontvangstbericht als gelezen markeert.",
     read: "Bericht lezen",
     readOf: (sscc) => `Bericht over pallet ${sscc} lezen`,
   },
@@ -837,7 +853,8 @@ export const nl = {
   upload: {
     choose: "Kies .edi-bestanden, of sleep ze hierheen",
     chooseHint:
-      "Bestellingen (ORDERS) en ontvangstberichten (RECADV). Een bestand wordt verzonden zoals het is, en mag veel berichten hebben.",
+      "Bestellingen (ORDERS) en ontvangstberichten (RECADV). Een bestand hierheen slepen verzendt het nog niet: de pagina toont de " +
+      "bestanden, en u verzendt ze met een knop. Een bestand wordt verzonden zoals het is, en mag veel berichten hebben.",
     cannotBeSent: (files) => `${counted(files, "bestand kan", "bestanden kunnen")} niet worden verzonden: hieronder staat waarom.`,
     youAreSending: (files) => `U verzendt ${counted(files, "bestand", "bestanden")}.`,
     send: (files) => `${counted(files, "bestand", "bestanden")} verzenden`,
@@ -846,7 +863,7 @@ export const nl = {
     unreadable:
       "Uw browser kon dit bestand niet lezen. Misschien is het verplaatst of gewijzigd: kies het opnieuw. De andere bestanden worden " +
       "verzonden.",
-    paused: "Een bestand kreeg geen antwoord, dus de volgende wachten. Verzend dat eerst opnieuw, of ga door met de rest.",
+    paused: "Op een bestand kwam geen reactie, dus de volgende wachten. Verzend dat eerst opnieuw, of ga door met de rest.",
     title: "Uploaden",
     remove: "Verwijderen",
     removeOne: (name) => `${name} verwijderen`,
@@ -856,12 +873,11 @@ export const nl = {
     interchange: (reference) => `Interchange ${reference}`,
     message: "Bericht",
     document: "Bestelling of bericht",
-    result: "Resultaat",
   },
   verdict: {
     about: (type, document, supplier) => `(${type} ${document}, leverancier ${supplier})`,
     message: (reference) => `Bericht ${reference}`,
     beingSent: "Wordt verzonden…",
-    noAnswer: (why) => `Geen antwoord. Misschien is het aangekomen, misschien niet. ${why}`,
+    noReply: (why) => `Geen reactie. Misschien is het aangekomen, misschien niet. ${why}`,
   },
 };

@@ -2,7 +2,7 @@
 from tests.page.forms import send
 from tests.page.stage import ALPHA, RETAILER, Stage, gtin, interchange, message, order, signed_in
 
-FOCUSED = "return document.activeElement.labels?.[0]?.textContent"
+FOCUSED = "return document.activeElement.closest('.choices')?.querySelector('legend').textContent"
 
 
 def by_a_colleague(stage, number, line, action):
@@ -27,15 +27,17 @@ def meanwhile(browser, program):
             stage.sent.clear()
             send(browser, "answer")
             # the answer speaks of a line that waits no more, so nothing of it is done, and the form says at which line
-            browser.until_says("refused B07")
+            browser.until_replied("refused B07")
             assert answers(stage, number) == ["W", other, "W"], answers(stage, number)
             sent = stage.sent[0][1].decode()
             assert sent.count("'LIN+") == 3 and "+4'DTM" in sent, sent
-            browser.until_says("This line waits no more")
-            assert browser.run(FOCUSED) == "Changed quantity of line 2", browser.run(FOCUSED)
+            browser.until_says("is answered already", ".answers")
+            # which is said above the usual causes too
+            browser.until_says("is answered already", ".delivery")
+            assert browser.run(FOCUSED) == "Answer to line 2", browser.run(FOCUSED)
             # sent again, it names the lines that still wait
             send(browser, "answer")
-            browser.until_says("1 ORDRSP accepted")
+            browser.until_replied("1 ORDRSP accepted")
             assert answers(stage, number) == [code, other, code], answers(stage, number)
             assert stage.sent[1][1].count(b"'LIN+") == 2, stage.sent[1]
         complaints = browser.complaints()

@@ -47,7 +47,7 @@ def answered(browser, stage):
     browser.run("location.hash = 'answer/2'")
     browser.press("Accept the line")
     send(browser, "answer")
-    browser.until_says("1 ORDRSP accepted")
+    browser.until_replied("1 ORDRSP accepted")
     assert [it[0] for it in lines_of(stage, "E1")] == ["W", "W", "A", "W"], lines_of(stage, "E1")
 
 
@@ -63,10 +63,10 @@ def despatched(browser, stage):
     rows = browser.rows("table.contents")
     assert [(it[0], it[3]) for it in rows] == [("E1  (1 blank at its end)", "30")], rows
     browser.type(browser.labelled("SSCC"), "340123455000000012")
-    browser.press("Put all that is open on it")
+    browser.press("Load all that is left on this pallet")
     stage.sent.clear()
     send(browser, "despatch advice")
-    browser.until_says("1 DESADV accepted")
+    browser.until_replied("1 DESADV accepted")
     sent = stage.sent[0][1].decode()
     assert "QTY+12:30'RFF+ON:E1 :1'CNT" in sent and sent.count("RFF+ON") == 1, sent
     assert [it[1] for it in lines_of(stage, "E1")] == [10, 20, 0, 40], lines_of(stage, "E1")

@@ -58,7 +58,7 @@ def by_itself(browser, stage):
         stage.proxy.breaks[:] = [breaks]
         send(browser, "answer")
         browser.until_says("The connection broke. The page sends the very same again, by itself. " + SAFE)
-        browser.until_says(f"1 ORDRSP {said}")
+        browser.until_replied(f"1 ORDRSP {said}")
         alike(stage, 2)
         answered_lines(stage, number, "A")
 
@@ -67,7 +67,7 @@ def by_the_button(browser, stage):
     begun(browser, stage, "L4")
     stage.proxy.breaks[:] = [lost, lost, away]
     send(browser, "answer")
-    browser.until_says("No answer from the hub")
+    browser.until_says("No reply from the hub")
     browser.until_says(SAFE)
     alike(stage, 2)
     # until an answer comes nothing else can be sent in its place, and the browser asks before the tab is left
@@ -92,11 +92,11 @@ def a_hub_that_is_killed(browser, stage):
 
     stage.proxy.breaks[:] = [killed]
     send(browser, "answer")
-    browser.until_says("No answer from the hub")
+    browser.until_says("No reply from the hub")
     alike(stage, 2)
     stage.begin_hub()
     browser.press("Send the same again")
-    browser.until_says("1 ORDRSP accepted")
+    browser.until_replied("1 ORDRSP accepted")
     alike(stage, 3)
     answered_lines(stage, "L5", "A")
 
@@ -107,7 +107,7 @@ def a_screen_that_is_left(browser, stage):
     stage.proxy.breaks[:] = [late, lost]
     send(browser, "answer")
     browser.press("Status", "a")
-    browser.until_says("Your answer to order L6 was sent, and no answer came.", "#banner")
+    browser.until_says("Your answer to order L6 was sent, and no reply came.", "#banner")
     # nothing new is sent before that
     browser.press("Mailbox", "a")
     browser.press("L6", "a")
@@ -116,12 +116,12 @@ def a_screen_that_is_left(browser, stage):
     browser.press("Despatch", "a")
     browser.type(browser.labelled("SSCC"), "340123455000000012")
     browser.run("document.querySelector('.orders input').click()")
-    browser.press("Put all that is open on it")
+    browser.press("Load all that is left on this pallet")
     check(browser, "despatch advice")
-    browser.until_says("Something that you sent before has no answer yet.")
+    browser.until_says("Something that you sent before has no reply yet.")
     alike(stage, 2)
     browser.press("Send the same again")
-    browser.until_says("1 ORDRSP repeated", "#banner")
+    browser.until_replied("1 ORDRSP repeated", "#banner")
     alike(stage, 3)
 
 
@@ -133,7 +133,7 @@ def a_cancellation(browser, stage):
     stage.sent.clear()
     stage.proxy.breaks[:] = [lost, half]
     send(browser, "cancellation")
-    browser.until_says("No answer from the hub")
+    browser.until_says("No reply from the hub")
     browser.press("Send the same again")
     browser.until_says("The hub had it already")
     alike(stage, 3)
@@ -163,7 +163,7 @@ def an_upload(browser, stage):
     text = interchange(RETAILER, "9001", order("U1", [5], supplier=BETA), order("U1", [6], supplier=BETA, reference=2))
     browser.drop("u.edi", text)
     send_files(browser)
-    browser.until_says("No answer from the hub")
+    browser.until_says("No reply from the hub")
     browser.press("Send the same again")
     browser.until_says("Accepted")
     alike(stage, 3)

@@ -55,6 +55,8 @@ def chosen(browser, stage):
     signed_in(browser, stage, RETAILER, f"#supplier/{ALPHA}")
     browser.one(BAR)
     assert len(browser.all(".tick input")) == 12 and "128576" in browser.text("table.lines")
+    # they are where each row begins, so that they are in view also where the table is wider than the screen
+    assert browser.run("return [...document.querySelectorAll('.tick')].every(it => it.closest('td').cellIndex === 0)")
     browser.until_says("Tick lines to cancel several at once, at most 100.", BAR)
     tick(browser, *list(OPEN)[:2])
     browser.until_says("2 lines chosen, of which 84 pieces are open.", BAR)
@@ -114,7 +116,7 @@ def one_after_another(browser, stage):
     """The second gets no answer: the third waits, and goes after the same was sent again. Each has a reference of its own."""
     stage.proxy.breaks[:] = [None, lost, lost]
     browser.press("Send cancellations")
-    browser.until_says("A cancellation got no answer, so those after it wait.")
+    browser.until_says("A cancellation got no reply, so those after it wait.")
     browser.until_says("Waiting for its turn…", "table.sent")
     sent = bodies(stage)
     assert [it[1:] for it in sent] == [("128590", "2", "12")] + [("128590", "4", "10")] * 2 and sent[1] == sent[2], sent
@@ -171,7 +173,7 @@ def meanwhile(browser, stage):
     path = f"/p/{RETAILER}/status/{ALPHA}"
     stage.proxy.instead[path] = lambda handler, body: gate.wait(60) and handler.passed(body)
     browser.press("Check cancellations")
-    browser.until_says("the hub does not answer just now.", SUMMARY)
+    browser.until_says("the hub does not reply just now.", SUMMARY)
     gate.set()
     del stage.proxy.instead[path]
     browser.press("Change something")
@@ -196,19 +198,19 @@ def interrupted(browser, stage):
     browser.press("Check cancellations")
     stage.proxy.breaks[:] = [lost, lost]
     browser.press("Send cancellations")
-    browser.until_says("A cancellation got no answer")
+    browser.until_says("A cancellation got no reply")
     # another visit of the screen does not offer once more what waits
-    browser.press("Sent (1 without answer)", "a")
+    browser.press("Sent (1 without a reply)", "a")
     browser.one("table.sent")
     browser.run("history.back()")
     browser.until_says("Waiting for its turn…", "table.sent")
     assert not browser.all("table.answers")
     browser.ask("POST", "/refresh")
     back_in(browser, RETAILER)
-    browser.until_says("was sent, and no answer came.", "#banner")
+    browser.until_says("was sent, and no reply came.", "#banner")
     assert [it[:2] for it in browser.rows("table.answers")] == [list(it) for it in lines[1:]], browser.rows("table.answers")
     browser.press("Check cancellations")
-    browser.until_says("Something that you sent before has no answer yet.")
+    browser.until_says("Something that you sent before has no reply yet.")
     browser.press("Send the same again")
     browser.until_says("The hub had it already", "#banner")
     browser.press("Check cancellations")

@@ -1,7 +1,7 @@
 """Times: what the page writes comes from one clock, the local one, and tables are sorted by time whatever the format of a date."""
 from tests.page.driver import ELEMENT
 from tests.page.forms import send
-from tests.page.stage import ALPHA, RETAILER, Stage, gtin, interchange, message, milliseconds, order, signed_in
+from tests.page.stage import ALPHA, RETAILER, Keeping, Stage, gtin, interchange, message, milliseconds, order, signed_in
 
 # an order's date as it is sent, and when it comes in; in the order of the dates
 DATES = [
@@ -19,10 +19,14 @@ def one_clock(browser, stage):
     browser.stop_clock(milliseconds(2025, 6, 3, 22, 30))
     browser.developer("Emulation.setTimezoneOverride", timezoneId="Pacific/Auckland")
     stage.upload(RETAILER, interchange(RETAILER, "T0", order("T0", [5])))
+    # what came in at half past ten at UTC
+    Keeping.prepared = "250603:2230"
     signed_in(browser, stage, ALPHA)
+    browser.until_says("4 June 2025, 10:30", "table.mailbox")
+    Keeping.prepared = None
     for screen, label, act in (
         ("answer/1", "Number of your answer", "Accept the line"),
-        ("despatch/1", "Number of the despatch", "Put all that is open on it"),
+        ("despatch/1", "Number of the despatch", "Load all that is left on this pallet"),
     ):
         browser.run("location.hash = arguments[0]", screen)
         browser.press(act)
@@ -32,7 +36,9 @@ def one_clock(browser, stage):
         number = browser.labelled(label)
         assert browser.run("return arguments[0].value", {ELEMENT: number}) == "250604103000", screen
         send(browser, "answer" if "answer" in screen else "despatch advice")
-        browser.until_says("accepted", ".delivery")
+        browser.until_replied("accepted", ".delivery")
+        browser.run("location.hash = 'sent'")
+        browser.until_says("4 June 2025, 10:30", "table.sent")
         sent = stage.sent[0][1].decode()
         assert "+250604:1030+" in sent and "+250604103000+" in sent and "DTM+137:20250604:102'" in sent, sent
     browser.run_clock()

@@ -199,7 +199,7 @@ def pasted_back(browser, stage):
     assert form(browser)[4] == ["refused", ""], form(browser)
     stage.sent.clear()
     send(browser, "answer")
-    browser.until_says("1 ORDRSP accepted")
+    browser.until_replied("1 ORDRSP accepted")
     lines = [it.split() for it in stage.ask(ALPHA, "status").splitlines() if it.startswith("L 128590 ")]
     assert "".join(it[4] for it in lines) == "NCCANAAAAA" and (lines[1][6], lines[2][6]) == ("40", "7"), lines
 

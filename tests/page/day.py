@@ -7,7 +7,7 @@ import tempfile
 import time
 
 from tests.page.driver import wait
-from tests.page.forms import check, send, send_files
+from tests.page.forms import change, check, send, send_files
 from tests.page.stage import ALPHA, BETA, DAY, EXAMPLES, RETAILER, Stage, milliseconds, sign_in
 
 # by hand: the page's references are the moment in milliseconds, to the base of 36, and a counter
@@ -36,6 +36,11 @@ DESPATCH_OF_B = (
 )
 
 EACH_FILE = "return [...document.querySelectorAll('.upload')].map(it => it.textContent)"
+
+# which quantities of an answer cannot be typed, the colour of the last one, and whether a notice is before the table
+QUANTITIES = "return [...document.querySelectorAll('.answers .field input')].map(it => it.disabled)"
+GROUND = "return getComputedStyle([...document.querySelectorAll('.answers .field input')].pop()).backgroundColor"
+BEFORE = "return document.querySelector('.notice.warn').compareDocumentPosition(document.querySelector('table')) & 4"
 
 
 def file_of(*path):
@@ -88,14 +93,18 @@ def answer_in_part(browser, stage):
     browser.press("128576", "a")
     browser.until_says("6 June 2025")
     rows = browser.rows("table")
-    first, second = ["1", "4000862141404", "48", "48", "0", "waiting"], ["2", "4000862141411", "24", "24", "0", "waiting"]
+    first, second = ["1", "4000862141404", "48", "48", "0", "not answered yet"], ["2", "4000862141411", "24", "24", "0", "not answered yet"]
     assert rows == [first, second, ["Sum of 2", "", "72", "72", "0", ""]], rows
     printed_and_downloaded(browser, stage)
-    browser.press("Mark as taken")
-    browser.until_says("Marked as taken")
+    browser.press("Mark as read")
+    browser.until_says("Marked as read")
     browser.press("Answer", "a")
+    # a quantity is typed for a change alone
     browser.press("Accept all 2 lines")
-    browser.type(browser.labelled("Changed quantity of line 2"), "20")
+    assert browser.run(QUANTITIES) == [True, True], browser.run(QUANTITIES)
+    change(browser, 2, "20")
+    assert browser.run(QUANTITIES) == [True, False], browser.run(QUANTITIES)
+    ground = browser.run(GROUND)
     browser.type(browser.labelled("Number of your answer"), "ANSWER-A")
     browser.press("Show what will be sent", "summary")
     browser.until_says("QTY+113:20'")
@@ -103,7 +112,9 @@ def answer_in_part(browser, stage):
     stage.sent.clear()
     send(browser, "answer")
     browser.until_says("Accepted: the hub has taken it")
-    browser.until_says("1 ORDRSP accepted")
+    browser.until_replied("1 ORDRSP accepted")
+    # the hub's own line is not in view, and what was sent does not look as if it could be changed
+    assert "1 ORDRSP accepted" not in browser.text() and browser.run(GROUND) != ground, (browser.text(), ground)
     sent_is(stage, ALPHA, "interchanges", ANSWER_OF_A)
 
 
@@ -182,8 +193,10 @@ def receipts(browser, stage):
     browser.press("‹ Mailbox", "a")
     browser.press("W-1", "a")
     browser.until_says("A later advice replaced what W-1 says of pallet 340123455000000012.")
+    # which is said before what it says
+    assert browser.run(BEFORE) > 0, browser.text()
     browser.press("‹ Mailbox", "a")
-    browser.press("Show what was taken")
+    browser.press("Show read entries")
     browser.until_says("128576", ".taken")
 
 

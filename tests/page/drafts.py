@@ -1,6 +1,6 @@
 """Typed work is not lost: the page asks before it is left, and the tab keeps it until it is sent or the person signs out."""
 from tests.page.driver import ELEMENT, wait
-from tests.page.forms import ASKED, asked, check, send
+from tests.page.forms import ASKED, asked, change, check, send
 from tests.page.stage import ALPHA, BETA, KEYS, RETAILER, Stage, gtin, interchange, message, order, signed_in
 
 PALLETS = 33
@@ -92,7 +92,7 @@ def ended(browser, stage):
     is_filled(browser)
     assert len(browser.run(DRAFTS)) == 1
     send(browser, "despatch advice")
-    browser.until_says("1 DESADV accepted")
+    browser.until_replied("1 DESADV accepted")
     assert browser.run(DRAFTS) == [], browser.run(DRAFTS)
     browser.press("Another despatch")
     wait(lambda: len(browser.all(".pallet")) == 1, "another form")
@@ -120,7 +120,7 @@ def its_own_lines(browser, stage):
     browser.run("location.hash = 'answer/2'")
     browser.until_says("Accept all 3 lines")
     browser.run("document.querySelectorAll('.choices')[1].querySelector('[value=refused]').click()")
-    browser.type(browser.labelled("Changed quantity of line 3"), "4")
+    change(browser, 3, "4")
     wait(lambda: len(browser.run(DRAFTS)) == 1, "a draft")
     browser.run("location.hash = 'mailbox'")
     asked(browser)
@@ -132,6 +132,8 @@ def its_own_lines(browser, stage):
     stage.upload(ALPHA, interchange(ALPHA, "AK2", answer))
     browser.run("location.hash = 'answer/2'")
     browser.until_says("is back")
+    # a quantity can be typed where a change was chosen
+    assert browser.run("return [...document.querySelectorAll('.answers .field input')].map(it => it.disabled)") == [True, False]
     check(browser, "answer")
     browser.until_says("1 line refused, 1 changed from 3,000 to 4.", ".summary")
     browser.until_says("Line 2: refused", ".summary")
@@ -142,14 +144,14 @@ def without_room(browser, stage):
     said = "Your browser has no room to keep what you typed"
     browser.press("Change something")
     browser.run(FULL)
-    browser.type(browser.labelled("Changed quantity of line 3"), "5")
+    change(browser, 3, "5")
     browser.until_says(said, "form")
     browser.run("location.hash = 'mailbox'")
     asked(browser)
     browser.until_says(said, "dialog")
     browser.press("Stay")
     browser.run("Storage.prototype.setItem = window.setItem")
-    browser.type(browser.labelled("Changed quantity of line 3"), "4")
+    change(browser, 3, "4")
     wait(lambda: said not in browser.text("form"), "a draft that is kept again")
     check(browser, "answer")
 
@@ -167,7 +169,7 @@ def forgotten(browser, stage):
     assert browser.run("return sessionStorage.length") == 0
     signed_in(browser, stage, ALPHA)
     browser.run("location.hash = 'answer/2'")
-    browser.type(browser.labelled("Changed quantity of line 3"), "4")
+    change(browser, 3, "4")
     wait(lambda: len(browser.run(DRAFTS)) == 1, "a draft")
     # the tab is taken over by another, without signing out
     others = "Object.keys(sessionStorage).filter(it => !it.includes('.draft.')).forEach(it => sessionStorage.removeItem(it))"

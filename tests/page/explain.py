@@ -28,7 +28,7 @@ def right(browser):
     browser.until_says("Message 2: Order (reference 2)", ".explained")
     said = browser.run("return [...document.querySelectorAll('.shown-message pre')].map(it => it.textContent)")
     assert said[0].startswith("order K1\nbuyer ") and f"line 2 item 0{gtin(2)} ordered 6" in said[0], said
-    browser.until_says("3 June 2025, 09:15 UTC", ".explained .terms")
+    browser.until_says("3 June 2025, 09:15", ".explained .terms")
     assert browser.run(FOCUSED) == "verdict" and browser.run(MARKED) == ""
 
 
@@ -37,7 +37,8 @@ def one_message_wrong(browser):
     wrong = order("K2", [7], reference=2).replace("QTY+21:7'", "QTY+21:x'")
     dropped(browser, interchange(RETAILER, "8", order("K1", [5]), wrong).replace("'", "'\r\n"))
     browser.until_says("1 of 2 messages would be refused: see below.", ".verdict")
-    browser.until_says("M08", ".has-fault")
+    # what is wrong with the segment is said before what else can be
+    browser.until_says("M08 “x” is not a whole number. A quantity is missing, there are two, or it is not valid.", ".has-fault")
     assert browser.run(MARKED) == "QTY+21:x'", browser.run(MARKED)
     browser.until_says("Line 21 of the file, segment 20.", ".has-fault")
     assert "line 1 item" in browser.text(".shown-message:not(.has-fault)")
@@ -79,7 +80,7 @@ def without_answer(browser, stage):
     real = stage.proxy.explainer
     for status, body, said in (
         (503, b"busy\n", "Other files are being checked at the moment."),
-        (504, b"too slow\n", "The server of this page does not answer"),
+        (504, b"too slow\n", "The server of this page does not reply"),
         (413, b"too large\n", "does not take a file of this size"),
         (200, b"<html>sign in</html>", "The page does not understand what the server said of this file"),
     ):

@@ -96,7 +96,7 @@ def kept(browser, program):
 
 
 # presses it twice, as in a double click
-TWICE = """const it = [...document.querySelectorAll('main button')].find(it => it.textContent === 'Show what was taken');
+TWICE = """const it = [...document.querySelectorAll('main button')].find(it => it.textContent === 'Show read entries');
     it.focus(); it.click(); it.click()"""
 ON_LINK = "return document.activeElement?.matches('.taken tbody a') ? document.activeElement.textContent : ''"
 
@@ -108,7 +108,7 @@ def taken(browser, program):
         for number in (2, 4):
             stage.ask(ALPHA, f"mail/item/{number}/taken", "")
         signed_in(browser, stage, ALPHA)
-        browser.named("button", "Show what was taken")
+        browser.named("button", "Show read entries")
         browser.run(TWICE)
         browser.until_says("128576", ".taken")
         wait(lambda: browser.run(ON_LINK) == "128590", "focus on the first that was taken", lambda: browser.run(ON_LINK))

@@ -15,6 +15,12 @@ def send(browser, noun):
     browser.press(f"Send {noun}")
 
 
+def change(browser, line, quantity):
+    """Changes a line of an order to a quantity."""
+    browser.click(browser.one(f"[data-field='answer.answerToLine/{line}'] [value=changed]"))
+    browser.type(browser.labelled(f"Changed quantity of line {line}"), quantity)
+
+
 def send_files(browser, count=1):
     """Sends the files that were chosen."""
     browser.press("Send 1 file" if count == 1 else f"Send {count} files")

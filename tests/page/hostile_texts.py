@@ -1,6 +1,6 @@
 """Texts in order numbers that would do harm where they were taken for markup, a part of an address or separators: each is shown as it is,
 answered and despatched."""
-from tests.page.forms import send
+from tests.page.forms import change, send
 from tests.page.stage import ALPHA, RETAILER, Stage, interchange, order, released, signed_in
 
 NUMBERS = [
@@ -33,11 +33,11 @@ def answered(browser, stage, place, number):
     shown(browser, number)
     shown(browser, FREE_TEXT)
     browser.press("Answer", "a")
-    browser.type(browser.labelled("Changed quantity of line 1"), "9")
+    change(browser, 1, "9")
     shown(browser, number)
     stage.sent.clear()
     send(browser, "answer")
-    browser.until_says("1 ORDRSP accepted")
+    browser.until_replied("1 ORDRSP accepted")
     sent = stage.sent[0][1].decode("latin-1")
     assert f"'RFF+ON:{released(number)}'NAD" in sent and f"'RFF+ON:{released(number)}:1'" in sent, sent
     shown(browser, number)
@@ -51,10 +51,10 @@ def despatched(browser, stage, numbers):
         browser.click(box)
     for number in numbers:
         shown(browser, number)
-    browser.press("Put all that is open on it")
+    browser.press("Load all that is left on this pallet")
     stage.sent.clear()
     send(browser, "despatch advice")
-    browser.until_says("1 DESADV accepted")
+    browser.until_replied("1 DESADV accepted")
     sent = stage.sent[0][1].decode("latin-1")
     for number in numbers:
         assert f"QTY+12:9'RFF+ON:{released(number)}:1'" in sent, sent

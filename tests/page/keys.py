@@ -3,7 +3,7 @@ from tests.page.driver import ELSEWHERE, wait
 from tests.page.stage import ALPHA, BETA, KEYS, MAILBOX, RETAILER, Stage, opened, sign_in, signed_in
 
 DENIED = "Denied: the hub does not know this GLN with this key."
-NO_HUB = "This is not what a hub answers"
+NO_HUB = "This is not what a hub replies"
 NAME = "edihub.sign-in"
 # what the browser is answered: another status, type and text, or nothing
 INSTEAD = """const [status, text] = arguments;
@@ -40,7 +40,7 @@ def answers_of_no_hub(browser, stage):
         browser.type(browser.labelled("Key"), KEYS[ALPHA])
         browser.run(INSTEAD, status, text)
         browser.press("Sign in")
-        browser.until_says("The hub does not answer." if status in (0, 502) else NO_HUB)
+        browser.until_says("The hub does not reply." if status in (0, 502) else NO_HUB)
         assert not browser.all("nav a"), (status, text)
         assert browser.run("return document.querySelector('input[type=password]').value") == KEYS[ALPHA], (status, text)
         assert browser.run("return sessionStorage.length") == 0

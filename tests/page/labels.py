@@ -147,7 +147,7 @@ def despatched(browser):
     browser.type(browser.labelled("Quantity of order 128590, line 2", 2), "2")
     browser.type(browser.labelled("Quantity of order 128590, line 3", 2), "7")
     send(browser, "despatch advice")
-    browser.until_says("1 DESADV accepted")
+    browser.until_replied("1 DESADV accepted")
 
 
 class Paper:

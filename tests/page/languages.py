@@ -13,6 +13,7 @@ from tests.page import hostile_texts
 from tests.page.access import NARROW, STRUCTURE
 from tests.page.agreement import by_node
 from tests.page.driver import wait
+from tests.page.forms import change
 from tests.page.screens import SCREENS, furnished, opened
 from tests.page.stage import ALPHA, Stage, signed_in
 from tests.page.words import LANGUAGES, Spoken, literals, patterns, tables
@@ -62,7 +63,7 @@ def compiler():
 
 
 # what a server says or is asked for, what the page calls reasons and classes in itself, and what is alike in all languages
-NO_TEXTS = {"Retry-After", "edihub show\n", "too many", "too large", "field ${}", "${} UTC"}
+NO_TEXTS = {"Retry-After", "edihub show\n", "too many", "too large", "field ${}"}
 
 
 def outside(_program):
@@ -147,7 +148,7 @@ def choice(browser, program):
         assert browser.run("return [document.documentElement.lang, localStorage.length]") == ["en", 0]
         browser.run("location.hash = 'answer/4'")
         browser.until_says("Accept all 10 lines")
-        browser.type(browser.labelled("Changed quantity of line 2"), "40")
+        change(browser, 2, "40")
         browser.run("const it = document.querySelector('#foot select'); it.value = 'de'; it.dispatchEvent(new Event('change'))")
         browser.until_says("is not sent yet")
         browser.press("Leave")

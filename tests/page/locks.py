@@ -54,7 +54,7 @@ def gone_on(browser, stage):
     assert browser.address().endswith("#despatch") and browser.all("nav a[aria-current]")
     stage.sent.clear()
     send(browser, "despatch advice")
-    browser.until_says("1 DESADV accepted")
+    browser.until_replied("1 DESADV accepted")
     assert len(stage.sent) == 1 and b"+TYPED-7+9'" in stage.sent[0][1], stage.sent
 
 

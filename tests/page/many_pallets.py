@@ -61,11 +61,11 @@ def pasted(browser):
     paste(browser, f"S1;1;40;2\nS1;2;30;2\nS2;1;7;{first}\nS1;3;;4\n\nS1;2;10;(00) 9 4012345 500000001 4")
     browser.until_says("87 pieces of 4 rows are on 3 pallets. Nothing is sent yet.", ".paste [role=status]")
     on(browser, ["1 line, 7 pieces", "2 lines, 70 pieces", "1 line, 10 pieces"])
-    browser.until_says("Left: 353 pieces of 4 of 4 lines", "details.left summary")
+    browser.until_says("Left to load: 353 pieces of 4 of 4 lines", "details.left summary")
     # the same pallet again: what was on it is replaced
     paste(browser, "S1;2;80;2")
     on(browser, ["1 line, 7 pieces", "1 line, 80 pieces", "1 line, 10 pieces"])
-    browser.press("Left: 343 pieces of 4 of 4 lines", "summary")
+    browser.press("Left to load: 343 pieces of 4 of 4 lines", "summary")
     browser.until_says("S2", "table.left-lines")
     rows = browser.rows("table.left-lines tbody")
     assert [[it[0], it[1], *it[3:]] for it in rows] == [
@@ -89,7 +89,7 @@ def listed(browser):
     browser.type(browser.labelled("Quantity of order S1, line 2", 1), "20")
     # less here is enough for the other pallet too
     on(browser, ["1 line, 7 pieces", "1 line, 20 pieces", "1 line, 10 pieces"])
-    for text, lines in (("List only the lines on it", 1), ("List all 4 lines", 4)):
+    for text, lines in (("Show only the lines on this pallet", 1), ("Show all 4 lines", 4)):
         pressed(browser, 1, text)
         wait(lambda: len(browser.run(QUANTITIES, 1)) == lines, f"{lines} lines", lambda: browser.run(QUANTITIES, 1))
     browser.press("Collapse all pallets")
@@ -103,29 +103,29 @@ def copied(browser):
     browser.press("Expand all pallets")
     pressed(browser, 1, "Copy this pallet")
     on(browser, ["1 line, 7 pieces", "1 line, 20 pieces", "1 line, 10 pieces", "1 line, 20 pieces"])
-    browser.until_says("Pallet 4 is a copy of it.")
+    browser.until_says("Pallet 4 is a copy of this one.")
     paste(browser, "S1;2;60;2")
     pressed(browser, 1, "Copy this pallet")
     on(browser, ["1 line, 7 pieces", "1 line, 60 pieces", "1 line, 10 pieces", "1 line, 20 pieces", "1 line, 10 pieces"])
-    browser.until_says("Pallet 5 is a copy of it with what was left: 50 pieces less.")
+    browser.until_says("Pallet 5 is a copy of this one with what was left to load: 50 pieces less.")
     pressed(browser, 1, "Copy this pallet")
-    browser.until_says("Nothing is left of its lines, so there is no copy.")
+    browser.until_says("Nothing of its lines is left to load, so there is no copy.")
     for place in (4, 3):
         pressed(browser, place, "Remove this pallet")
     on(browser, ["1 line, 7 pieces", "1 line, 60 pieces", "1 line, 10 pieces"])
-    browser.until_says("Left: 363 pieces of 4 of 4 lines", "details.left summary")
+    browser.until_says("Left to load: 363 pieces of 4 of 4 lines", "details.left summary")
 
 
 def split(browser):
     """What is on a pallet is dealt out evenly, each line and all pieces together."""
-    pressed(browser, 0, "Put all that is open on it")
+    pressed(browser, 0, "Load all that is left on this pallet")
     on(browser, ["4 lines, 370 pieces", "1 line, 60 pieces", "1 line, 10 pieces"])
-    assert browser.run(LEFT) == "Left: nothing", browser.run(LEFT)
+    assert browser.run(LEFT) == "Nothing left to load", browser.run(LEFT)
     for text, said in (("1", "Give a whole number from 2 to 500."), ("371", "Only 370 pieces are on it.")):
-        browser.type(browser.labelled("Split evenly over how many pallets"), text)
+        browser.type(browser.labelled("Split evenly over this many pallets"), text)
         pressed(browser, 0, "Split")
         browser.until_says(said)
-    browser.type(browser.labelled("Split evenly over how many pallets"), "3")
+    browser.type(browser.labelled("Split evenly over this many pallets"), "3")
     pressed(browser, 0, "Split")
     browser.until_says("Done: split over this pallet and pallets 4 to 5.")
     on(browser, ["4 lines, 124 pieces", "1 line, 60 pieces", "1 line, 10 pieces", "4 lines, 123 pieces", "4 lines, 123 pieces"])
@@ -147,7 +147,7 @@ def kept_and_sent(browser, stage):
     assert "It had something" not in browser.text()
     stage.sent.clear()
     send(browser, "despatch advice")
-    browser.until_says("1 DESADV accepted")
+    browser.until_replied("1 DESADV accepted")
     text = stage.sent[0][1].decode()
     wanted = ["LIN+1++4000862000015:SRV'QTY+12:34'RFF+ON:S1:1'", "QTY+12:47'RFF+ON:S2:1'", "QTY+12:60'RFF+ON:S1:2'", "CNT+2:14'"]
     assert all(it in text for it in wanted) and text.count("CPS+") == 5, text

@@ -34,7 +34,7 @@ def asks_first(browser, stage):
 def another(browser, stage):
     browser.type(browser.labelled("SSCC"), "340123455000000012")
     send(browser, "despatch advice")
-    browser.until_says("1 DESADV accepted")
+    browser.until_replied("1 DESADV accepted")
     browser.press("Another despatch")
     wait(lambda: not browser.all(".notice.good") and browser.all(".pallet"), "an empty form")
     assert not browser.run("return document.querySelector('form fieldset').disabled")

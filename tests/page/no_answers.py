@@ -40,8 +40,8 @@ def unreadable(browser, stage):
     page = answer("200 OK", "<html>Please log in</html>", does=True)
     stage.proxy.breaks[:] = [page, page]
     send(browser, "cancellation")
-    browser.until_says("What came back is not an answer of the hub.")
-    browser.until_says("No answer from the hub")
+    browser.until_says("What came back is not a reply of the hub.")
+    browser.until_says("No reply from the hub")
     browser.until_says("Please log in")
     assert browser.run("return document.querySelector('form fieldset').disabled") is True
     browser.press("Send the same again")
@@ -93,7 +93,7 @@ def denied_after_a_break(browser, stage):
     form(browser, stage, 1)
     stage.proxy.breaks[:] = [lost, answer("403 Forbidden", "denied\n")]
     send(browser, "cancellation")
-    browser.until_says("No answer from the hub")
+    browser.until_says("No reply from the hub")
     browser.until_says("Of the last time: Denied")
     browser.press("Send the same again")
     browser.until_says("The hub had it already")

@@ -49,9 +49,9 @@ def with_days(browser, stage):
     browser.until_says("letter.txt: the page finds no order in it.")
     unsure = (days("B1", "20250601", 3), days("B1 ", "20250602", 4), days("other", "20250601", 5, BETA))
     browser.drop("a.edi", interchange(RETAILER, "1", early, *unsure).replace("'", "'\r\n"))
-    browser.until_says("a.edi: 4 orders name their days.")
+    browser.until_says("a.edi: wanted day found for 4 orders.")
     browser.drop("b.edi", elsewhere(interchange(RETAILER, "2", late, days("128577", "20250617", 6, BETA), order("x", [1], reference=7))))
-    browser.until_says("b.edi: 3 orders name their days.")
+    browser.until_says("b.edi: wanted day found for 3 orders.")
     browser.until_says("14 lines of 2 fetched suppliers are open, 10 of them overdue, 1 without a wanted day.")
     found = rows(browser)
     shown = [(it[2], it[-1]) for it in found]
@@ -86,7 +86,7 @@ def elsewhere_too(browser):
 
 def search(browser, text):
     browser.run("location.hash = 'overview'")
-    browser.type(browser.labelled("Order, article or SSCC"), text)
+    browser.type(browser.labelled("Order, article or pallet (SSCC)"), text)
     browser.press("Search all suppliers")
     wait(lambda: browser.run("return document.querySelector('h1')?.textContent") == "Search all suppliers", "search")
 
@@ -106,7 +106,7 @@ def searched(browser, stage):
     browser.run(CAUGHT)
     assert compared(browser) == 4
     browser.run("location.hash = 'overview'")
-    browser.type(browser.labelled("Order, article or SSCC"), "12")
+    browser.type(browser.labelled("Order, article or pallet (SSCC)"), "12")
     browser.press("Search all suppliers")
     browser.until_says("Give at least 3 characters.")
     assert stage.asked == [], stage.asked

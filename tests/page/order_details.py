@@ -157,8 +157,8 @@ def order_shown(browser):
     browser.until_says("Gate 3, ring twice and wait")
     said = browser.text()
     for text in (
-        "Deliver to\n5412345000020, Warehouse North, Quay 12, Dock +4, 2000 Antwerp, Flanders, BE",
-        f"Supplier\n{ALPHA}, Alpha Foods: fine goods, Second name, Long Road 5, 50667 K\xf6ln, DE",
+        "Deliver to\nWarehouse North, Quay 12, Dock +4, 2000 Antwerp, Flanders, BE, 5412345000020",
+        f"Supplier\nAlpha Foods: fine goods, Second name, Long Road 5, 50667 K\xf6ln, DE, {ALPHA}",
         "Final recipient\nShop 7",
         "Delivery wanted\n6 June 2025, 14:30",
         "Delivery at the earliest\n5 June 2025",
@@ -178,7 +178,7 @@ def order_shown(browser):
     remarks = "Delivery wanted: 10 June 2025Contract: 652744, line 3No plastic wrapRFF+PL:AUG93RNG04'"
     assert lines[0][8] == remarks, lines[0]
     assert lines[1][1] == gtin(2) + "Colour: red" and "IMD+C++XYZ::9'" in lines[1][8], lines[1]
-    assert lines[2] == ["3", gtin(3), "", "", "7", "7", "0", "waiting", ""], lines[2]
+    assert lines[2] == ["3", gtin(3), "", "", "7", "7", "0", "not answered yet", ""], lines[2]
     assert browser.run("return document.querySelectorAll('main b').length") == 0
 
 
@@ -218,13 +218,16 @@ def written(browser, program):
         order_shown(browser)
         on_paper(browser)
         usable(browser, "order with details")
+        # another order has the supplier's GLN alone
+        browser.run("location.hash = 'entry/2'")
+        browser.until_says(f"Supplier\nAlpha Foods: fine goods, {ALPHA}")
         browser.run("location.hash = 'answer/1'")
         browser.one("table.answers")
         assert cells(browser, "table.answers", 1)[0] == ARTICLE, browser.rows("table.answers")
         usable(browser, "answer with details")
         browser.press("Accept all 4 lines")
         send(browser, "answer")
-        browser.until_says("1 ORDRSP accepted")
+        browser.until_replied("1 ORDRSP accepted")
         browser.run("location.hash = 'answer/2'")
         browser.until_says("Answer order 128590")
         assert cells(browser, "table.answers", 1) == [ARTICLE], browser.rows("table.answers")

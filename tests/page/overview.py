@@ -135,7 +135,7 @@ def failures(browser, stage):
     browser.until_says("Fetched 0 of 3 suppliers. 3 failed: the table says why.")
     assert statuses(stage) == [ALPHA, BETA, UNKNOWN], stage.asked
     said = [row_of(browser, it)[-1] for it in ("Alpha & S\xf6hne", "Beta; b.v.")]
-    assert said == ["Denied: sign out and in again.", "No answer. The connection broke."], said
+    assert said == ["Denied: sign out and in again.", "No reply. The connection broke."], said
     stage.proxy.instead = {}
     stage.asked.clear()
     browser.press("Fetch the failed ones again (3)")

@@ -1,7 +1,7 @@
 """The SSCCs of a despatch: two tabs propose different ones, scanned ones are understood, one press renumbers what has no label yet, and the
 first serial number is the person's."""
 from tests.page.driver import wait
-from tests.page.forms import fresh, send
+from tests.page.forms import check, fresh, send
 from tests.page.refusals_told import despatch_by_another
 from tests.page.stage import ALPHA, RETAILER, Stage, interchange, order, signed_in
 
@@ -16,6 +16,8 @@ FIRST, SECOND, THIRD, FOURTH, FIFTH, SIXTH, SEVENTH = (
 )
 GROUPED = f"(00) {SEVENTH[0]} {SEVENTH[1:9]} {SEVENTH[9:17]} {SEVENTH[17]}"
 SCANNED = (f"00{SEVENTH}", f"(00){SEVENTH}", f"]C100{SEVENTH}", GROUPED, SEVENTH[:17])
+# what can be seen of ticks for labels that are printed, and of the button for new SSCCs
+OFFERED = "return [...document.querySelectorAll('.label-tick, .renumber')].filter(it => it.offsetParent !== null).map(it => it.textContent)"
 
 
 def ssccs(browser):
@@ -52,7 +54,7 @@ def two_tabs(browser, stage):
     # the same typed by hand is told
     browser.type(browser.labelled("SSCC", 1), SECOND)
     browser.keys("tab")
-    browser.until_says("A form in another tab of this browser has the same SSCC.")
+    browser.until_says("A form in another tab of this browser uses this SSCC already.")
     browser.close_tab(one)
     browser.press("Add a pallet")
     until(browser, [FIRST, SECOND, THIRD])
@@ -79,22 +81,24 @@ def renumbered(browser, stage):
         browser.press("Add a pallet")
         wait(lambda: len(ssccs(browser)) == place + 1, "a pallet")
     until(browser, [FIRST, SECOND, THIRD])
+    # new SSCCs are offered once one is wrong
+    assert browser.run(OFFERED) == [], browser.run(OFFERED)
     for place in range(3):
         browser.type(browser.labelled("Quantity of order P1, line 1", place), "1")
     browser.type(browser.labelled("Number of the despatch"), "D-P1")
     despatch_by_another(stage, "X1", "D-X1", FIRST, 1, of="P1")
     despatch_by_another(stage, "X2", "D-X2", SECOND, 1, of="P1")
     send(browser, "despatch advice")
-    browser.until_says("refused B12", ".delivery")
+    browser.until_replied("refused B12", ".delivery")
     browser.until_says("You have used this SSCC before.")
-    browser.click(browser.labelled("Labelled: its label is printed", 2))
-    browser.press("Renumber the pallets without a label")
+    browser.click(browser.labelled("Its label is printed: keep this SSCC", 2))
+    browser.press("New SSCCs for pallets without a printed label")
     until(browser, [FOURTH, FIFTH, THIRD])
     browser.until_says("2 pallets have new SSCCs. 1 unchanged.")
     assert browser.run("return document.querySelectorAll('.pallet [aria-invalid]').length") == 0
     stage.sent.clear()
     send(browser, "despatch advice")
-    browser.until_says("1 DESADV accepted")
+    browser.until_replied("1 DESADV accepted")
     sent = stage.sent[0][1].decode()
     assert all(f"GIN+BJ+{it}'" in sent for it in (FOURTH, FIFTH, THIRD)), sent
 
@@ -131,7 +135,7 @@ def sent_by_another_tab(browser, stage):
     two = browser.tab()
     browser.to_tab(one)
     send(browser, "despatch advice")
-    browser.until_says("1 DESADV accepted")
+    browser.until_replied("1 DESADV accepted")
     browser.press("Mailbox", "a")
     browser.until_says("new entr")
     browser.to_tab(two)
@@ -149,7 +153,8 @@ def without_prefix(browser, stage):
     signed_in(browser, stage, "8712345000004")
     despatch(browser, prefix="")
     browser.type(browser.labelled("SSCC"), "1234")
-    browser.press("Renumber the pallets without a label")
+    check(browser, "despatch advice")
+    browser.press("New SSCCs for pallets without a printed label")
     browser.until_says("Give your company prefix, so that the page can propose an SSCC.")
     assert ssccs(browser) == ["1234"], ssccs(browser)
     assert browser.run("return document.activeElement.labels[0].textContent") == "Your GS1 company prefix"

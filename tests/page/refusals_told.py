@@ -4,7 +4,7 @@ import threading
 import time
 
 from tests.page.driver import ELEMENT, wait
-from tests.page.forms import check, fresh, send
+from tests.page.forms import change, check, fresh, send
 from tests.page.stage import ALPHA, BETA, RETAILER, Stage, gtin, interchange, message, order, signed_in
 
 PALLET = "340123455000000012"
@@ -23,8 +23,8 @@ def cancelled(stage, reference, quantity, of="R1", line=1):
 
 def told_at(browser, label, code, said):
     """The code in words, and at this field, which has the focus, what is wrong."""
-    browser.until_says("The hub said: interchange")
-    browser.until_says(f"refused {code}", ".delivery")
+    browser.until_replied("interchange")
+    browser.until_replied(f"refused {code}", ".delivery")
     browser.until_says(said, "form")
     focused(browser, label)
 
@@ -46,7 +46,7 @@ def despatches(browser, stage):
     field = "Quantity of order R1, line 1"
     form(browser, sscc="387123450000000012")
     send(browser, "despatch advice")
-    told_at(browser, "SSCC", "B11", "under none of your prefixes")
+    told_at(browser, "SSCC", "B11", "under none of your company prefixes")
     form(browser)
     despatch_by_another(stage, "X1", "D-1", PALLET, 1)
     send(browser, "despatch advice")
@@ -62,7 +62,7 @@ def despatches(browser, stage):
     # mended, under the same form, it goes
     browser.type(browser.labelled(field), "5")
     send(browser, "despatch advice")
-    browser.until_says("1 DESADV accepted")
+    browser.until_replied("1 DESADV accepted")
 
 
 def checks_of_the_form(browser, stage):
@@ -79,7 +79,7 @@ def checks_of_the_form(browser, stage):
     browser.type(browser.labelled("Your GS1 company prefix"), "9999")
     browser.type(browser.labelled("SSCC"), "340123455000000043")
     check(browser, "despatch advice")
-    browser.until_says("does not begin with your prefix 9999")
+    browser.until_says("your company prefix 9999 should follow")
     browser.type(browser.labelled("Your GS1 company prefix"), "40123455")
     browser.press("Add a pallet")
     assert value(1) == "340123455000000050", value(1)
@@ -95,23 +95,23 @@ def answers(browser, stage):
     stage.upload(RETAILER, interchange(RETAILER, "R2", order("R2", [30, 40])))
     fresh(browser, "answer/2")
     for line, quantity in ((1, "5"), (2, "20")):
-        browser.type(browser.labelled(f"Changed quantity of line {line}"), quantity)
-    browser.type(browser.labelled("Changed quantity of line 2"), "41")
+        change(browser, line, quantity)
+    change(browser, 2, "41")
     check(browser, "answer")
     browser.until_says("Give a whole number from 0 to 40.")
-    browser.type(browser.labelled("Changed quantity of line 2"), "20")
+    change(browser, 2, "20")
     despatch_by_another(stage, "X3", "D-3", "340123455000000081", 10, of="R2")
     send(browser, "answer")
     told_at(browser, "Changed quantity of line 1", "B08", "Give a whole number from 10 to 30.")
-    browser.type(browser.labelled("Changed quantity of line 1"), "12")
+    change(browser, 1, "12")
     parties = ("DTM+137:20250604:102", "RFF+ON:R2", f"NAD+BY+{RETAILER}::9", f"NAD+SU+{ALPHA}::9")
     answer = message("ORDRSP:D:01B:UN:EAN009", "BGM+231+A2+4", *parties, f"LIN+1+5+{gtin(2)}:SRV", "RFF+ON:R2:2", "UNS+S")
     stage.upload(ALPHA, interchange(ALPHA, "X4", answer))
     send(browser, "answer")
-    told_at(browser, "Changed quantity of line 2", "B07", "This line waits no more: it is accepted.")
+    told_at(browser, "Changed quantity of line 2", "B07", "Line 2 is answered already: accepted.")
     # the line that still waits is answered by itself
     send(browser, "answer")
-    browser.until_says("1 ORDRSP accepted")
+    browser.until_replied("1 ORDRSP accepted")
     lines = [it.split()[4:8] for it in stage.ask(ALPHA, "status").splitlines() if it.startswith("L R2 ")]
     assert lines == [["C", "30", "2", "18"], ["A", "40", "40", "0"]], lines
 
@@ -130,7 +130,7 @@ def cancellations(browser, stage):
     for label, text, code in wrong:
         cancellation(browser, **{label: text})
         send(browser, "cancellation")
-        browser.until_says(f"refused {code}")
+        browser.until_replied(f"refused {code}")
         focused(browser, label)
 
 
@@ -155,7 +155,7 @@ def more_than_is_open(browser, stage):
     assert stage.sent == [], stage.sent
     cancelled(stage, "Y3", 1, of="R2", line=2)
     browser.press("Send cancellation")
-    browser.until_says("refused B17")
+    browser.until_replied("refused B17")
     browser.until_says("Only 36 pieces are open, as of ")
     focused(browser, label)
     # of another line nothing is known yet
@@ -181,7 +181,7 @@ def while_nobody_answers(browser, stage):
         browser.type(browser.labelled(label), text)
         check(browser, "cancellation")
         browser.until_says(said)
-    browser.until_says("; the hub does not answer just now.", ".summary")
+    browser.until_says("; the hub does not reply just now.", ".summary")
     browser.press("Change something")
     browser.type(browser.labelled("Line"), "7")
     check(browser, "cancellation")

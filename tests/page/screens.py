@@ -2,7 +2,7 @@
 import os
 
 from tests.page.driver import wait
-from tests.page.forms import check, fresh, send, send_files
+from tests.page.forms import change, check, fresh, send, send_files
 from tests.page.stage import ALPHA, BETA, DAY, RETAILER, gtin, interchange, message, order, released, signed_in
 from tests.page.stage import opened as tab_opened
 
@@ -32,7 +32,7 @@ def wait_dates(browser):
 
 
 def taken(browser):
-    browser.press("Show what was taken")
+    browser.press("Show read entries")
     browser.until_says("128576", ".taken")
 
 
@@ -43,7 +43,7 @@ def mailbox(browser):
 
 def answer(browser):
     browser.press("Accept all 10 lines")
-    browser.type(browser.labelled("Changed quantity of line 2"), "40")
+    change(browser, 2, "40")
     browser.run("document.activeElement.blur()")
 
 
@@ -56,20 +56,20 @@ def reviewed(browser):
 def despatch(browser):
     browser.type(browser.labelled("Your GS1 company prefix"), "40123455")
     browser.keys("tab")
-    browser.press("Put all that is open on it")
+    browser.press("Load all that is left on this pallet")
     browser.run("scrollTo(0, 0); document.activeElement.blur()")
 
 
 def pallets(browser):
     """All that is open, split over three pallets, and less on one of them, so that something is left."""
     despatch(browser)
-    browser.type(browser.labelled("Split evenly over how many pallets"), "3")
+    browser.type(browser.labelled("Split evenly over this many pallets"), "3")
     browser.press("Split")
     browser.until_says("Done: split over this pallet and pallets 2 to 3.")
     browser.press("Collapse all pallets")
     browser.run("document.querySelectorAll('.toggle')[2].click()")
     browser.type(browser.labelled("Quantity of order 128590, line 2"), "8")
-    browser.press("Left: 12 pieces of 1 of 10 lines", "summary")
+    browser.press("Left to load: 12 pieces of 1 of 10 lines", "summary")
     browser.run("document.querySelector('details.left').scrollIntoView(); document.activeElement.blur()")
 
 
@@ -77,13 +77,13 @@ def sent(browser):
     """An answer that the hub refused: somebody answered meanwhile."""
     browser.press("Accept all 2 lines")
     send(browser, "answer")
-    browser.until_says("The hub said")
+    browser.until_says("What the hub replied")
 
 
 def no_answer(browser):
     browser.press("Accept all 10 lines")
     send(browser, "answer")
-    browser.until_says("No answer from the hub")
+    browser.until_says("No reply from the hub")
 
 
 def uploaded(browser):
@@ -118,7 +118,7 @@ def open_lines(browser):
     browser.until_says("lines of 2 fetched suppliers are open")
     late = order("128591", [80], reference=2).replace("DTM+2:20250606", "DTM+2:20250604")
     browser.drop("orders.edi", interchange(RETAILER, "2001", order("128590", [120]), late))
-    browser.until_says("2 orders name their days.")
+    browser.until_says("wanted day found for 2 orders.")
     # others have their days only if this tab uploaded them
     named = lambda: [row for row in browser.rows("main table tbody") if {"128590", "128591"} & set(row)]
     wait(lambda: named() and all(row[-1] != "–" for row in named()), "a day at each line of these orders")

@@ -15,7 +15,7 @@ def left_while_sending(browser, stage):
     stage.proxy.breaks[:] = [slow]
     send(browser, "answer")
     browser.run("location.hash = 'mailbox'")
-    browser.until_says("1 ORDRSP accepted", "#banner")
+    browser.until_replied("1 ORDRSP accepted", "#banner")
     browser.until_says("Your answer to order V1", "#banner")
     browser.press("Sent", "a")
     browser.until_says("Your answer to order V1", "table.sent")
@@ -52,14 +52,14 @@ def another_failure(browser, stage):
     stage.proxy.breaks[:] = [late, lost]
     send(browser, "answer")
     browser.press("Mailbox", "a")
-    browser.until_says("Your answer to order V2 was sent, and no answer came.", "#banner")
-    browser.named("a", "Sent (1 without answer)")
+    browser.until_says("Your answer to order V2 was sent, and no reply came.", "#banner")
+    browser.named("a", "Sent (1 without a reply)")
     stage.end_hub()
-    browser.press("Mark as taken")
+    browser.press("Mark as read")
     browser.until_says("try again in a moment", "#banner")
     complaints = browser.complaints()
     assert complaints and all("502 the hub does not answer" in it for it in complaints), complaints
-    browser.until_says("Your answer to order V2 was sent, and no answer came.", "#banner")
+    browser.until_says("Your answer to order V2 was sent, and no reply came.", "#banner")
     stage.begin_hub()
     browser.named("button", "Send the same again")
 
@@ -68,9 +68,9 @@ def after_a_reload(browser, stage):
     """A reload keeps it too, with its button; and the form does not offer the same once more under another reference."""
     browser.ask("POST", "/refresh")
     back_in(browser, ALPHA)
-    browser.until_says("Your answer to order V2 was sent, and no answer came.", "#banner")
-    browser.press("Sent (1 without answer)", "a")
-    browser.until_says("No answer. It may have arrived or not.", "table.sent")
+    browser.until_says("Your answer to order V2 was sent, and no reply came.", "#banner")
+    browser.press("Sent (1 without a reply)", "a")
+    browser.until_says("No reply. It may have arrived or not.", "table.sent")
     browser.press("Send the same again")
     browser.until_says("The hub had it already", "table.sent")
     assert browser.run("return document.activeElement.className") == "verdict"

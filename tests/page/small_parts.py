@@ -61,7 +61,8 @@ DATES = [
     (("dateInWords", "20250603", "102"), "3 June 2025"),
     (("dateInWords", "202506030915", "203"), "3 June 2025, 09:15"),
     (("dateInWords", "<b>", "102"), "<b>"),
-    (("preparedInWords", "250603", "0920"), "3 June 2025, 09:20 UTC"),
+    (("preparedInWords", "250603", "0920"), "3 June 2025, 09:20"),
+    (("cameInInWords", {"date": "991332", "time": "0920"}), "209913320920"),
 ]
 TEXTS = [
     (("released", "?+:'a "), "???+?:?'a "),
@@ -91,7 +92,7 @@ ANSWERS = [
     (("readAnswers", "Quantity,Line,Answer\n9,1,", [TAKEN]), {"answers": [{**GIVEN, "answer": "changed", "quantity": "9"}], "wrong": []}),
     (("readAnswers", "1,,", [TAKEN]), {"answers": [], "wrong": []}),
     (("readAnswers", "Line;Answer", [TAKEN]), {"answers": [], "wrong": ["Row 1: name the columns Line, Your answer and Changed to."]}),
-    (("readAnswers", "2;refused", [DONE]), {"answers": [], "wrong": ["Row 1: Line 2 waits no more: it is accepted."]}),
+    (("readAnswers", "2;refused", [DONE]), {"answers": [], "wrong": ["Row 1: Line 2 is answered already: accepted."]}),
     (("readAnswers", "1;changed;7", [TAKEN]), {"answers": [], "wrong": ["Row 1: Line 1: give a whole number from 8 to 48."]}),
 ]
 SPLITS = [
@@ -228,6 +229,37 @@ REPLIES = [
     (("readStatus", LINE + PALLET + "end\n"), {"lines": [LINE_READ], "pallets": [PALLET_READ], "raw": []}),
     (("readStatus", LINE[:-2]), {"lines": [], "pallets": [], "raw": [LINE[:-2], "(the report has no end)"]}),
 ]
+# what of a file's messages becomes of the file
+VERDICTS = [
+    (("readFile", f"interchange 1 messages 2\n1 ORDERS {first}\n2 ORDERS {second}\n"), {"outcome": outcome, "code": ""})
+    for first, second, outcome in (
+        ("accepted", "accepted", "accepted"),
+        ("accepted", "repeated", "accepted"),
+        ("accepted", "refused B04", "partly"),
+        ("repeated", "refused B04", "partly"),
+        ("refused B04", "refused B05", "refused"),
+    )
+]
+# what is wrong with a segment, as far as it tells by itself
+KNOWN = [
+    (("knownCause", code, segment), cause and {"cause": cause, "text": text})
+    for code, segment, cause, text in (
+        ("M08", "QTY+21:2O'", "notWhole", "2O"),
+        ("M08", "QTY+21:1.5'", "notWhole", "1.5"),
+        ("M08", "QTY+21:5:KGM'", "notPieces", "KGM"),
+        ("M08", "QTY+21:0'", "nothing", "0"),
+        ("M08", "QTY+21:12,000:PCE'", None, ""),
+        ("M08", "QTY+21'", None, ""),
+        ("M08", "LIN+1'", None, ""),
+        ("M07", "LIN+1++4000862000016:SRV'", "notAGtin", "4000862000016"),
+        ("M07", "LIN+x++4000862000015:SRV'", None, ""),
+        ("M05", "NAD+SU+4012345500005::9'", "notAGln", "4012345500005"),
+        ("M10", "GIN+BJ+340123455000000013'", "notAnSscc", "340123455000000013"),
+        ("M04", "DTM+137:20250631:102'", "notADate", "20250631"),
+        ("M04", "DTM+137:250603:101'", None, ""),
+        ("E14", "UNZ+2+9~", None, ""),
+    )
+]
 
 
 def called(_program):
@@ -235,7 +267,7 @@ def called(_program):
     tables |= {"suppliers/file.js": SUPPLIERS, "suppliers/search.js": SEARCHES, "edi/document_names.js": FILE_NAMES}
     tables |= {"hub/replies.js": REPLIES, "hub/place.js": PLACES, "parts/csv.js": FILES, "parts/answer_rows.js": ANSWERS}
     tables |= {"despatch/even_split.js": SPLITS, "despatch/pallet_rows.js": PALLET_ROWS}
-    tables |= {"edi/shown.js": SHOWN, "edi/fault_place.js": SPOTS}
+    tables |= {"edi/shown.js": SHOWN, "edi/fault_place.js": SPOTS, "edi/known_cause.js": KNOWN, "hub/kinds.js": VERDICTS}
     calls = [(module, *words) for module, table in tables.items() for words, _ in table]
     wanted = [it for table in tables.values() for _, it in table]
     for call, found, want in zip(calls, by_node("call.mjs", calls), wanted, strict=True):

@@ -1,6 +1,6 @@
 """Nothing is sent by Enter or by one press: Enter goes on to the next field, and a summary before the second press says what is sent."""
 from tests.page.driver import ELEMENT, wait
-from tests.page.forms import check
+from tests.page.forms import change, check
 from tests.page.screens import furnished
 from tests.page.stage import ALPHA, RETAILER, Stage, gtin, signed_in
 
@@ -60,7 +60,7 @@ def answer(browser, stage):
     signed_in(browser, stage, ALPHA)
     browser.run("location.hash = 'answer/4'")
     browser.press("Accept all 10 lines")
-    browser.type(browser.labelled("Changed quantity of line 2"), "40")
+    change(browser, 2, "40")
     stage.sent.clear()
     browser.keys("enter")
     assert stage.sent == [], f"Enter sends {stage.sent}"
@@ -71,7 +71,7 @@ def answer(browser, stage):
     browser.until_says("Line 2: from 60 to 40", ".summary")
     assert browser.run("return document.querySelector('form fieldset').disabled") is True
     browser.press("Send answer")
-    browser.until_says("1 ORDRSP accepted")
+    browser.until_replied("1 ORDRSP accepted")
     assert len(stage.sent) == 1, stage.sent
 
 
@@ -84,13 +84,13 @@ def despatch(browser, stage):
     assert stage.sent == [], f"Enter sends {stage.sent}"
     # what a field does when it is left is done
     wait(lambda: browser.run("return arguments[0].value", {ELEMENT: browser.labelled("SSCC")}) == "340123455000000050", "check digit")
-    browser.press("Put all that is open on it")
+    browser.press("Load all that is left on this pallet")
     browser.type(browser.labelled("Number of the despatch"), "D-77")
     check(browser, "despatch advice")
     browser.until_says("You are announcing despatch D-77: 1 pallet, 69 pieces of order 128591.", ".summary")
     browser.until_says("340123455000000050: 69 pieces, 2 lines", ".summary")
     browser.press("Send despatch advice")
-    browser.until_says("1 DESADV accepted")
+    browser.until_replied("1 DESADV accepted")
 
 
 def summaries(browser, program):

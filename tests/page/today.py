@@ -76,7 +76,7 @@ def furnished(stage):
 
 def shown(browser):
     browser.until_says(DONE)
-    return {it: browser.run(PART, it) for it in ("Orders to answer", "Lines to ship", "Announced, not received", "Received short")}
+    return {it: browser.run(PART, it) for it in ("Orders to answer", "Lines to despatch", "Announced, not received", "Received short")}
 
 
 def parts(browser, stage):
@@ -89,7 +89,7 @@ def parts(browser, stage):
             ["T7", "1", "80", "9 June 2025 overdue", "#answer/7"],
             ["T1", "2", "30", "30 June 2025", "#answer/1"],
         ],
-        "Lines to ship": [
+        "Lines to despatch": [
             ["T5", "1", gtin(1), "60", "5 June 2025 overdue", "#despatch/5"],
             ["T2", "1", gtin(1), "30", "6 June 2025 overdue", "#despatch/2"],
             ["T4", "1", gtin(1), "50", "ordered 1 June 2025", "#despatch/4"],
@@ -100,7 +100,7 @@ def parts(browser, stage):
         "Received short": [[PALLETS[1], gtin(1), "6", "−2 missing", "#entry/8"]],
     }
     assert shown(browser) == wanted, shown(browser)
-    lead = "2 orders to answer, 5 lines to ship, 2 of them overdue, 1 pallet announced and not received, 1 received short."
+    lead = "2 orders to answer, 5 lines to despatch, 2 of them overdue, 1 pallet announced and not received, 1 received short."
     assert browser.text(".lead") == lead, browser.text(".lead")
     assert browser.run(TITLE) == "(8) Today · edihub", browser.run(TITLE)
     return sum(len(it) for it in wanted.values())
@@ -123,8 +123,8 @@ def actions(browser):
         if heading == "Status":
             assert [it[0] for it in browser.rows("table.pallet-rows tbody")] == [PALLETS[0]]
     # once the advice is marked as taken, the pallet is done, and there is no table without rows
-    browser.press("Mark as taken")
-    browser.until_says("Marked as taken")
+    browser.press("Mark as read")
+    browser.until_says("Marked as read")
     browser.press("Today", "a")
     assert shown(browser)["Received short"] == []
     browser.until_says("Nothing new was received short.")
@@ -161,7 +161,7 @@ def without_a_search(browser, stage):
     signed_in(browser, stage, ALPHA, "#sent")
     stage.proxy.instead[path] = lambda handler, body: handler.cut()
     browser.run("location.hash = 'today'")
-    browser.until_says("The hub did not answer at")
+    browser.until_says("The hub did not reply at")
     found = browser.run("return [...document.querySelectorAll('main .action a')].map(it => it.getAttribute('href'))")
     assert found.count("#mailbox") == 7, found
     del stage.proxy.instead[path]
@@ -246,11 +246,11 @@ def unanswered(browser, stage):
     """If the hub is away, what was shown stays, and the page says that it asks again."""
     stage.end_hub()
     browser.press("Look again now")
-    browser.until_says("The hub did not answer at")
+    browser.until_says("The hub did not reply at")
     assert len(browser.run(PART, "Orders to answer")) == 4
     stage.begin_hub()
     browser.press("Look again now")
-    wait(lambda: "The hub did not answer at" not in browser.text(), "an answer")
+    wait(lambda: "The hub did not reply at" not in browser.text(), "an answer")
 
 
 def kept_fresh(browser, program):

@@ -33,7 +33,7 @@ def names(browser, program):
             ["C 3", "Order", "<i>U3", "4000000000006"],
             ["4", "Receiving advice", "W9", ALPHA],
         ]
-        codes = ["Accepted", "M08", "B02", "B14"]
+        codes = ["Accepted", *(f"Refused: nothing was changed. {it} " for it in ("M08", "B02", "B14"))]
         browser.drop("a.edi", text)
         # the same in another spelling: the hub had the first already
         browser.drop("b.edi", elsewhere(text))
@@ -47,6 +47,7 @@ def names(browser, program):
         assert compared(browser) == 8
         browser.press("Sent", "a")
         browser.until_says(f"Message 2 (Order U2, supplier {ALPHA}): Refused", "table.sent")
+        browser.until_says("Message 1 (Order U1, supplier Beta): Accepted", "table.sent")
         assert browser.complaints() == [] and browser.run("return document.querySelectorAll('main i').length") == 0
     return "4 messages in two spellings, each with its order or advice and its supplier"
 

@@ -85,7 +85,7 @@ def paused(browser, stage):
     for name in ("F4", "F5", "F6"):
         browser.drop(f"{name}.edi", file(name))
     send_files(browser, 3)
-    browser.until_says("A file got no answer, so those after it wait.")
+    browser.until_says("A file got no reply, so those after it wait.")
     says(browser, "F5.edi", "Waiting for its turn")
     assert sent_names(stage) == ["F4", "F4"], sent_names(stage)
     # the answer lets the rest go
@@ -104,7 +104,7 @@ def continued(browser, stage):
     send_files(browser, 2)
     browser.press("Continue with the rest")
     says(browser, "F8.edi", "Accepted")
-    says(browser, "F7.edi", "No answer from the hub")
+    says(browser, "F7.edi", "No reply from the hub")
     assert sent_names(stage) == ["F7", "F7", "F8"], sent_names(stage)
     browser.press("Send the same again")
     says(browser, "F7.edi", "The hub had it already")
