@@ -60,13 +60,12 @@ async function shown(context, gln) {
     session.supplier = gln;
     const choice = new LineChoice(context, gln, status.lines);
     /** @type {import("../parts/table.js").Column<StatusLine>} */
-    const tick = { title: phrases.lineChoice.column, csv: false, cell: (it) => choice.cell(it) ?? "", kind: "tick-cell" };
-    /** @type {import("../parts/table.js").Column<StatusLine>} */
-    const cancel = { title: "", cell: (it) => (it.open > 0 ? cancelLink(gln, it) : ""), kind: "action" };
+    const actions = { title: phrases.cancel.title, csv: false, cell: (it) => action(gln, it, choice) };
     const wanted = await wantedColumn(session, gln, status.lines);
     // there is no room for both
     const without = wanted.length ? ["shares"] : [];
-    const more = { first: [tick], last: [...wanted, cancel] };
+    // where each row begins, so that it is in view also if the table is wider than the screen
+    const more = { first: [actions], last: wanted };
     const answer = phrases.common.suppliersAnswer;
     return statusView(status, new Articles(), { answer, without, more, under: (lines) => choice.bar(lines) });
   } catch (why) {
@@ -83,6 +82,10 @@ async function wantedColumn(session, gln, lines) {
   const due = (/** @type {StatusLine} */ it) => dueOf(planner, gln, it.order, today, it.open > 0);
   return lines.some((it) => due(it).isWanted) ? [dueColumn(due)] : [];
 }
+
+/** @param {string} gln @param {StatusLine} line @param {LineChoice} choice */
+const action = (gln, line, choice) =>
+  line.open > 0 ? element("span", { class: "line-actions" }, choice.cell(line), cancelLink(gln, line)) : "";
 
 // Of an order of which the number is unsure the person types it, with its blanks.
 /** @param {string} gln @param {import("../hub/replies.js").StatusLine} it */

@@ -362,7 +362,7 @@ export const de = {
   leaving: { stay: "Bleiben" },
   leftLines: {
     left: (pieces, some, lines) => 
-      `Noch zu laden: ${figure(pieces)} Stück von ${figure(some)} von ${counted(lines, "Position", "Positionen")}`,
+      `Noch zu laden: ${figure(pieces)} Stück aus ${figure(some)} von ${counted(lines, "Position", "Positionen")}`,
     nothing: "Nichts mehr zu laden",
     tooMuch: (lines) => `zu viel von ${counted(lines, "Position", "Positionen")}`,
     caption: "Was noch zu laden ist",
@@ -371,7 +371,6 @@ export const de = {
   },
   lineChoice: {
     hint: (most) => `Kreuzen Sie Positionen an, um mehrere auf einmal zu stornieren, höchstens ${figure(most)}.`,
-    column: "Auswahl",
     chosen: (lines, pieces) =>
       `${counted(lines, "Position", "Positionen")} gewählt, davon ${plural(pieces, "ist", "sind")} ${figure(pieces)} Stück offen.`,
     cancel: (lines) => `${counted(lines, "Position", "Positionen")} stornieren…`,

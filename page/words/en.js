@@ -396,7 +396,7 @@ export const en = {
   },
   leftLines: {
     left: (/** @type {number} */ pieces, /** @type {number} */ some, /** @type {number} */ lines) => 
-      `Left to load: ${counted(pieces, "piece", "pieces")} of ${figure(some)} of ${counted(lines, "line", "lines")}`,
+      `Left to load: ${counted(pieces, "piece", "pieces")} from ${figure(some)} of ${counted(lines, "line", "lines")}`,
     nothing: "Nothing left to load",
     tooMuch: (/** @type {number} */ lines) => `too much of ${counted(lines, "line", "lines")}`,
     caption: "What is left to load",
@@ -405,7 +405,6 @@ export const en = {
   },
   lineChoice: {
     hint: (/** @type {number} */ most) => `Tick lines to cancel several at once, at most ${figure(most)}.`,
-    column: "Choose",
     chosen: (/** @type {number} */ lines, /** @type {number} */ pieces) =>
       `${counted(lines, "line", "lines")} chosen, of which ${counted(pieces, "piece is", "pieces are")} open.`,
     cancel: (/** @type {number} */ lines) => `Cancel ${counted(lines, "line", "lines")}…`,

@@ -373,7 +373,6 @@ export const fr = {
   },
   lineChoice: {
     hint: (most) => `Cochez des lignes pour en annuler plusieurs à la fois, au plus ${figure(most)}.`,
-    column: "Choix",
     chosen: (lines, pieces) =>
       `${counted(lines, "ligne choisie", "lignes choisies")}, dont ${counted(pieces, "pièce ouverte", "pièces ouvertes")}.`,
     cancel: (lines) => `Annuler ${counted(lines, "ligne", "lignes")}…`,

@@ -358,7 +358,7 @@ export const nl = {
   leaving: { stay: "Blijven" },
   leftLines: {
     left: (pieces, some, lines) => 
-      `Nog te laden: ${counted(pieces, "stuk", "stuks")} van ${figure(some)} van ${counted(lines, "regel", "regels")}`,
+      `Nog te laden: ${counted(pieces, "stuk", "stuks")} uit ${figure(some)} van ${counted(lines, "regel", "regels")}`,
     nothing: "Niets meer te laden",
     tooMuch: (lines) => `te veel van ${counted(lines, "regel", "regels")}`,
     caption: "Wat nog te laden is",
@@ -367,7 +367,6 @@ export const nl = {
   },
   lineChoice: {
     hint: (most) => `Vink regels aan om er meerdere tegelijk te annuleren, hoogstens ${figure(most)}.`,
-    column: "Keuze",
     chosen: (lines, pieces) =>
       `${counted(lines, "regel", "regels")} gekozen, waarvan ${counted(pieces, "stuk openstaat", "stuks openstaan")}.`,
     cancel: (lines) => `${counted(lines, "regel", "regels")} annuleren…`,

@@ -61,11 +61,11 @@ def pasted(browser):
     paste(browser, f"S1;1;40;2\nS1;2;30;2\nS2;1;7;{first}\nS1;3;;4\n\nS1;2;10;(00) 9 4012345 500000001 4")
     browser.until_says("87 pieces of 4 rows are on 3 pallets. Nothing is sent yet.", ".paste [role=status]")
     on(browser, ["1 line, 7 pieces", "2 lines, 70 pieces", "1 line, 10 pieces"])
-    browser.until_says("Left to load: 353 pieces of 4 of 4 lines", "details.left summary")
+    browser.until_says("Left to load: 353 pieces from 4 of 4 lines", "details.left summary")
     # the same pallet again: what was on it is replaced
     paste(browser, "S1;2;80;2")
     on(browser, ["1 line, 7 pieces", "1 line, 80 pieces", "1 line, 10 pieces"])
-    browser.press("Left to load: 343 pieces of 4 of 4 lines", "summary")
+    browser.press("Left to load: 343 pieces from 4 of 4 lines", "summary")
     browser.until_says("S2", "table.left-lines")
     rows = browser.rows("table.left-lines tbody")
     assert [[it[0], it[1], *it[3:]] for it in rows] == [
@@ -113,7 +113,7 @@ def copied(browser):
     for place in (4, 3):
         pressed(browser, place, "Remove this pallet")
     on(browser, ["1 line, 7 pieces", "1 line, 60 pieces", "1 line, 10 pieces"])
-    browser.until_says("Left to load: 363 pieces of 4 of 4 lines", "details.left summary")
+    browser.until_says("Left to load: 363 pieces from 4 of 4 lines", "details.left summary")
 
 
 def split(browser):

@@ -197,6 +197,21 @@ BUGS = [
     ("each screen in each", "style/page.css", "    flex-wrap: wrap;\n    gap: 0;\n", ""),
     ("the choice of", "parts/form_content.js", 'it.dataset.field ?? ""].join', 'it.labels?.[0]?.textContent ?? ""].join'),
     ("the choice of", "kept_language.js", "localStorage.setItem(NAME, language);", ""),
+    ("a day from", "screens/answer.js", 'quantity.input.disabled = this.answer !== "changed";', "quantity.input.disabled = false;"),
+    ("a day from", "style/controls.css", "textarea:disabled,\n.choice", "textarea:read-only,\n.choice"),
+    ("a day from", "screens/receipt.js", "    ...correctedSince(receipt, rows),\n    terms(", "    terms("),
+    ("typed work", "parts/form_content.js", "!isChoice(it) || it.checked", "!isChoice(it)"),
+    ("a colleague's answer", "parts/sending_form.js", "this.sayFirst(verdict.code);", "this.note();"),
+    ("functions of the page", "hub/kinds.js", '"partly" : "accepted"', '"accepted" : "accepted"'),
+    ("functions of the page", "edi/known_cause.js", "([.,]0+)?", ""),
+    ("a file is checked", "parts/fault_in_words.js", "codeInWords(fault.code, causeInWords(fault, text))", "codeInWords(fault.code)"),
+    ("several lines", "screens/supplier.js", "first: [actions], last: wanted", "first: [], last: [...wanted, actions]"),
+    ("numbers of pallets", "style/despatch.css", ".pallets:not(.needs-ssccs) .label-tick,\n", ""),
+    ("uploads name", "screens/upload.js", 'phrases.outcomes[outcome], code && " ", ', ""),
+    ("uploads name", "screens/sent.js", "nameOf(session, gln) || gln", "gln"),
+    ("bars as they", "parts/bar.js", '"calc(100% + 1px)"', '"100%"'),
+    ("clocks", "edi/dates.js", "momentInWords(Date.UTC(", "momentInWords(+new Date("),
+    ("the order as the buyer", "screens/order.js", "partyRow(named(it, nameOf))", "partyRow(it)"),
 ]
 
 

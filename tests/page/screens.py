@@ -69,7 +69,7 @@ def pallets(browser):
     browser.press("Collapse all pallets")
     browser.run("document.querySelectorAll('.toggle')[2].click()")
     browser.type(browser.labelled("Quantity of order 128590, line 2"), "8")
-    browser.press("Left to load: 12 pieces of 1 of 10 lines", "summary")
+    browser.press("Left to load: 12 pieces from 1 of 10 lines", "summary")
     browser.run("document.querySelector('details.left').scrollIntoView(); document.activeElement.blur()")
 
 

@@ -90,7 +90,7 @@ def interrupted(browser, stage):
     browser.ask("POST", "/refresh")
     back_in(browser, ALPHA)
     browser.run("location.hash = 'sent'")
-    browser.until_says("The page was loaded again before an answer came.", "table.sent")
+    browser.until_says("The page was loaded again before a reply came.", "table.sent")
     browser.press("Send the same again")
     wait(lambda: "The hub had it already" in browser.rows("table.sent")[0][2], "answer to the latest")
     alike(stage, 2)
