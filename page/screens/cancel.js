@@ -14,7 +14,7 @@ import { look } from "../parts/look.js";
 import { documentNumber } from "../parts/order_number.js";
 import { sendingForm } from "../parts/sending_form.js";
 import { clockTime } from "../parts/sending_panel.js";
-import { partyByName } from "../party_names.js";
+import { partyNames } from "../party_names.js";
 
 /** @typedef {Record<"supplier" | "order" | "line" | "quantity", Field>} Fields */
 
@@ -27,6 +27,7 @@ export async function cancelScreen(context, ...words) {
   const [supplier = session.supplier, order = "", line = ""] = words;
   const wrong = supplier && wrongGln(supplier);
   const known = new KnownLine(session);
+  const { byName } = partyNames(session);
   if (supplier && order && !wrong) await known.ask({ supplier, order, line: Number(line) });
   const fields = fieldsFor({ supplier, order, line });
   const all = Object.values(fields);
@@ -42,7 +43,7 @@ export async function cancelScreen(context, ...words) {
     content: all.map((it) => it.element),
     check: () => checked(fields, all),
     look: { ask: () => known.ask(typedIn(fields)), check: () => isOpen(fields, known) },
-    summary: () => summaryOf(fields, known, (gln) => partyByName(session, gln)),
+    summary: () => summaryOf(fields, known, byName),
     write: ({ reference }) => bodyOf(fields, reference),
     settled: ({ outcome, code }) => {
       if (outcome === "refused") return showRefusal(fields, known, code);

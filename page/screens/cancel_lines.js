@@ -17,7 +17,7 @@ import { clockTime } from "../parts/sending_panel.js";
 import { Summary } from "../parts/summary.js";
 import { Table } from "../parts/table.js";
 import { ChosenLines } from "../suppliers/chosen_lines.js";
-import { partyByName } from "../party_names.js";
+import { partyNames } from "../party_names.js";
 import { plannerOf } from "../suppliers/planner.js";
 import { CancelResults } from "./cancel_results.js";
 import { lineColumns } from "./status.js";
@@ -39,7 +39,8 @@ export async function cancelLinesScreen({ session }, supplier = "") {
   const results = new CancelResults(queue, supplier);
   const ask = async () => (await session.status(supplier)).lines;
   const lines = chosen.chosen.length ? await ask() : [];
-  const form = new CancelForm({ supplier, named: partyByName(session, supplier), queue, chosen, results, lines, ask });
+  const named = partyNames(session).byName(supplier);
+  const form = new CancelForm({ supplier, named, queue, chosen, results, lines, ask });
   const back = element("p", { class: "back" }, link(`‹ ${phrases.common.statusOfThisSupplier}`, `supplier/${supplier}`));
   const shown = form.rows.length ? form.element : null;
   const none = noneChosen(form, queue.of(supplier).length);

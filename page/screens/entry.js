@@ -7,7 +7,7 @@ import { button, element, heading, link, saying } from "../parts/dom.js";
 import { downloadButton } from "../parts/download.js";
 import { documentNumber, numberInWords } from "../parts/order_number.js";
 import { rawDetails } from "../parts/raw.js";
-import { nameOf, partyByName } from "../party_names.js";
+import { partyNames } from "../party_names.js";
 import { orderView } from "./order.js";
 import { receiptView } from "./receipt.js";
 
@@ -39,9 +39,9 @@ const missing = (word) => ({
 /** @param {import("../start.js").Context} context @param {import("../session.js").Entry} entry */
 async function content({ session }, entry) {
   const { order, receipt } = entry;
-  const status = await session.status();
-  if (order) return orderView(order, entry, status, (gln) => nameOf(session, gln));
-  if (receipt) return receiptView(receipt, entry, status, articlesOf(session), partyByName(session, receipt.buyer));
+  const { nameOf, byName } = partyNames(session);
+  if (order) return orderView(order, entry, await session.status(), nameOf);
+  if (receipt) return receiptView(receipt, entry, await session.status(), articlesOf(session), byName(receipt.buyer));
   return [saying("warn", phrases.entry.notUnderstood)];
 }
 

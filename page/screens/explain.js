@@ -10,7 +10,7 @@ import { button, element, exact, heading, saying, terms } from "../parts/dom.js"
 import { dropZone } from "../parts/drop_zone.js";
 import { faultInWords } from "../parts/fault_in_words.js";
 import { notUnderstood } from "../parts/raw.js";
-import { partyByName } from "../party_names.js";
+import { partyNames } from "../party_names.js";
 
 /** @typedef {import("../edi/shown.js").Shown} Shown */
 /** @typedef {import("../edi/shown.js").ShownMessage} ShownMessage */
@@ -34,7 +34,7 @@ export async function explainScreen({ session, go }) {
     const again = button(phrases.common.tryAgain, () => go("explain"), { class: "primary" });
     return { title, content: [heading(title), lead, saying("warn", phrases.explain.why[why]), again] };
   }
-  return { title, content: [heading(title), lead, ...checker((gln) => partyByName(session, gln))] };
+  return { title, content: [heading(title), lead, ...checker(partyNames(session).byName)] };
 }
 
 /** The place to choose a file, and what is said of the last one.

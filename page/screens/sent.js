@@ -7,7 +7,7 @@ import { element, heading, link } from "../parts/dom.js";
 import { downloadButton } from "../parts/download.js";
 import { Table } from "../parts/table.js";
 import { verdictInFile, verdictPlace } from "../parts/verdict.js";
-import { nameOf } from "../party_names.js";
+import { partyNames } from "../party_names.js";
 import { acceptedDespatch, labelsAddress } from "./labels.js";
 
 /** @typedef {import("../hub/sending.js").Sending} Sending */
@@ -15,7 +15,8 @@ import { acceptedDespatch, labelsAddress } from "./labels.js";
 /** @param {import("../start.js").Context} context */
 export async function sentScreen({ session }) {
   const rows = [...session.sent.sendings];
-  const ofSent = columns((gln) => nameOf(session, gln) || gln);
+  const { nameOf } = partyNames(session);
+  const ofSent = columns((gln) => nameOf(gln) || gln);
   const table = new Table({ caption: phrases.common.whatWasSent, kind: "sent", columns: ofSent, rows, empty: phrases.sent.empty });
   const check = element("p", {}, ...phrases.explain.without(link(phrases.explain.title, "explain")));
   const { title, lead } = phrases.sent;

@@ -361,7 +361,7 @@ export const de = {
   languageChoice: { label: "Sprache", own: "Deutsch" },
   leaving: { stay: "Bleiben" },
   leftLines: {
-    left: (pieces, some, lines) => 
+    left: (pieces, some, lines) =>
       `Noch zu laden: ${figure(pieces)} Stück aus ${figure(some)} von ${counted(lines, "Position", "Positionen")}`,
     nothing: "Nichts mehr zu laden",
     tooMuch: (lines) => `zu viel von ${counted(lines, "Position", "Positionen")}`,
@@ -570,7 +570,7 @@ export const de = {
       plural(pallets, `${figure(pallets)} Palette hat eine neue SSCC.`, `${figure(pallets)} Paletten haben neue SSCCs.`),
     unchanged: (pallets) => `${figure(pallets)} unverändert.`,
     copied: (pallet) => `Palette ${pallet} ist eine Kopie dieser Palette.`,
-    copiedWhatWasLeft: (pallet, pieces) => 
+    copiedWhatWasLeft: (pallet, pieces) =>
       `Palette ${pallet} ist eine Kopie dieser Palette mit dem, was noch zu laden war: ${figure(pieces)} Stück weniger.`,
     split: (first, last) => `Fertig: verteilt auf diese Palette und ${first === last ? `Palette ${first}` : `die Paletten ${first} bis ${last}`}.`,
     placed: (pieces, rows, pallets) => {

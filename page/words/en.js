@@ -395,7 +395,7 @@ export const en = {
     stay: "Stay",
   },
   leftLines: {
-    left: (/** @type {number} */ pieces, /** @type {number} */ some, /** @type {number} */ lines) => 
+    left: (/** @type {number} */ pieces, /** @type {number} */ some, /** @type {number} */ lines) =>
       `Left to load: ${counted(pieces, "piece", "pieces")} from ${figure(some)} of ${counted(lines, "line", "lines")}`,
     nothing: "Nothing left to load",
     tooMuch: (/** @type {number} */ lines) => `too much of ${counted(lines, "line", "lines")}`,
@@ -608,7 +608,7 @@ export const en = {
       plural(pallets, `${figure(pallets)} pallet has a new SSCC.`, `${figure(pallets)} pallets have new SSCCs.`),
     unchanged: (/** @type {number} */ pallets) => `${figure(pallets)} unchanged.`,
     copied: (/** @type {number} */ pallet) => `Pallet ${pallet} is a copy of this one.`,
-    copiedWhatWasLeft: (/** @type {number} */ pallet, /** @type {number} */ pieces) => 
+    copiedWhatWasLeft: (/** @type {number} */ pallet, /** @type {number} */ pieces) =>
       `Pallet ${pallet} is a copy of this one with what was left to load: ${counted(pieces, "piece", "pieces")} less.`,
     split: (/** @type {number} */ first, /** @type {number} */ last) =>
       `Done: split over this pallet and ${first === last ? `pallet ${first}` : `pallets ${first} to ${last}`}.`,

@@ -23,7 +23,7 @@ export const fr = {
     interchange: "Interchange",
     searchAllSuppliers: "Chercher chez tous les fournisseurs",
     whatWasSent: "Ce qui a été envoyé",
-    notUnderstood: "La page ne comprend pas le retour du hub. Le voici :",
+    notUnderstood: "La page ne comprend pas le retour du hub. Le voici :",
     supplier: "Fournisseur",
     waits: "Attend son tour…",
     ordered: "Commandé",
@@ -78,7 +78,7 @@ export const fr = {
     noneWaits: "Aucune ligne de cette commande n'attend votre réponse.",
     refuseAll: "Tout refuser",
     hint:
-      "Accepter : vous livrez tout ce qui est ouvert. Refuser : vous n'en livrez rien. Modifier : indiquez combien vous livrez en tout, " +
+      "Accepter : vous livrez tout ce qui est ouvert. Refuser : vous n'en livrez rien. Modifier : indiquez combien vous livrez en tout, " +
       "avec ce qui est déjà expédié.",
     caption: "Lignes de la commande, chacune avec votre réponse",
     yourAnswer: "Votre réponse",
@@ -93,7 +93,7 @@ export const fr = {
     twice: (line) => `La ligne ${line} figure déjà dans un rang précédent.`,
     lineMissing: "Le numéro de ligne manque.",
     noLine: (line) => `La commande n'a pas de ligne ${line}.`,
-    isAnswered: (line, known) => `La ligne ${line} a déjà sa réponse : ${known}.`,
+    isAnswered: (line, known) => `La ligne ${line} a déjà sa réponse : ${known}.`,
     notAnAnswer: (word, line) => `« ${word} » n'est pas une réponse à la ligne ${line}. Écrivez acceptée, refusée ou modifiée.`,
     ofLine: (line, wrong) => `Ligne ${line} : ${wrong}`,
     giveANumber: (least, most) => `indiquez un nombre entier de ${figure(least)} à ${figure(most)}.`,
@@ -117,7 +117,7 @@ export const fr = {
   banner: {
     sentAt: (what, time) => `${what}, envoi à ${time} :`,
     isBeingSent: (what) => `Envoi en cours : ${what}.`,
-    noReply: (what) => `${what} : aucun retour du hub après l'envoi. Vous pouvez renvoyer exactement la même chose sans risque.`,
+    noReply: (what) => `${what} : aucun retour du hub après l'envoi. Vous pouvez renvoyer exactement la même chose sans risque.`,
     close: "Fermer ce message",
   },
   bar: {
@@ -263,7 +263,7 @@ export const fr = {
     missing: "Cette entrée n'existe pas",
     hasNo: (number) => `Votre boîte de réception n'a pas d'entrée ${number}.`,
     notUnderstood: "La page ne comprend pas cette entrée. Elle figure ci-dessous telle que le hub l'a donnée.",
-    marked: "Marqué comme lu : cette entrée ne figure plus parmi les nouvelles.",
+    marked: "Marqué comme lu : cette entrée ne figure plus parmi les nouvelles.",
     print: "Imprimer",
   },
   explain: {
@@ -336,9 +336,9 @@ export const fr = {
   },
   knownCause: {
     nothing: "La quantité est 0.",
-    notPieces: (unit) => `L'unité « ${unit} » n'est pas la pièce (PCE).`,
-    notAGtin: (text) => `« ${text} » n'est pas un GTIN : cherchez un chiffre faux.`,
-    notADate: (text) => `« ${text} » n'est pas une date.`,
+    notPieces: (unit) => `L'unité « ${unit} » n'est pas la pièce (PCE).`,
+    notAGtin: (text) => `« ${text} » n'est pas un GTIN : cherchez un chiffre faux.`,
+    notADate: (text) => `« ${text} » n'est pas une date.`,
   },
   label: {
     content: "Contenu",
@@ -363,8 +363,8 @@ export const fr = {
   languageChoice: { label: "Langue", own: "Français" },
   leaving: { stay: "Rester" },
   leftLines: {
-    left: (pieces, some, lines) => 
-      `Reste à charger : ${counted(pieces, "pièce", "pièces")} de ${figure(some)} sur ${counted(lines, "ligne", "lignes")}`,
+    left: (pieces, some, lines) =>
+      `Reste à charger : ${counted(pieces, "pièce", "pièces")} de ${figure(some)} sur ${counted(lines, "ligne", "lignes")}`,
     nothing: "Rien ne reste à charger",
     tooMuch: (lines) => `trop de ${counted(lines, "ligne", "lignes")}`,
     caption: "Ce qui reste à charger",
@@ -399,7 +399,7 @@ export const fr = {
     showRead: "Afficher les entrées lues",
     showEarlier: "Afficher les précédentes",
     readHint:
-      "« Marquer comme lu » déplace une entrée plus bas, sous « Lu », où vous pouvez toujours l'ouvrir. Cela ne répond pas à la commande.",
+      "« Marquer comme lu » déplace une entrée plus bas, sous « Lu », où vous pouvez toujours l'ouvrir. Cela ne répond pas à la commande.",
     read: "Lu",
   },
   menu: {
@@ -421,7 +421,7 @@ export const fr = {
     },
     learned: (name, dated, undated) => {
       const without = undated ? `, ${figure(undated)} sans date` : "";
-      return `${name} : date souhaitée trouvée pour ${counted(dated, "commande", "commandes")}${without}.`;
+      return `${name} : date souhaitée trouvée pour ${counted(dated, "commande", "commandes")}${without}.`;
     },
     choose: "Choisissez des fichiers de commandes (ORDERS), ou déposez-les ici",
     chooseHint:
@@ -480,7 +480,7 @@ export const fr = {
   outcomes: {
     accepted: "Accepté : le hub l'a pris, et le conserve.",
     repeated: "Le hub l'avait déjà : il a été accepté auparavant, et rien n'a été fait deux fois.",
-    partly: "Accepté en partie : le hub a refusé certains messages. « Envois » dit lesquels, et pourquoi.",
+    partly: "Accepté en partie : le hub a refusé certains messages. « Envois » dit lesquels, et pourquoi.",
     refused: "Refusé : rien n'a été modifié.",
   },
   overview: {
@@ -515,14 +515,14 @@ export const fr = {
     on: (lines, pieces) => `${counted(lines, "ligne", "lignes")}, ${counted(pieces, "pièce", "pièces")}`,
     nothingOnIt: "Encore rien dessus",
     toCorrect: (on, wrong) => `${on}, ${figure(wrong)} à corriger`,
-    labelled: "Étiquette imprimée : garder ce SSCC",
+    labelled: "Étiquette imprimée : garder ce SSCC",
     nothing: "Mettez quelque chose sur cette palette, ou retirez-la.",
-    hint: "Le numéro sur l'étiquette de la palette : 18 chiffres, tapés ou scannés. Tapez-en 17, et la page ajoute le chiffre de contrôle.",
+    hint: "Le numéro sur l'étiquette de la palette : 18 chiffres, tapés ou scannés. Tapez-en 17, et la page ajoute le chiffre de contrôle.",
     digits: "Un SSCC a 18 chiffres.",
     lastDigit: (digit) => `Le dernier chiffre devrait être ${digit} : cherchez un chiffre faux.`,
     otherPrefix: (prefix) => `Après son premier chiffre devrait venir votre préfixe ${prefix}.`,
     twice: "Une autre palette de ce formulaire a le même SSCC.",
-    used: "Vous avez déjà utilisé ce SSCC. Prenez-en un nouveau : chaque SSCC ne vaut que pour une palette.",
+    used: "Vous avez déjà utilisé ce SSCC. Prenez-en un nouveau : chaque SSCC ne vaut que pour une palette.",
   },
   palletLines: {
     quantityOf: (order, line) => `Quantité de la commande ${order}, ligne ${line}`,
@@ -568,8 +568,8 @@ export const fr = {
     renumbered: (pallets) => `${counted(pallets, "palette a un nouveau SSCC", "palettes ont de nouveaux SSCC")}.`,
     unchanged: (pallets) => `${counted(pallets, "inchangée", "inchangées")}.`,
     copied: (pallet) => `La palette ${pallet} est une copie de celle-ci.`,
-    copiedWhatWasLeft: (pallet, pieces) => 
-      `La palette ${pallet} est une copie de celle-ci avec ce qui restait à charger : ${counted(pieces, "pièce", "pièces")} de moins.`,
+    copiedWhatWasLeft: (pallet, pieces) =>
+      `La palette ${pallet} est une copie de celle-ci avec ce qui restait à charger : ${counted(pieces, "pièce", "pièces")} de moins.`,
     split: (first, last) =>
       `Terminé : réparti sur cette palette et ${first === last ? `la palette ${first}` : `les palettes ${first} à ${last}`}.`,
     placed: (pieces, rows, pallets) => {
@@ -676,7 +676,7 @@ export const fr = {
     held: (why, at) => `${why} Cela n'a pas été fait. La page l'envoie d'elle-même${at && `, à ${at}`}.`,
     pausing: (why, at) => `${why} La page renvoie exactement la même chose, d'elle-même${at && `, à ${at}`}.`,
     unanswered: (what, tries, why) =>
-      `${what} : ${tries === 1 ? "un envoi" : `${figure(tries)} envois`}, et aucun retour. C'est peut-être arrivé, peut-être pas. ` +
+      `${what} : ${tries === 1 ? "un envoi" : `${figure(tries)} envois`}, et aucun retour. C'est peut-être arrivé, peut-être pas. ` +
       `La dernière fois : ${why}`,
     sending: "Envoi en cours…",
     resending: "Nouvel envoi de la même chose…",
@@ -685,7 +685,7 @@ export const fr = {
     again: "Renvoyer la même chose",
     denied: "Refus : le hub ne connaît pas ce GLN avec cette clé, ou cette demande est réservée à l'autre partie. Reconnectez-vous.",
     tooLarge: "Trop grand : un interchange a au plus 1 048 576 octets. Divisez-le.",
-    notTaken: (reply) => `Le hub ne l'a pas pris, et rien n'a été modifié. Son retour : ${reply}`,
+    notTaken: (reply) => `Le hub ne l'a pas pris, et rien n'a été modifié. Son retour : ${reply}`,
   },
   sendingForm: {
     isBack: "Ce que vous aviez saisi ici est de retour. Cela n'a pas été envoyé.",
@@ -725,7 +725,7 @@ export const fr = {
     keyHint: "La clé que le distributeur vous a donnée.",
     wrongKey: "Une clé a de 8 à 64 lettres, chiffres ou signes, sans espaces.",
     noReply: "Le hub ne répond pas. Réessayez dans un instant.",
-    notAHub: (what) => `Ce n'est pas ce que renvoie un hub : ${what}. Votre réseau vous demande peut-être d'abord quelque chose.`,
+    notAHub: (what) => `Ce n'est pas ce que renvoie un hub : ${what}. Votre réseau vous demande peut-être d'abord quelque chose.`,
   },
   sortChoice: {
     descending: (title) => `${title}, décroissant`,
@@ -738,7 +738,7 @@ export const fr = {
     first: "Premier numéro de série",
     wrongPrefix: "Un préfixe entreprise a de 4 à 12 chiffres.",
     prefixHint: "Les 4 à 12 chiffres que GS1 a donnés à votre entreprise. Avec eux, la page propose des SSCC. Cet onglet les retient.",
-    firstHint: "Facultatif. La partie du SSCC qui compte vos palettes : la page compte à partir d'ici, sinon après votre dernière.",
+    firstHint: "Facultatif. La partie du SSCC qui compte vos palettes : la page compte à partir d'ici, sinon après votre dernière.",
     digitsAlone: "Un numéro de série n'a que des chiffres.",
     prefixToo: "Donnez aussi votre préfixe entreprise : le numéro de série vient après lui.",
     tooLong: (prefix, most) => `Après le préfixe ${prefix}, un numéro de série a au plus ${most} chiffres.`,
@@ -753,7 +753,7 @@ export const fr = {
       "Cet onglet garde ce que vous avez saisi : rouvrez l'écran, et vous le retrouvez. C'est perdu quand vous vous déconnectez ou " +
       "fermez l'onglet.",
     notSentYet: (what) => `Pas encore envoyé : ${what}`,
-    noReplyYet: (what) => `Pas encore de retour : ${what}`,
+    noReplyYet: (what) => `Pas encore de retour : ${what}`,
     reload: "Recharger",
     leave: "Quitter",
     noReply: "Pas de retour",
@@ -872,7 +872,7 @@ export const fr = {
   upload: {
     choose: "Choisissez des fichiers .edi, ou déposez-les ici",
     chooseHint:
-      "Commandes (ORDERS) et avis de réception (RECADV). Déposer un fichier ne l'envoie pas encore : la page montre les fichiers, et " +
+      "Commandes (ORDERS) et avis de réception (RECADV). Déposer un fichier ne l'envoie pas encore : la page montre les fichiers, et " +
       "vous les envoyez avec un bouton. Un fichier est envoyé tel quel, et peut avoir beaucoup de messages.",
     cannotBeSent: (files) =>
       `${counted(files, "fichier ne peut", "fichiers ne peuvent")} pas être ${plural(files, "envoyé", "envoyés")} : la raison figure ` +

@@ -357,7 +357,7 @@ export const nl = {
   languageChoice: { label: "Taal", own: "Nederlands" },
   leaving: { stay: "Blijven" },
   leftLines: {
-    left: (pieces, some, lines) => 
+    left: (pieces, some, lines) =>
       `Nog te laden: ${counted(pieces, "stuk", "stuks")} uit ${figure(some)} van ${counted(lines, "regel", "regels")}`,
     nothing: "Niets meer te laden",
     tooMuch: (lines) => `te veel van ${counted(lines, "regel", "regels")}`,
@@ -560,7 +560,7 @@ export const nl = {
     renumbered: (pallets) => `${counted(pallets, "pallet heeft een nieuwe SSCC", "pallets hebben nieuwe SSCC’s")}.`,
     unchanged: (pallets) => `${figure(pallets)} ongewijzigd.`,
     copied: (pallet) => `Pallet ${pallet} is een kopie van deze.`,
-    copiedWhatWasLeft: (pallet, pieces) => 
+    copiedWhatWasLeft: (pallet, pieces) =>
       `Pallet ${pallet} is een kopie van deze met wat nog te laden was: ${counted(pieces, "stuk", "stuks")} minder.`,
     split: (first, last) => `Klaar: verdeeld over deze pallet en ${first === last ? `pallet ${first}` : `pallets ${first} tot en met ${last}`}.`,
     placed: (pieces, rows, pallets) => {

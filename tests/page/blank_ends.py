@@ -77,7 +77,7 @@ def seen_by_the_retailer(browser, stage):
     signed_in(browser, stage, RETAILER)
     browser.run("location.hash = arguments[0]", f"supplier/{ALPHA}")
     browser.one("table.lines a")
-    rows = [it[0] for it in browser.rows("table.lines tbody")]
+    rows = [it[1] for it in browser.rows("table.lines tbody")]
     said = [f"E1 (order {it} of those that differ in blanks at the end)" for it in (1, 1, 2, 3)]
     assert rows[:4] == said, rows
     links = browser.run("return [...document.querySelectorAll('table.lines a')].map(it => it.getAttribute('href'))")

@@ -12,7 +12,7 @@ from tests.page.stage import ALPHA, RETAILER, Stage, gtin, interchange, order, s
 from tests.page.words import Spoken
 
 # titles of what is for the eye or the hand alone
-NOT_IN_FILES = ("", "Shares", "Anteile", "Cancel lines", "Positionen stornieren")
+NOT_IN_FILES = ("", "Shares", "Anteile", "Cancel", "Stornieren")
 # what a spreadsheet would run or change, in the numbers of orders
 SCREENS_WITH_TABLES = ("today", "mailbox", "order", "answer", "despatch", "pallets", "receipt", "status", "upload", "supplier")
 SCREENS_WITH_TABLES += ("overview", "open-lines", "search")

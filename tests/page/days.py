@@ -138,6 +138,7 @@ def wrong_line(person, stage):
     person.press_named("Cancel of order 128601, line 2")
     person.type("Quantity to cancel", "12")
     person.press("Check cancellation")
+    person.browser.until_says(f"of supplier Alpha ({ALPHA}).", ".summary")
     person.picture("planner-day-3", ".summary")
     person.press("Send cancellation")
     person.browser.until_says("Accepted: the hub has taken it")

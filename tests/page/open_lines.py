@@ -80,7 +80,8 @@ def elsewhere_too(browser):
     wait(lambda: [it[5] for it in browser.rows("table.across tbody")] == ["10", "0"], "what is overdue", lambda: browser.rows("table.across tbody"))
     browser.press("Alpha", "a")
     browser.until_says("Status of Alpha")
-    wanted = {it[0]: it[-2] for it in browser.rows("table.lines tbody")}
+    assert browser.run("return document.title").startswith("Status of Alpha"), browser.run("return document.title")
+    wanted = {it[1]: it[-1] for it in browser.rows("table.lines tbody")}
     assert wanted == {"128576": "–", "128590": "9 June 2025 overdue", "128591": "10 June 2025", "B1": "–"}, wanted
 
 

@@ -208,10 +208,11 @@ BUGS = [
     ("several lines", "screens/supplier.js", "first: [actions], last: wanted", "first: [], last: [...wanted, actions]"),
     ("numbers of pallets", "style/despatch.css", ".pallets:not(.needs-ssccs) .label-tick,\n", ""),
     ("uploads name", "screens/upload.js", 'phrases.outcomes[outcome], code && " ", ', ""),
-    ("uploads name", "screens/sent.js", "nameOf(session, gln) || gln", "gln"),
+    ("uploads name", "screens/sent.js", "nameOf(gln) || gln", "gln"),
     ("bars as they", "parts/bar.js", '"calc(100% + 1px)"', '"100%"'),
     ("clocks", "edi/dates.js", "momentInWords(Date.UTC(", "momentInWords(+new Date("),
     ("the order as the buyer", "screens/order.js", "partyRow(named(it, nameOf))", "partyRow(it)"),
+    ("a supplier's day", "screens/cancel.js", "byName(supplier)", "supplier"),
 ]
 
 
