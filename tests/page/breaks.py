@@ -169,7 +169,7 @@ def an_upload(browser, stage):
     alike(stage, 3)
     rows = browser.rows("table")
     named = ["Order", "U1", BETA]
-    assert [it[:4] for it in rows] == [["1", *named], ["2", *named]] and rows[1][4].startswith("B04 "), rows
+    assert [it[:4] for it in rows] == [["1", *named], ["2", *named]] and rows[1][4].startswith("Refused: nothing was changed. B04 "), rows
     stage.sent.clear()
     browser.drop("long.edi", "x" * 1_048_577)
     browser.until_says("Too large: an interchange has at most 1,048,576 bytes.")

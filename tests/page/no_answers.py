@@ -94,7 +94,7 @@ def denied_after_a_break(browser, stage):
     stage.proxy.breaks[:] = [lost, answer("403 Forbidden", "denied\n")]
     send(browser, "cancellation")
     browser.until_says("No reply from the hub")
-    browser.until_says("Of the last time: Denied")
+    browser.until_says("The last time: Denied")
     browser.press("Send the same again")
     browser.until_says("The hub had it already")
     alike(stage, 3)
