@@ -28,11 +28,13 @@ import { Summary } from "./summary.js";
  *   apart?: { content: () => string, putBack: (content: string) => Promise<string[]> },
  *   check: () => boolean,
  *   look?: { ask: () => Promise<void>, check: () => boolean },
+ *   lock?: (isLocked: boolean) => Promise<void>,
  *   summary: () => import("./summary.js").SummaryWords,
  *   write: (stamp: Stamp) => string | null,
  *   settled: (verdict: Verdict) => Promise<void> | void,
  * }} FormWords `draft` names the form's draft; `prepare` makes room in the form for a draft; `apart` is what was typed that is in no field,
- *   and `putBack` returns what found no place in the form; `look` asks the hub, and checks what was typed against what is known then
+ *   and `putBack` returns what found no place in the form; `look` asks the hub, and checks what was typed against what is known then;
+ *   `lock` disables or enables very many fields in pieces, as all at once would make the page pause
  */
 
 // how many things that are wrong are said above the form too
@@ -141,13 +143,23 @@ class SendingForm {
     this.first.replaceChildren(...(waits ? [saying("warn", phrases.sending.first)] : []));
     if (waits || !this.words.check() || this.words.write(this.stamp()) === null) return;
     if (this.words.look && !(await this.isUnchangedAfter(this.words.look.ask) && this.words.look.check())) return;
+    if (!(await this.lock())) return;
     if (!this.sending.happen("review")) return;
     // an earlier refusal was of what the form said before
     this.region.replaceChildren();
     this.summary.show(this.words.summary());
   }
 
-  /** Asks the hub, which need not answer. Returns whether the form is as it was, so that it need not be checked from scratch.
+  /** Locks what takes a while to lock. Returns whether the form is as it was: if not, it is unlocked again. */
+  async lock() {
+    const { lock } = this.words;
+    if (!lock || (await this.isUnchangedAfter(() => lock(true)))) return true;
+    lock(false);
+    return false;
+  }
+
+  /** Asks the hub, which need not answer, or does something else that takes a while. Returns whether the form is as it was, so that it
+   * need not be checked from scratch.
    * @param {() => Promise<void>} ask */
   async isUnchangedAfter(ask) {
     const before = JSON.stringify(this.content);
@@ -176,6 +188,7 @@ class SendingForm {
     const focused = this.element.contains(document.activeElement) || document.activeElement === document.body;
     if (state !== "review") this.summary.hide();
     this.fields.disabled = !["empty", "typed", "refused", "denied"].includes(state);
+    if (!this.fields.disabled) this.words.lock?.(false);
     if (isUnsent(state)) this.element.dataset.typed = this.words.what();
     else delete this.element.dataset.typed;
     if (!isUnsettled(state) && !isSettled(state)) return;

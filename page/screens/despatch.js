@@ -132,6 +132,8 @@ class DespatchForm {
    * @param {string} code */
   async showRefusal(code) {
     this.know(await this.session.status());
+    // a disabled field does not take the focus
+    await this.pallets.lock(false);
     this.offer();
     if (this.check()) {
       if (code === "B13") this.document.say(phrases.despatch.numberUsed);
@@ -178,6 +180,7 @@ export async function despatchScreen(context, word) {
     prepare: (draft) => form.pallets.makeRoom(palletsIn(draft)),
     apart: form.apart,
     check: () => form.check(),
+    lock: (isLocked) => form.pallets.lock(isLocked),
     summary: () => despatchSummary(form.document.value, form.pallets.all),
     write: ({ reference, moment }) => {
       const message = form.message(moment, parties.buyer);

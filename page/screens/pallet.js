@@ -37,15 +37,9 @@ export class Pallet {
     const id = newId("on-pallet");
     this.toggle = button("", () => this.collapse(!this.isCollapsed), { class: "quiet toggle", "aria-controls": id });
     this.body = element("div", { class: "on-pallet", id }, element("div", { "data-apart": true }, this.lines.element), this.tools.element);
-    this.element = element(
-      "fieldset",
-      { class: "pallet card" },
-      this.legend,
-      this.sscc.element,
-      element("label", { class: "choice label-tick" }, this.labelled, element("span", {}, phrases.pallet.labelled)),
-      this.toggle,
-      this.body,
-    );
+    const tick = element("label", { class: "choice label-tick" }, this.labelled, element("span", {}, phrases.pallet.labelled));
+    const parts = [this.legend, this.sscc.element, tick, this.toggle, this.body];
+    this.element = /** @type {HTMLFieldSetElement} */ (element("fieldset", { class: "pallet card" }, ...parts));
     this.drawHead();
   }
 

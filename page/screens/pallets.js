@@ -16,8 +16,8 @@ import { Pallet } from "./pallet.js";
 
 // a draft with more quantities than this comes back with its pallets collapsed
 const MANY = 60;
-// how many milliseconds are spent on drawing before the page takes what was typed
-const AT_ONCE = 20;
+// how many milliseconds are spent on pallets before the page takes what was typed
+const AT_ONCE = 10;
 // how many milliseconds a page that is left may take to let go of its SSCCs
 const LEAVING = 2_000;
 
@@ -38,6 +38,7 @@ export class Pallets {
     this.element = element("div", { class: "pallets", onchange: () => this.hold() });
     /** @type {Promise<unknown>} */
     this.numbering = Promise.resolve();
+    this.isLocked = false;
     this.tools = {
       copy: (/** @type {Pallet} */ from) => this.copy(from),
       split: (/** @type {Pallet} */ from, /** @type {number} */ count) => this.split(from, count),
@@ -268,18 +269,32 @@ export class Pallets {
     return this.draw();
   }
 
-  get #stale() {
-    return this.all.find((it) => it.isStale);
+  /** Draws what changed. */
+  draw() {
+    return this.#inPieces((it) => it.isStale, (it) => it.draw());
   }
 
-  /** Draws what changed, in pieces between which the page takes what is typed. */
-  async draw() {
+  /** Disables the fields of all pallets, or enables them.
+   * @param {boolean} isLocked */
+  lock(isLocked) {
+    this.isLocked = isLocked;
+    return this.#inPieces((it) => it.element.disabled !== this.isLocked, (it) => (it.element.disabled = this.isLocked));
+  }
+
+  /** Does something with each pallet that needs it, in pieces between which the page takes what is typed.
+   * @param {(pallet: Pallet) => boolean} needs @param {(pallet: Pallet) => void} act */
+  async #inPieces(needs, act) {
     let end = performance.now() + AT_ONCE;
-    for (let it = this.#stale; it; it = this.#stale) {
+    for (let it = this.all.find(needs); it; it = this.all.find(needs)) {
       if (performance.now() > end) {
         await breath();
         end = performance.now() + AT_ONCE;
-      } else it.draw();
+      } else {
+        act(it);
+        // Makes the browser style it now, as part of this piece. Firefox styles even what is out of sight, and would otherwise do so for
+        // several pieces at once.
+        getComputedStyle(it.toggle).color;
+      }
     }
   }
 }

@@ -170,6 +170,9 @@ def filled(browser, program):
     return "pallets filled from rows, copied, split, collapsed, kept and sent"
 
 
+IS_SUMMED_UP = "document.querySelector('.summary:not([hidden])') !== null"
+
+
 def typing(place):
     """Types a quantity into the first line of a pallet, and another one each time."""
     return f"""const it = document.querySelectorAll('.pallet')[{place}].querySelector('.contents input');
@@ -179,6 +182,13 @@ def typing(place):
 def last(selector):
     """The last of these in the page."""
     return f"[...document.querySelectorAll('{selector}')].pop()"
+
+
+def typed_meanwhile(browser):
+    """What is typed while the fields are locked is not summed up unseen, and nothing stays locked."""
+    browser.run(f"{PRESS % 'Check despatch advice'}; {typing(PALLETS - 1)}")
+    wait(lambda: not browser.all(".pallet[disabled]"), "pallets that are not locked")
+    assert not browser.run(f"return {IS_SUMMED_UP}"), "the summary is of what was there before"
 
 
 def timed(browser):
@@ -199,9 +209,10 @@ def timed(browser):
     take("collapsed", collapse, "!document.querySelector('.contents input')", expand)
     take("expanded", expand, f"document.querySelectorAll('.contents input').length === {LINES * PALLETS}", collapse)
     take("typed in one of all", typing(20))
-    is_summed_up = "document.querySelector('.summary:not([hidden])') !== null"
-    take("checked", PRESS % "Check despatch advice", is_summed_up, PRESS % "Change something")
-    take("changed", PRESS % "Change something", f"!({is_summed_up})", PRESS % "Check despatch advice")
+    take("checked", PRESS % "Check despatch advice", IS_SUMMED_UP, PRESS % "Change something")
+    is_unlocked = f"!({IS_SUMMED_UP}) && !document.querySelector('.pallet[disabled]')"
+    take("changed", PRESS % "Change something", is_unlocked, PRESS % "Check despatch advice")
+    typed_meanwhile(browser)
     take("collapsed", collapse, "!document.querySelector('.contents input')", expand)
     lists_all = f"{last('.pallet')}.querySelectorAll('.contents input').length === {LINES}"
     take("added", PRESS % "Add a pallet", lists_all, f"{last('.remove')}.click()")

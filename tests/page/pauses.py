@@ -37,7 +37,7 @@ MEASURE = """const [done] = arguments;
         port2.postMessage(0);
     });
     (async () => {
-        const watched = longest((all, quiet) => all > 10_000 || (quiet > 250 && until()));
+        const watched = longest((all, quiet) => all > 20_000 || (quiet > 250 && until()));
         await new Promise(begun => setTimeout(begun));
         change();
         const [pause, time] = await watched;

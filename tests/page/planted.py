@@ -16,7 +16,7 @@ COPIED = ("page", "tests", "examples", "docs")
 # a live region that comes with its words, so that a screen reader may not say them
 REGION = 'said.append(element("b", { role: "status" }, phrases.entry.marked));'
 
-# a trial, the file, a text that stands in it once, and what is there instead
+# a trial, the file, a text that stands in it once, and what is there instead; and the browser that shows it, if Chromium does not
 BUGS = [
     ("functions of the page", "edi/identifiers.js", "place % 2 ? 1 : 3", "place % 2 ? 3 : 1"),
     ("references", "edi/references.js", "(counter + 1) % COUNTED", "(counter + 1) % 2"),
@@ -169,10 +169,13 @@ BUGS = [
     ("many pallets", "screens/despatch_draft.js", "pallets[place].load.set(line, text);", "continue;"),
     ("many pallets", "screens/pallets.js", "pallet.load.replace(rows", "if (pallet.isCollapsed) pallet.load.replace(rows"),
     ("many pallets", "screens/pallet.js", "this.wantsAll ?? this", "this.wantsAll || this"),
-    ("the menu loads", "screens/pallets.js", "draw() {\n    let end", "draw() {\n    if (this.is) return;\n    this.is = 1;\n    let end"),
+    ("the menu loads", "screens/pallets.js", "draw() {\n", "draw() {\n    if (this.is) return undefined;\n    this.is = 1;\n"),
     ("many pallets", "screens/left_lines.js", "this.ledger.left(it) !== 0", "this.ledger.left(it) > 0"),
     ("pauses of a despatch", "screens/pallets.js", "if (performance.now() > end)", "if (end < 0)"),
     ("pauses of a despatch", "style/despatch.css", "  content-visibility: auto;\n", ""),
+    ("pauses of a despatch", "screens/pallets.js", "        getComputedStyle(it.toggle).color;\n", "", "firefox"),
+    ("pauses of a despatch", "parts/sending_form.js", "    if (!(await this.lock())) return;\n", "", "firefox"),
+    ("pauses of a despatch", "parts/sending_form.js", "(await this.isUnchangedAfter(() => lock(true)))", "!(await lock(true))"),
     ("functions of the page", "edi/shown.js", "lines.length === 1 ? { fault", "lines.length ? { fault"),
     ("places of faults", "edi/fault_place.js", "text.slice(places[it], places[it + 1])", "text.slice(places[it])"),
     ("places of faults", "edi/shown.js", "offset: offset ? Number(offset) : null", "offset: null"),
@@ -216,7 +219,7 @@ BUGS = [
 ]
 
 
-def found(program, trial, file, old, new):
+def found(program, trial, file, old, new, browser="chromium"):
     """Whether the trial fails with this bug; that it says so by its own last line, and not by being unable to run."""
     with tempfile.TemporaryDirectory() as folder:
         for name in COPIED:
@@ -227,7 +230,7 @@ def found(program, trial, file, old, new):
         assert text.count(old) == 1, f"{old!r} stands {text.count(old)} times in {file}"
         with open(path, "w", encoding="utf-8") as opened:
             opened.write(text.replace(old, new))
-        words = [sys.executable, "-m", "tests.page.test", program, trial, "--browser=chromium"]
+        words = [sys.executable, "-m", "tests.page.test", program, trial, f"--browser={browser}"]
         ran = subprocess.run(words, cwd=folder, stdout=subprocess.PIPE, text=True)
         lines = ran.stdout.splitlines()
         why = next((it for it in reversed(lines) if "Error" in it or "Fault" in it), "")
