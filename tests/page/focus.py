@@ -1,6 +1,6 @@
 """The focus is never lost: whichever button of a screen is pressed, something that can be seen has the focus then, so that a keyboard or a
 screen reader goes on from there. And what the page says aloud it says in a live region that was there before."""
-from tests.page.driver import wait
+from tests.page.driver import DriverFault, wait
 from tests.page.screens import SCREENS, furnished, opened
 from tests.page.stage import ALPHA, Stage, signed_in
 from tests.page.stage import opened as tab_opened
@@ -15,10 +15,11 @@ BUTTONS = """const all = [...document.querySelectorAll('main button, main summar
         return [[place, it.textContent]];
     })"""
 FOCUS_ON = "document.querySelectorAll('main button, main summary')[arguments[0]].focus()"
-# counts what the page waits for
+# counts what the page waits for: requests, and that it is loaded again
 COUNT = """if (window.waited !== undefined) return;
     const real = window.fetch; window.waited = 0; window.print = () => {};
     addEventListener('beforeunload', it => it.stopImmediatePropagation(), { capture: true });
+    navigation.addEventListener('navigate', it => { if (it.navigationType === 'reload') window.waited += 1; });
     window.fetch = (...words) => { window.waited += 1; return real(...words).finally(() => { window.waited -= 1; }); }"""
 # once there is a screen, nothing was waited for in a while, and what a browser does itself to the focus, before it draws a frame, is done
 CALM = """const [done] = arguments;
@@ -54,12 +55,24 @@ LISTEN = """window.unheard = [];
     }).observe(document.body, { childList: true, characterData: true, subtree: true, attributes: true, attributeFilter: ['hidden'] });"""
 
 
+def calm_down(browser):
+    """Waits until nothing moves any more. Firefox's driver does not wait for a page that a key loads again: the script that waits ends
+    with the page that it began in, with a fault or without an answer, and begins again in the next one."""
+    is_calm = False
+    while not is_calm:
+        try:
+            is_calm = browser.ask("POST", "/execute/async", {"script": CALM, "args": []})
+        except DriverFault as fault:
+            if "unloaded" not in str(fault):
+                raise
+
+
 def press(browser, screen, place, text):
     """Presses a button as a keyboard does."""
     browser.run(FOCUS_ON, place)
     browser.run(LISTEN)
     browser.keys("enter")
-    browser.ask("POST", "/execute/async", {"script": CALM, "args": []})
+    calm_down(browser)
     unheard = browser.run("return window.unheard ?? []")
     assert unheard == [], f"{text!r} of {screen} says this where nobody listens: {unheard}"
     assert browser.run(FOCUSED), f"{text!r} of {screen} loses the focus"
