@@ -109,8 +109,10 @@ def rings(browser, screen, size):
     browser.run(NOTE)
     reached = []
     while one_round(reached) is None and len(reached) < MOST:
+        before = len(reached)
         browser.tab_through(AT_ONCE)
         reached = browser.run("return window.reached")
+        assert len(reached) > before, f"the tabulator reaches nothing more of {screen} in {size}: {reached[-1:]}"
     found = one_round(reached) or reached
     for tag, name, ringed, seen in found:
         assert ringed and seen, (screen, size, tag, name, ringed, seen)

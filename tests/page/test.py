@@ -26,8 +26,8 @@ IN_BROWSER = {name: trial for part in PARTS for name, trial in part.TRIALS.items
 
 
 BROWSERS = {"chromium": Browser, "firefox": Firefox}
-# what is not tried in Firefox unless it is named: it asks for Chromium's own tools, takes very long, or was not seen to pass there
-NOT_IN_FIREFOX = ("accessibility", "bars as they are drawn", "labels that scan")
+# what is not tried in Firefox unless it is named: it asks for Chromium's own tools
+NOT_IN_FIREFOX = ("bars as they are drawn", "labels that scan")
 
 
 def tried(name, trial, *words):
