@@ -30,11 +30,13 @@ export class HeldSsccs {
     });
   }
 
-  /** The SSCCs that forms of this browser hold, in this tab or another, and those that another tab has sent since this form opened. */
-  async all() {
+  /** The SSCCs that forms of this browser hold, in this tab or another, but for these; and those that another tab has sent since this form
+   * opened.
+   * @param {Set<string>} but */
+  async all(but) {
     const { held = [] } = (await navigator.locks?.query()) ?? /** @type {LockManagerSnapshot} */ ({});
     const names = held.flatMap(({ name = "" }) => (name.startsWith(`${NAME}.`) ? [name.slice(NAME.length + 1)] : []));
-    return [...names, ...this.#sentElsewhere];
+    return [...names.filter((it) => !but.has(it)), ...this.#sentElsewhere];
   }
 
   /** Holds an SSCC: false if another form holds it, and still does after this many milliseconds. A browser without locks holds nothing,

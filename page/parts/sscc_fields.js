@@ -8,7 +8,8 @@ import { Field, check, focusFirstWrong } from "./field.js";
 import { HeldSsccs } from "./held_sscc.js";
 
 export class SsccFields {
-  /** @param {import("../session.js").Session} session @param {() => string[]} taken used ones and those of the form */
+  /** @param {import("../session.js").Session} session
+   * @param {(free: Set<string>) => string[]} taken used ones, and those of the form but for these */
   constructor(session, taken) {
     this.session = session;
     this.taken = taken;
@@ -64,11 +65,12 @@ export class SsccFields {
     focusFirstWrong(this.fields);
   }
 
-  /** The next free SSCC, held for this form; empty if none can be proposed. */
-  async next() {
+  /** The next free SSCC, held for this form; empty if none can be proposed.
+   * @param {Set<string>} [free] what pallets of the form have, and may be given again */
+  async next(free = new Set()) {
     const prefix = isPrefix(this.prefix.trimmed) ? this.prefix.trimmed : "";
     const first = this.first.trimmed && !this.#wrongFirst ? Number(this.first.trimmed) : null;
-    const taken = [...this.taken(), ...(await this.held.all())];
+    const taken = [...this.taken(free), ...(await this.held.all(free))];
     for (;;) {
       const sscc = nextSscc(prefix, taken, first);
       if (!sscc || (await this.held.hold(sscc))) return sscc;

@@ -32,9 +32,10 @@ export class Pallets {
     this.articles = articles;
     /** @type {Pallet[]} */
     this.all = [];
-    this.sscc = new SsccFields(session, () => [...used(), ...this.all.map((it) => it.number)]);
+    this.sscc = new SsccFields(session, (free) => [...used(), ...this.all.map((it) => it.number).filter((it) => !free.has(it))]);
     this.sscc.prefix.input.addEventListener("change", () => this.propose((it) => !isSscc(it.number)));
-    this.sscc.first.input.addEventListener("change", () => this.propose((it) => !isSscc(it.number) || it.number === it.proposed));
+    const isOwn = (/** @type {Pallet} */ it) => !isSscc(it.number) || it.number === it.proposed;
+    this.sscc.first.input.addEventListener("change", () => this.propose(isOwn, true));
     this.element = element("div", { class: "pallets", onchange: () => this.hold() });
     /** @type {Promise<unknown>} */
     this.numbering = Promise.resolve();
@@ -59,16 +60,18 @@ export class Pallets {
   }
 
   /** Proposes SSCCs for the pallets that need one now, but not for those that are labelled; returns how many got one.
-   * @param {(pallet: Pallet) => boolean} needs */
-  async propose(needs) {
+   * @param {(pallet: Pallet) => boolean} needs @param {boolean} [again] whether one that they have may be proposed again */
+  async propose(needs, again = false) {
     if (!this.sscc.take()) return 0;
     const found = this.all.filter((it) => !it.isLabelled && needs(it)).map((pallet) => ({ pallet, value: pallet.sscc.value }));
     return this.inTurn(async () => {
+      const free = new Set(again ? found.map(({ pallet }) => pallet.number) : []);
       let count = 0;
       for (const { pallet, value } of found) {
-        const sscc = await this.sscc.next();
+        const sscc = await this.sscc.next(free);
         // what the person types meanwhile stays
-        if (!sscc || pallet.sscc.value !== value) continue;
+        if (!sscc || (pallet.sscc.value !== value && pallet.number !== pallet.proposed)) continue;
+        free.delete(sscc);
         pallet.propose(sscc);
         count += 1;
       }

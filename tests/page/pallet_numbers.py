@@ -1,5 +1,7 @@
 """The SSCCs of a despatch: two tabs propose different ones, scanned ones are understood, one press renumbers what has no label yet, and the
 first serial number is the person's."""
+import time
+
 from tests.page.driver import wait
 from tests.page.forms import check, fresh, send
 from tests.page.refusals_told import despatch_by_another
@@ -103,6 +105,10 @@ def renumbered(browser, stage):
     assert all(f"GIN+BJ+{it}'" in sent for it in (FOURTH, FIFTH, THIRD)), sent
 
 
+# the last serial number of extension digit 3, and the first of 4
+LAST = ["340123455999999991", "440123455000000002"]
+
+
 def first_serial(browser):
     """The first serial number of the person, and what is wrong with one."""
     despatch(browser)
@@ -118,7 +124,11 @@ def first_serial(browser):
     # the last serial number of an extension digit is not the end
     browser.type(browser.labelled("First serial number"), "99999999")
     browser.keys("tab")
-    until(browser, ["340123455999999991", "440123455000000002"])
+    until(browser, LAST)
+    # asked again, and once more before that is done, the page proposes the same
+    browser.run("for (const it of [1, 2]) document.querySelector('[data-field=\"ssccFields.first\"]').dispatchEvent(new Event('change'))")
+    time.sleep(1)
+    until(browser, LAST)
     browser.type(browser.labelled("First serial number"), "")
 
 
