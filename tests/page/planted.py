@@ -202,7 +202,7 @@ BUGS = [
     ("the choice of", "parts/form_content.js", 'it.dataset.field ?? ""].join', 'it.labels?.[0]?.textContent ?? ""].join'),
     ("the choice of", "kept_language.js", "localStorage.setItem(NAME, language);", ""),
     ("a day from", "screens/answer.js", 'quantity.input.disabled = this.answer !== "changed";', "quantity.input.disabled = false;"),
-    ("a day from", "style/controls.css", '[type="checkbox"]):disabled,', '[type="checkbox"]):read-only,'),
+    ("a day from", "style/controls.css", '[type="checkbox"]):disabled,', '[type="checkbox"]):target,'),
     ("a day from", "screens/receipt.js", "    ...correctedSince(receipt, rows),\n    terms(", "    terms("),
     ("typed work", "parts/form_content.js", "!isChoice(it) || it.checked", "!isChoice(it)"),
     ("a colleague's answer", "parts/sending_form.js", "this.sayFirst(verdict.code);", "this.note();"),
