@@ -254,7 +254,8 @@ def window(browser, folder):
 def full(browser, folder):
     """A bar of one part alone has one colour from end to end."""
     x, y, width, height = browser.run(BAR_AT, True)
-    across = window(browser, folder)[int(y + height / 2)][int(x) + 2 : int(x + width) - 2]
+    # within its edge, which is a pixel wide
+    across = window(browser, folder)[int(y + height / 2)][round(x) + 1 : round(x + width) - 1]
     assert len(set(across)) == 1, across
 
 
