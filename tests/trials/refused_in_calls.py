@@ -37,7 +37,14 @@ OF_THEIR_OWN = {
     "tokens::an_order_is_read_and_written_again",
 }
 # those that ask of an answer whether it is the right one, and do not say what else it is
-SAY_NO = {"app::the_text_of_a_register_is_read", "store::lists_answer_each_look_up", "store::rows_under_keys_that_are_there_are_left_out"}
+SAY_NO = {
+    "app::a_longer_line_is_no_key",
+    "app::the_text_of_a_register_is_read",
+    "store::lists_answer_each_look_up",
+    "store::rows_under_keys_that_are_there_are_left_out",
+    "words::a_file_without_a_key_is_a_usage_error",
+    "words::a_join_has_the_key_of_its_file",
+}
 # the fewest tests that there are, and the fewest allocations of all of them; and how many of one test are refused at most: of a test with
 # more, some, all over it
 FEWEST_TESTS, FEWEST_ALLOCATIONS, MOST_OF_ONE = 50, 5_000, 3_000
@@ -69,7 +76,7 @@ def outcome(program, name, shim, number):
         return "out of memory"
     if name in OF_THEIR_OWN and (status == BY_COMPARISON or status == BY_ERROR and "WriteFault" in said):
         return "of the test's own"
-    return "no, and not why" if name in SAY_NO and status == BY_COMPARISON else None
+    return "no, and not why" if name in SAY_NO and status in (BY_ERROR, BY_COMPARISON) else None
 
 
 def refused_in_turn(program, name, shim, count):
