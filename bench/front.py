@@ -174,10 +174,15 @@ def guesses(front, hub):
 
 def fetched(port, path, front=None):
     """The head and the body of what is at a path, over TLS if a front is given."""
+    return answered(port, f"GET {path} HTTP/1.1\r\nHost: hub.example.com\r\nConnection: close\r\n\r\n", front)
+
+
+def answered(port, asked, front=None):
+    """The head and the body of an answer to these bytes, over TLS if a front is given."""
     with socket.create_connection(("127.0.0.1", port), 60) as one:
         if front:
             one = ssl.create_default_context(cafile=front.certificate).wrap_socket(one, server_hostname="127.0.0.1")
-        one.sendall(f"GET {path} HTTP/1.1\r\nHost: hub.example.com\r\nConnection: close\r\n\r\n".encode())
+        one.sendall(asked.encode())
         found = b""
         while piece := one.recv(65_536):
             found += piece
@@ -202,7 +207,22 @@ def page(front):
     moved = "\r\nlocation: https://hub.example.com/\r\n" in f"{head}\r\n"
     if not moved or not other.startswith("http/1.1 403 ") or body != b"https only\n":
         return f"without TLS: {head}; {other}"
-    return None
+    return refused(front)
+
+
+# what is not HTTP, or not as nginx reads it
+NOT_HTTP = ("hello\r\n\r\n", "get /p/1/status HTTP/1.1\r\n\r\n", "CONNECT a:1 HTTP/1.1\r\nHost: a\r\n\r\n", "\x16\x03\r\n\r\n",
+            f"GET /p/{'1' * 9_000} HTTP/1.1\r\nHost: a\r\n\r\n", "GET / HTTP/9.9\r\nHost: a\r\n\r\n")
+
+
+def refused(front):
+    """What is wrong with what nginx answers to what is not HTTP, and to HTTP at the port of TLS, if anything."""
+    for asked in NOT_HTTP:
+        head, body = answered(front.port, asked, front)
+        if not head.startswith("http/1.1 400 ") or body != b"bad request\n":
+            return f"not HTTP, {asked[:40]!r}: {head[:100]} {body[:100]!r}"
+    head, body = fetched(front.port, "/p/1/status")
+    return None if head.startswith("http/1.1 403 ") and body == b"https only\n" else f"HTTP at the port of TLS: {head} {body!r:.100}"
 
 
 def alike():
