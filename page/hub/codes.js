@@ -27,8 +27,8 @@ export const CODES = {
   },
   E05: {
     meaning: "The file has something other than a segment's tag where one has to be.",
-    cause: "It is not an EDIFACT file, or a text has an apostrophe without a release character.",
-    remedy: "Send the right file, and write each apostrophe in a text as ?'.",
+    cause: "It is not EDIFACT, has a byte order mark or a second UNA, or a text has an apostrophe without a release character.",
+    remedy: "Send one interchange, with each apostrophe in a text as ?'.",
   },
   E06: {
     meaning: "The file does not begin with UNB and end with UNZ, or has one of them twice.",
@@ -103,7 +103,7 @@ export const CODES = {
   E20: {
     meaning: "A segment is longer than 8,192 bytes.",
     cause: "A text in it is too long, or a terminator is missing.",
-    remedy: "Shorten the text, and end each segment with its terminator.",
+    remedy: "Shorten the text, or end the segment.",
   },
   M01: {
     meaning: "The hub does not take this type of message, or not from this side.",
@@ -202,7 +202,7 @@ export const CODES = {
   },
   B08: {
     meaning: "The changed quantity is less than what is despatched, or more than that and what is open together.",
-    cause: "Part of the line was despatched or cancelled before.",
+    cause: "It is more than was ordered, or part was despatched or cancelled.",
     remedy: "Look at the status, and give a quantity between the two.",
   },
   B09: {

@@ -25,8 +25,8 @@ export const CODES = {
   },
   E05: {
     meaning: "Wo ein Segmentname stehen muss, steht in der Datei etwas anderes.",
-    cause: "Es ist keine EDIFACT-Datei, oder in einem Text steht ein Apostroph ohne Freigabezeichen davor.",
-    remedy: "Prüfen Sie, ob Sie die richtige Datei gewählt haben, und lassen Sie jedes Apostroph in einem Text als ?' schreiben.",
+    cause: "Es ist kein EDIFACT, die Datei hat eine Bytereihenfolge-Marke (BOM) oder ein zweites UNA, oder in einem Text steht ein Apostroph ohne Freigabezeichen davor.",
+    remedy: "Senden Sie eine einzige Übertragungsdatei, mit jedem Apostroph in einem Text als ?'.",
   },
   E06: {
     meaning: "Die Datei beginnt nicht mit UNB oder endet nicht mit UNZ, oder sie hat eines davon zweimal.",
@@ -101,7 +101,7 @@ export const CODES = {
   E20: {
     meaning: "Ein Segment ist länger als 8.192 Byte.",
     cause: "Ein Text darin ist zu lang, oder ein Endezeichen fehlt.",
-    remedy: "Kürzen Sie den Text, und lassen Sie jedes Segment mit seinem Endezeichen enden.",
+    remedy: "Kürzen Sie den Text, oder beenden Sie das Segment.",
   },
   M01: {
     meaning: "Der Hub nimmt diese Nachrichtenart nicht, oder nicht von dieser Seite.",
@@ -201,7 +201,7 @@ export const CODES = {
   },
   B08: {
     meaning: "Die geänderte Menge ist kleiner als das, was versandt ist, oder größer als das und das Offene zusammen.",
-    cause: "Ein Teil der Position wurde schon versandt oder storniert.",
+    cause: "Es ist mehr, als bestellt wurde, oder ein Teil wurde schon versandt oder storniert.",
     remedy: "Sehen Sie im Status nach, und geben Sie eine Menge dazwischen an.",
   },
   B09: {

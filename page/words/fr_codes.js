@@ -25,8 +25,8 @@ export const CODES = {
   },
   E05: {
     meaning: "Le fichier contient autre chose qu'un nom de segment là où il en faut un.",
-    cause: "Ce n'est pas un fichier EDIFACT, ou un texte contient une apostrophe sans caractère d'échappement devant elle.",
-    remedy: "Vérifiez que vous avez choisi le bon fichier, et faites écrire chaque apostrophe d'un texte sous la forme ?'.",
+    cause: "Ce n'est pas de l'EDIFACT, le fichier a une marque d'ordre des octets (BOM) ou un second UNA, ou un texte contient une apostrophe sans caractère d'échappement devant elle.",
+    remedy: "Envoyez un seul interchange, avec chaque apostrophe d'un texte sous la forme ?'.",
   },
   E06: {
     meaning: "Le fichier ne commence pas par UNB ou ne finit pas par UNZ, ou contient deux fois l'un des deux.",
@@ -101,7 +101,7 @@ export const CODES = {
   E20: {
     meaning: "Un segment dépasse 8 192 octets.",
     cause: "Un texte y est trop long, ou une fin de segment manque.",
-    remedy: "Raccourcissez le texte, et terminez chaque segment par son caractère de fin.",
+    remedy: "Raccourcissez le texte, ou terminez le segment.",
   },
   M01: {
     meaning: "Le hub n'accepte pas ce type de message, ou pas de ce côté.",
@@ -201,7 +201,7 @@ export const CODES = {
   },
   B08: {
     meaning: "La quantité modifiée est inférieure à ce qui est expédié, ou supérieure à la somme de l'expédié et de l'ouvert.",
-    cause: "Une partie de la ligne a déjà été expédiée ou annulée.",
+    cause: "C'est plus que la commande, ou une partie a déjà été expédiée ou annulée.",
     remedy: "Consultez le statut, et donnez une quantité entre les deux.",
   },
   B09: {

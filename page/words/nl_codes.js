@@ -25,8 +25,8 @@ export const CODES = {
   },
   E05: {
     meaning: "Waar een segmentnaam moet staan, staat in het bestand iets anders.",
-    cause: "Het is geen EDIFACT-bestand, of in een tekst staat een apostrof zonder vrijgaveteken ervoor.",
-    remedy: "Controleer of u het juiste bestand hebt gekozen, en laat elke apostrof in een tekst als ?' schrijven.",
+    cause: "Het is geen EDIFACT, het bestand heeft een bytevolgorde-markering (BOM) of een tweede UNA, of in een tekst staat een apostrof zonder vrijgaveteken ervoor.",
+    remedy: "Verstuur één interchange, met elke apostrof in een tekst als ?'.",
   },
   E06: {
     meaning: "Het bestand begint niet met UNB of eindigt niet met UNZ, of heeft een van beide twee keer.",
@@ -101,7 +101,7 @@ export const CODES = {
   E20: {
     meaning: "Een segment is langer dan 8.192 bytes.",
     cause: "Er staat een te lange tekst in, of een eindteken ontbreekt.",
-    remedy: "Kort de tekst in, en laat elk segment met zijn eindteken eindigen.",
+    remedy: "Kort de tekst in, of beëindig het segment.",
   },
   M01: {
     meaning: "De hub neemt dit type bericht niet aan, of niet van deze kant.",
@@ -200,7 +200,7 @@ export const CODES = {
   },
   B08: {
     meaning: "Het gewijzigde aantal is minder dan wat is verzonden, of meer dan dat en wat openstaat samen.",
-    cause: "Een deel van de regel is al verzonden of geannuleerd.",
+    cause: "Het is meer dan besteld, of een deel is al verzonden of geannuleerd.",
     remedy: "Kijk in de status, en geef een aantal daartussen.",
   },
   B09: {
