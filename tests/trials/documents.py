@@ -317,7 +317,8 @@ def look_up(reader, span):
 OLD = {"before": f"cp {OLD_FILE} hub.db", "anew": True}
 MAIL = listed((1, "ORDERS", "128576")) + told("taken")
 ANSWERED = told("interchange S1 messages 1", "1 ORDRSP accepted", line_status("128576", "C", 48, 36, 12, 0, 0), "end")
-UPLOADED = told("interchange 1001 messages 1", "1 ORDERS accepted", line_status("128576", "W", 48, 48, 0, 0, 0), "end", "accepted")
+BOTH_LINES = [line_status("128576", "W", 48, 48, 0, 0, 0), line_status("128576", "W", 24, 24, 0, 0, 0, 2, "04000862141411")]
+UPLOADED = told("interchange 1001 messages 2", "1 ORDERS accepted", "2 ORDERS accepted", *BOTH_LINES, "end", "accepted")
 IMPORTED = told("file 0.edi", "interchange 1001 messages 1", "1 ORDERS accepted", "file 1.edi", "interchange S1 messages 1")
 IMPORTED += told("1 ORDRSP accepted", "file 2.edi", "interchange S2 messages 1", "1 DESADV accepted") + MAIL + BEFORE * 2 + told("accepted")
 TWO, HUBS = "ok 2 suppliers", "ok 3 hubs, 10 suppliers"
