@@ -45,7 +45,7 @@ mark_of_halted() {
     grep ctxt_switches "/proc/$pid/status"
 }
 
-# Whether the rows of a copy are a sound start. The program reads them all, and moves the log into the file, so it gets a copy of the copy.
+# Whether the rows of a copy are a sound start. The program reads them all, and may write beside them, so it gets a copy of the copy.
 is_sound() {
     cp -R "$1" "$made.check" || return 1
     answer=$(edihub verify --db "$made.check/${file##*/}") || {
@@ -68,6 +68,7 @@ delete_oldest() {
 case $pid in '' | 0* | 1 | *[!0-9]*) fail "$pid is not the number of a process" ;; esac
 case $keep in 0* | *[!0-9]*) fail "$keep is not a number of copies" ;; esac
 test -d "$folder" || fail "$folder is not a folder"
+command -v edihub >/dev/null || fail "the program edihub, which verifies the copy, is not in PATH"
 set -- "$file"
 if test -e "$file-wal" || test -L "$file-wal"; then set -- "$file" "$file-wal"; fi
 for one; do

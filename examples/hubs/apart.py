@@ -71,11 +71,13 @@ def main(names):
     if not names:
         print(__doc__)
         return 2
-    try:
-        hubs = [Hub(name) for name in names]
-    except (OSError, ValueError, KeyError, TypeError, sqlite3.Error) as why:
-        print(f"a file is no register and no hub's database: {type(why).__name__}: {why}")
-        return 3
+    hubs = []
+    for name in names:
+        try:
+            hubs.append(Hub(name))
+        except (OSError, ValueError, KeyError, TypeError, sqlite3.Error) as why:
+            print(f"{name} is no register and no hub's database: {type(why).__name__}: {why}")
+            return 3
     faults = [*glns_twice(hubs), *prefixes_overlap(hubs)]
     for line in faults:
         print(line)
