@@ -1,5 +1,5 @@
 -- Shows that a cancellation is decided from known facts as from a state that they agree with.
-use Rattle.std.proofs.Common.{◌≡◌, not, nat_lt, ◌+◌, ◌-◌, [], ◌∷◌, Option, Some, None, option_map, refl, ◌∙◌, ap, ap₂}
+use Rattle.std.proofs.Common.{◌≡◌, ℕ, List, not, nat_lt, ◌+◌, ◌-◌, [], ◌∷◌, Option, Some, None, option_map, refl, ◌∙◌, ap, ap₂}
 use Rattle.hub_tables.specs.Tables.{Tables}
 use Rattle.hub_tables.specs.declared.change.Change.TheVariants.{SetLine}
 use Rattle.hub_tables.specs.declared.rows.LineRow.{LineRow}
@@ -28,10 +28,10 @@ found : (cancel : Cancel) (line : Option LineFacts)
 found cancel None = refl
 found cancel (Some line) = refl
 
-pub cancel_alike : (known : Known) (cancel : Cancel) (state : Tables)
-    → TellsForCancel known cancel state
+pub cancel_alike : (known : Known) (content : List ℕ) (cancel : Cancel) (state : Tables)
+    → TellsForCancel known content cancel state
     → judge_new_cancel cancel state ≡ cancelled_from cancel known
-cancel_alike known cancel state told =
+cancel_alike known content cancel state told =
     ap₂ (λ v line. refuse_if (not v) NoOrder (given line NoLine (of_line cancel))) told.order
     (line_told state known.orders cancel.order (Some cancel.line) [] told.lines)
     ∙ ap (refuse_if (not (has_order known.orders cancel.order)) NoOrder)

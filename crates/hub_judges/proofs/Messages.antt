@@ -1,5 +1,5 @@
 -- Shows that a message which is admitted and new is decided by the rest of its checks, and is remembered first.
-use Rattle.std.proofs.Common.{◌≡◌, ℕ, List, [], ◌∷◌, Option, sym, ◌∙◌, ap}
+use Rattle.std.proofs.Common.{◌≡◌, ℕ, List, [], ◌∷◌, Option, ◌∙◌, ap}
 use Rattle.hub_parties.specs.declared.row.SupplierRow.{SupplierRow}
 use Rattle.hub_tables.specs.Change.{apply_all}
 use Rattle.hub_tables.specs.State.{remembered_of}
@@ -21,16 +21,13 @@ first_of s side incoming = Remember (remembered (referred_by s side incoming) in
 
 pub judged_message :
     (retailer : List ℕ) (supplier : Option SupplierRow) (side : Side) (incoming : IncomingMessage) (buyer : Option (List ℕ))
-    (named : List ℕ) (rest : SupplierRow → Judge) (s : SupplierRow) (state : Tables) (content : List ℕ) (verdict : Verdict)
+    (named : List ℕ) (rest : SupplierRow → Judge) (s : SupplierRow) (state : Tables) (verdict : Verdict)
     → ((next : SupplierRow → Verdict)
     → refuse_if (is_other_buyer retailer buyer) Buyer (if_registered supplier named next) ≡ next s)
-    → content ≡ incoming.content
-    → ((fresh : Verdict) → once (remembered_of state side incoming.control incoming.message) content fresh ≡ fresh)
+    → ((fresh : Verdict) → once (remembered_of state side incoming.control incoming.message) incoming.content fresh ≡ fresh)
     → rest s (apply_all (first_of s side incoming) state) ≡ verdict
     → judge_message retailer supplier side incoming buyer named rest state ≡ joined (first_of s side incoming) verdict
-judged_message retailer supplier side incoming buyer named rest s state content verdict admitted is new judged =
+judged_message retailer supplier side incoming buyer named rest s state verdict admitted new judged =
     admitted (λ s. judge_once (referred_by s side incoming) incoming.content (rest s) state)
-    ∙ ap (λ bytes. once (remembered_of state side incoming.control incoming.message) bytes
-    (in_turn (gives (first_of s side incoming)) (rest s) state)) (sym is)
     ∙ new (in_turn (gives (first_of s side incoming)) (rest s) state)
     ∙ ap (joined (first_of s side incoming)) judged

@@ -1,5 +1,5 @@
 -- Defines when the facts given to a judge agree with a state, as far as the judge reads them.
-use Rattle.std.specs.Prelude.{◌≡◌, ℕ, Bool, true, false, None, List, [], length, map}
+use Rattle.std.specs.Prelude.{◌≡◌, ℕ, Bool, true, false, None, List, [], length, map, option_map}
 use Rattle.std.specs.List.{AllByRecursion, list_any}
 use Rattle.edi_orders.specs.declared.order.Order.{Order}
 use Rattle.edi_orders.specs.declared.response.Response.{Response}
@@ -16,9 +16,10 @@ use Rattle.hub_rules.specs.declared.cancel.Cancel.{Cancel}
 use Rattle.hub_rules.specs.declared.incoming.IncomingMessage.{IncomingMessage}
 use Rattle.hub_judges.specs.declared.known.Known.{Known}
 
--- the content remembered for a side under two references agrees
-abbrev pub TellsRemembered : Known → Side → List ℕ → List ℕ → Tables → Type 0
-TellsRemembered known side control message state = remembered_content state side control message ≡ known.remembered
+-- whether this is the content remembered for a side under two references agrees
+abbrev pub TellsRemembered : Known → Side → List ℕ → List ℕ → List ℕ → Tables → Type 0
+TellsRemembered known side control message content state =
+    option_map (λ there. same there content) (remembered_content state side control message) ≡ known.remembered
 
 -- whether the order exists agrees
 abbrev pub TellsOrder : Known → Tables → List ℕ → Type 0
@@ -34,7 +35,7 @@ TellsDespatched state orders order = AllByRecursion (λ line. despatched state l
 
 -- the facts for an ORDERS agree
 pub record TellsForOrder (known : Known) (incoming : IncomingMessage) (order : Order) (state : Tables) : Type 0 where
-  pub remembered : TellsRemembered known Retailer incoming.control incoming.message state
+  pub remembered : TellsRemembered known Retailer incoming.control incoming.message incoming.content state
   pub number : knows_order state order.number ≡ known.number_known
   pub mails : length state.mail ≡ known.mails
 
@@ -47,7 +48,7 @@ pub record TellsAnswered (known : Known) (number : List ℕ) (state : Tables) : 
 -- the facts for an ORDRSP agree; if its references are already remembered, those of the order need not
 pub record TellsForResponse (known : Known) (incoming : IncomingMessage) (response : Response)
     (state : Tables) : Type 0 where
-  pub remembered : TellsRemembered known Supplier incoming.control incoming.message state
+  pub remembered : TellsRemembered known Supplier incoming.control incoming.message incoming.content state
   pub answered : known.remembered ≡ None → TellsAnswered known response.order state
 
 -- whether some line of the advice names the order
@@ -64,7 +65,7 @@ pub record TellsUnits (known : Known) (used : List ℕ → Bool) (units : List U
 -- pallet. If its references are already remembered, or its number is known, those of the units need not agree.
 pub record TellsForDespatch (known : Known) (used : List ℕ → Bool) (incoming : IncomingMessage) (despatch : Despatch)
     (state : Tables) : Type 0 where
-  pub remembered : TellsRemembered known Supplier incoming.control incoming.message state
+  pub remembered : TellsRemembered known Supplier incoming.control incoming.message incoming.content state
   pub number : knows_advice state despatch.number ≡ known.number_known
   pub used_there : (sscc : List ℕ) → has_pallet state sscc ≡ true → used sscc ≡ true
   pub units : known.remembered ≡ None → known.number_known ≡ false → TellsUnits known used despatch.units state
@@ -72,12 +73,12 @@ pub record TellsForDespatch (known : Known) (used : List ℕ → Bool) (incoming
 -- the facts for a RECADV agree
 pub record TellsForReceipt (known : Known) (incoming : IncomingMessage) (receipt : Receipt)
     (state : Tables) : Type 0 where
-  pub remembered : TellsRemembered known Retailer incoming.control incoming.message state
+  pub remembered : TellsRemembered known Retailer incoming.control incoming.message incoming.content state
   pub mails : length state.mail ≡ known.mails
   pub pallets : map (λ unit. pallet_of state unit.sscc) receipt.units ≡ known.pallets
 
 -- the facts for a cancellation agree
-pub record TellsForCancel (known : Known) (cancel : Cancel) (state : Tables) : Type 0 where
-  pub remembered : TellsRemembered known Cancellation cancel.reference [] state
+pub record TellsForCancel (known : Known) (content : List ℕ) (cancel : Cancel) (state : Tables) : Type 0 where
+  pub remembered : TellsRemembered known Cancellation cancel.reference [] content state
   pub order : TellsOrder known state cancel.order
   pub lines : TellsLines state known.orders cancel.order

@@ -49,14 +49,14 @@ pub fn judge_cancel(
     content: Items<u8>,
     cancel: &Cancel,
 ) -> Result<Verdict, MemoryFault>
-    ensures { IfOk result (λ verdict. (state : Tables) → TellsForCancel known.now cancel.now state →
+    ensures { IfOk result (λ verdict. (state : Tables) → TellsForCancel known.now content cancel.now state →
         verdict ≡ rules.judge_cancel (option_copied supplier.entry) content cancel.now state) }
 {
     let row = match registered_supplier(supplier, &cancel.supplier) {
         Ok(row) => row,
         Err(code) => return Ok(Verdict::Refuse(code)),
     };
-    if let Some(verdict) = repeats(alloc, &known.remembered, content.as_slice()) {
+    if let Some(verdict) = repeats(alloc, known.remembered) {
         return Ok(verdict);
     }
     let after = match cancelled_line(alloc, known, cancel)? {

@@ -7,8 +7,9 @@ use hub_tables::PalletRow;
 /// need.
 #[derive(Debug, Drop)]
 pub struct Known {
-    /// The content that is remembered under the references of the message or the cancellation.
-    pub remembered: Option<Items<u8>>,
+    /// Whether the content remembered under the references is that of the message or the cancellation; `None` if nothing
+    /// is remembered.
+    pub remembered: Option<bool>,
     /// For each order that is named, whether the supplier has it, and all its lines.
     pub orders: KnownOrders,
     /// Whether the supplier already has an order (ORDERS) or an advice (DESADV) with this number.

@@ -147,7 +147,7 @@ pub fn judge_receipt(
         Ok(row) => row,
         Err(code) => return Ok(Verdict::Refuse(code)),
     };
-    if let Some(verdict) = repeats(alloc, &known.remembered, incoming.content.as_slice()) {
+    if let Some(verdict) = repeats(alloc, known.remembered) {
         return Ok(verdict);
     }
     if is_full(known.mails) {

@@ -1,6 +1,7 @@
 //! Recognises repeated messages (B03).
-ghost use Rattle.std.specs.Prelude.{◌≡◌, Option, None, option_map};
+ghost use Rattle.std.specs.Prelude.{◌≡◌, ℕ, List, Option, None, option_map};
 ghost use Rattle.std.specs.Option.{IfSome, IfNone};
+ghost use Rattle.hub_tables.specs.Rows.{same};
 ghost use Rattle.hub_tables.specs.declared.change.Change.TheVariants.{Remember};
 ghost use Rattle.hub_tables.specs.declared.rows.RememberedRow.{RememberedRow};
 ghost use Rattle.hub_rules.specs.RepeatRules.{once, remembered};
@@ -14,25 +15,18 @@ use std::alloc::Global;
 
 /// Returns the verdict if content is already remembered under the references: a repetition, or B03 if it differs.
 /// `None` if the message is new.
-pub(crate) fn repeats(
-    alloc: Global,
-    remembered: &Option<Items<u8>>,
-    content: &[u8],
-) -> Option<Verdict>
-    ensures some { IfSome result (λ verdict. (row : Option RememberedRow) (fresh : Verdict) →
-        option_map (λ row. row.content) row ≡ remembered.now → once row content.now fresh ≡ verdict) }
-    ensures none { IfNone result ((row : Option RememberedRow) (fresh : Verdict) →
-        option_map (λ row. row.content) row ≡ remembered.now → once row content.now fresh ≡ fresh) }
-    ensures new { IfNone result (remembered.now ≡ None) }
+pub(crate) fn repeats(alloc: Global, remembered: Option<bool>) -> Option<Verdict>
+    ensures some { IfSome result (λ verdict. (row : Option RememberedRow) (content : List ℕ) (fresh : Verdict) →
+        option_map (λ there. same there content) (option_map (λ row. row.content) row) ≡ remembered →
+        once row content fresh ≡ verdict) }
+    ensures none { IfNone result ((row : Option RememberedRow) (content : List ℕ) (fresh : Verdict) →
+        option_map (λ there. same there content) (option_map (λ row. row.content) row) ≡ remembered →
+        once row content fresh ≡ fresh) }
+    ensures new { IfNone result (remembered ≡ None) }
 {
     match remembered {
-        Some(there) => {
-            if there.as_slice() == content {
-                Some(Verdict::Accept(Items::new(alloc)))
-            } else {
-                Some(Verdict::Refuse(Code::OtherContent))
-            }
-        }
+        Some(true) => Some(Verdict::Accept(Items::new(alloc))),
+        Some(false) => Some(Verdict::Refuse(Code::OtherContent)),
         None => None,
     }
 }

@@ -96,7 +96,7 @@ pub fn judge_response(
         Ok(row) => row,
         Err(code) => return Ok(Verdict::Refuse(code)),
     };
-    if let Some(verdict) = repeats(alloc, &known.remembered, incoming.content.as_slice()) {
+    if let Some(verdict) = repeats(alloc, known.remembered) {
         return Ok(verdict);
     }
     let mut changes = Items::new(alloc);

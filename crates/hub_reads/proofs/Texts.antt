@@ -1,6 +1,7 @@
 -- Proves how the texts of the look-ups are parsed.
 use Rattle.std.proofs.Common.{◌++◌, ℕ, pos, List, [], ◌∷◌, codes, true, false, refl}
-use Rattle.sqlite_sql.specs.Term.{Term, lit, col, op2}
+use Rattle.sqlite_sql.specs.Term.{Term, lit, col, op1, op2}
+use Rattle.sqlite_sql.specs.declared.ops.UnaryOp.TheVariants.{Length}
 use Rattle.sqlite_sql.specs.Query.{Query}
 use Rattle.sqlite_sql.specs.declared.ops.BinaryOp.TheVariants.{Compare}
 use Rattle.sqlite_sql.specs.declared.ops.CompareOp.TheVariants.{Eq, Ne, Lt, Gt}
@@ -176,6 +177,13 @@ remembered_text = codes "SELECT content FROM remembered WHERE supplier = ?1 AND 
 pub remembered_selects : Selects remembered_text (all_of 14 remembered_tests (col 1 5 ∷ []) []) (codes "content" ∷ [])
 unfolding understood everything
 remembered_selects = record { first = refl; plain = (refl, refl); unlisted = refl; is = refl }
+
+abbrev pub length_text : List ℕ
+length_text = codes "SELECT length(content) FROM remembered WHERE supplier = ?1 AND side = ?2 AND control = ?3 AND message = ?4"
+
+pub length_selects : Selects length_text (all_of 14 remembered_tests (op1 Length (col 1 5) ∷ []) []) (codes "length(content)" ∷ [])
+unfolding understood everything
+length_selects = record { first = refl; plain = (refl, refl); unlisted = refl; is = refl }
 
 -- Mailboxes.
 

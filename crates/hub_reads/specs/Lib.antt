@@ -1,3 +1,4 @@
 pub mod Fitting
 pub mod Numbered
 pub mod Mail
+pub mod Length

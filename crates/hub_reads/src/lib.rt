@@ -24,4 +24,4 @@ pub use order::order_known;
 pub use pallet::{all_pallets, pallet_of, used};
 pub use party::{all_hubs, all_keys, all_prefixes, register};
 pub use receipt::{receipts_of, receipts_on};
-pub use remembered::remembered_content;
+pub use remembered::{matches_remembered, remembered_content};

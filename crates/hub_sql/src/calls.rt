@@ -63,6 +63,22 @@ impl<S: Alter> Store for SqliteStore<S> {
         settle(found, self.conn.schema(), &mut self.fault)
     }
 
+    fn matches_remembered(
+        &mut self,
+        supplier: &Gln,
+        side: Side,
+        control: &[u8],
+        message: &[u8],
+        text: &[u8],
+    ) -> Result<Option<bool>, StoreFault> {
+        if let Some(lasting) = self.fault {
+            return Err(again(lasting));
+        }
+        let conn = &mut self.conn;
+        let found = hub_reads::matches_remembered(conn, supplier, side, control, message, text);
+        settle(found, self.conn.schema(), &mut self.fault)
+    }
+
     fn order_known(&mut self, supplier: &Gln, number: &[u8]) -> Result<bool, StoreFault> {
         if let Some(lasting) = self.fault {
             return Err(again(lasting));

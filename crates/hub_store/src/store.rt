@@ -1,6 +1,7 @@
 //! Defines the trait that every store of a hub implements.
-ghost use Rattle.std.specs.Prelude.{◌≡◌, ◌≢◌, ◌≤◌, IsTrue, IsOk, IfOk, Bool, [], length, map, take, Option};
+ghost use Rattle.std.specs.Prelude.{◌≡◌, ◌≢◌, ◌≤◌, IsTrue, IsOk, IfOk, Bool, [], length, map, take, Option, option_map};
 ghost use Rattle.hub_tables.specs.Register.{HoldsRegister, register_of};
+ghost use Rattle.hub_tables.specs.Rows.{same};
 ghost use Rattle.hub_tables.specs.State.{knows_order, knows_advice, lines_of, pallet_of, contents_of, receipts_of, entry_at, untaken_after};
 ghost use Rattle.hub_tables.specs.State.{last_mail, remembered_content};
 ghost use Rattle.hub_tables.specs.Tables.{Tables, view, has_pallet};
@@ -67,6 +68,21 @@ pub trait Store {
     ) -> Result<Option<Items<u8>>, StoreFault>
         ensures looks { Looks content honest left broken self.old self.new
             (remembered_content (view supplier.now (content self.old)) side control.now message.now) result }
+        ensures fails { Fails plain (broken self.old) (broken self.new) result };
+
+    /// Returns whether this text is the content remembered for a side under two references, or `None` if nothing is
+    /// remembered.
+    fn matches_remembered(
+        &mut self,
+        supplier: &Gln,
+        side: Side,
+        control: &[u8],
+        message: &[u8],
+        text: &[u8],
+    ) -> Result<Option<bool>, StoreFault>
+        ensures looks { Looks content honest left broken self.old self.new
+            (option_map (λ there. same there text.now)
+            (remembered_content (view supplier.now (content self.old)) side control.now message.now)) result }
         ensures fails { Fails plain (broken self.old) (broken self.new) result };
 
     /// Whether the supplier has an order of this number.

@@ -166,6 +166,8 @@ fn despatched(alloc: Global, ids: &Ids) -> Result<Items<Change>, MemoryFault> {
 #[derive(Clone, Copy, PartialEq)]
 struct Seen {
     remembered: bool,
+    same: Option<bool>,
+    other: Option<bool>,
     order: bool,
     lines: u64,
     advice: bool,
@@ -185,6 +187,8 @@ struct Seen {
 // Alpha's order and pallet.
 const ALL: Seen = Seen {
     remembered: true,
+    same: Some(true),
+    other: Some(false),
     order: true,
     lines: 12,
     advice: true,
@@ -204,6 +208,8 @@ const ALL: Seen = Seen {
 // Beta, which has no rows: of alpha's pallet it gets only what is returned for a pallet of any supplier.
 const NOTHING: Seen = Seen {
     remembered: false,
+    same: None,
+    other: None,
     order: false,
     lines: 0,
     advice: false,
@@ -283,6 +289,14 @@ fn is_remembered<S: Store>(store: &mut S, supplier: &Gln) -> Result<bool, StoreF
     Ok(is_said(store.remembered(supplier, Side::Retailer, b"1001", b"7")?))
 }
 
+fn matches<S: Store>(
+    store: &mut S,
+    supplier: &Gln,
+    text: &[u8],
+) -> Result<Option<bool>, StoreFault> {
+    store.matches_remembered(supplier, Side::Retailer, b"1001", b"7", text)
+}
+
 fn is_known<S: Store>(store: &mut S, supplier: &Gln) -> Result<bool, StoreFault> {
     store.order_known(supplier, ORDER)
 }
@@ -341,6 +355,8 @@ fn is_used<S: Store>(store: &mut S, sscc: &Sscc) -> Result<bool, StoreFault> {
 
 fn see_order<S: Store>(store: &mut S, ids: &Ids, seen: &mut Seen) -> Result<(), StoreFault> {
     seen.remembered = is_remembered(store, &ids.supplier)?;
+    seen.same = matches(store, &ids.supplier, SAID)?;
+    seen.other = matches(store, &ids.supplier, b"sand")?;
     seen.order = is_known(store, &ids.supplier)?;
     seen.lines = lines(store, &ids.supplier)?;
     seen.all_lines = all_lines(store, &ids.supplier)?;
@@ -409,7 +425,7 @@ fn is_seen<S: Store>(store: &mut S, ids: &Ids, want: &Seen) -> Result<bool, Stor
 }
 
 fn has_counted(store: &TrialStore<VecStore>) -> bool {
-    store.look_ups() == 30 && store.commits() == 2
+    store.look_ups() == 34 && store.commits() == 2
 }
 
 // The look-ups of a supplier that has rows, and of one that has none, are counted.

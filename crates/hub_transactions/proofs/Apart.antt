@@ -285,7 +285,7 @@ pub asked_told : (named : LinesOfOrders) (used : List ℕ → Bool) (incoming : 
     (apart : List (List ℕ)) (known : Known)
     → KeepsAsked (names_line named) known.orders apart state
     → AllByRecursion (λ unit. NamesLines named unit.lines) despatch.units
-    → TellsRemembered known Supplier incoming.control incoming.message state
+    → TellsRemembered known Supplier incoming.control incoming.message incoming.content state
     → knows_advice state despatch.number ≡ known.number_known
     → ((sscc : List ℕ) → has_pallet state sscc ≡ true → used sscc ≡ true)
     → map (λ (unit : Unit). used unit.sscc) despatch.units ≡ known.used
@@ -298,7 +298,8 @@ asked_told named used incoming despatch state apart known before all remembered 
       (λ s. judge_new_despatch s used despatch) (λ s. new_despatch_local
       (names_line named) s used despatch all) before.seen state before.agree;
   told = record {
-    remembered = ap (λ (t : Tables). remembered_content t Supplier incoming.control incoming.message) before.agree.rest ∙ remembered;
+    remembered = ap (λ (t : Tables). option_map (λ there. same there incoming.content)
+        (remembered_content t Supplier incoming.control incoming.message)) before.agree.rest ∙ remembered;
     number = ap (λ (t : Tables). knows_advice t despatch.number) before.agree.rest ∙ number;
     used_there = λ sscc has. there sscc (sym (ap (λ (t : Tables). has_pallet t sscc) before.agree.rest) ∙ has);
     units = λ none unknown. record {

@@ -164,7 +164,7 @@ response_alike retailer supplier incoming response state numbers (Lines said) is
 -- what is known by these lines is right for some rows over which the rules decide the same
 pub named_told : (incoming : IncomingMessage) (response : Response) (state : Tables) (known : Known)
     → Kept state
-    → TellsRemembered known Supplier incoming.control incoming.message state
+    → TellsRemembered known Supplier incoming.control incoming.message incoming.content state
     → NamedLines response state known.orders
     → TellsAlike (TellsForResponse known incoming response) (λ retailer row. judge_response retailer row incoming response) state
 named_told incoming response state known kept remembered named =

@@ -66,7 +66,7 @@ pub fn take_cancel<S: Store>(
     lines_of_sound_tables_are_known();
     let supplier = register.supplier(&cancel.supplier);
     let content = cancel_text(alloc, cancel)?;
-    let known = known_for_cancel(alloc, store, cancel)?;
+    let known = known_for_cancel(alloc, store, cancel, content.as_slice())?;
     let verdict = judge_cancel(alloc, supplier, &known, content, cancel)?;
     let reply = reply_to_act(alloc, told_of_verdict(&verdict))?;
     commit_and_reply(store, &verdict, reply)

@@ -14,7 +14,7 @@ ghost use Rattle.hub_transactions.specs.Named.{NamedUnclean, SomeUnclean};
 ghost use Rattle.hub_transactions.specs.Knowing.{KeepsNamed, KnowsForDespatch};
 ghost use Rattle.hub_transactions.specs.Orders.{ForgetsOrders, KeepsOrders};
 
-use crate::knowing::{keep_order, known_with};
+use crate::knowing::{is_repetition, keep_order, known_with};
 use edi_base::{Items, MemoryFault};
 use edi_goods::{Despatch, Unit};
 use gs1_ids::Gln;
@@ -219,10 +219,8 @@ pub(crate) fn known_for_despatch<'a, S: Store>(
     ensures stays { Stays S.Store store.old store.new }
 {
     let units = despatch.units.as_slice();
-    let control = incoming.control.as_slice();
-    let message = incoming.message.as_slice();
     let mut apart = Items::new(alloc);
-    let remembered = store.remembered(supplier, Side::Supplier, control, message)?;
+    let remembered = is_repetition(store, supplier, Side::Supplier, incoming)?;
     let number = despatch.number.as_slice();
     let number_known = store.advice_known(supplier, number)?;
     if remembered.is_some() || number_known {

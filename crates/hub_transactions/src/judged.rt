@@ -38,7 +38,6 @@ use hub_parties::SupplierRow;
 use hub_register::Register;
 use hub_rules::accepted_changes_fit;
 use hub_store::{Store, StoreFault};
-use hub_tables::Side;
 use std::alloc::Global;
 use std::mem;
 
@@ -51,22 +50,16 @@ pub(crate) enum Judged {
     Unread(MessageFault),
 }
 
-// Refuses a supplier's message that the rules refuse whatever is known. One look-up checks that the store still works.
-fn refuse<S: Store>(
-    store: &mut S,
-    supplier: &Gln,
-    incoming: &IncomingMessage,
-    code: Code,
-) -> Result<Judged, StoreFault>
+// Refuses a supplier's message that the rules refuse whatever is known. One look-up checks that the store still works;
+// it reads as little as possible.
+fn refuse<S: Store>(store: &mut S, supplier: &Gln, code: Code) -> Result<Judged, StoreFault>
     ensures refused { IfOk result (λ judged. judged ≡ Read (Refuse code)) }
     ensures unclean { S.honest store.new → S.broken store.old ≡ None →
         are_clean (S.content store.old) ≡ true → result ≢ Err Unclean }
     ensures fails { FailsOver S.Store NoCause no_answer store.old store.new result }
     ensures stays { Stays S.Store store.old store.new }
 {
-    let control = incoming.control.as_slice();
-    let message = incoming.message.as_slice();
-    store.remembered(supplier, Side::Supplier, control, message)?;
+    store.order_known(supplier, &[])?;
     Ok(Judged::Read(Verdict::Refuse(code)))
 }
 
@@ -168,7 +161,7 @@ fn decide_response<S: Store>(
         Some(response.buyer),
         &response.supplier,
     ) {
-        return refuse(store, &supplier.gln, &incoming, code);
+        return refuse(store, &supplier.gln, code);
     }
     let kept = mem::replace(orders, KnownOrders::new(alloc));
     let (known, apart) = known_for_response(
@@ -216,7 +209,7 @@ fn decide_despatch<S: Store>(
     };
     let retailer = register.retailer();
     if let Some(code) = party_fault(retailer, Some(supplier), despatch.buyer, &despatch.supplier) {
-        return refuse(store, &supplier.gln, &incoming, code);
+        return refuse(store, &supplier.gln, code);
     }
     let kept = mem::replace(orders, KnownOrders::new(alloc));
     let (known, apart) = known_for_despatch(

@@ -1,7 +1,9 @@
 //! Looks up what the rules need to know of a supplier's rows for a message or a cancellation.
-ghost use Rattle.std.specs.Prelude.{◌≡◌, ◌≢◌, ◌⊎◌, ℕ, List, [], ◌∷◌, ◌++◌, map, true, false, None, Err, IfOk, IfErr, OnOk};
-ghost use Rattle.hub_tables.specs.State.{knows_order, lines_of, pallet_of};
+ghost use Rattle.std.specs.Prelude.{◌≡◌, ◌≢◌, ◌⊎◌, ℕ, List, [], ◌∷◌, ◌++◌, map, true, false, None, Err, IfOk, IfErr, OnOk, option_map};
+ghost use Rattle.hub_tables.specs.Rows.{same};
+ghost use Rattle.hub_tables.specs.State.{knows_order, lines_of, pallet_of, remembered_content};
 ghost use Rattle.hub_tables.specs.Tables.{view};
+ghost use Rattle.hub_store.specs.Calls.{Fails, Looks};
 ghost use Rattle.hub_store.specs.Clean.{are_clean};
 ghost use Rattle.hub_store.specs.declared.fault.StoreFault.TheVariants.{Memory, Unclean};
 ghost use Rattle.hub_order_lines.specs.KnownLines.{AreUnclean};
@@ -25,6 +27,25 @@ use hub_store::{Store, StoreFault};
 use hub_tables::{LineRow, PalletRow, Side};
 use std::alloc::Global;
 
+/// Returns whether the content remembered under the references of a message is its own, or `None` if nothing is
+/// remembered, in one look-up.
+pub(crate) fn is_repetition<S: Store>(
+    store: &mut S,
+    supplier: &Gln,
+    side: Side,
+    incoming: &IncomingMessage,
+) -> Result<Option<bool>, StoreFault>
+    ensures looks { Looks S.content S.honest S.left S.broken store.old store.new
+        (option_map (λ there. same there incoming.now.content) (remembered_content
+        (view supplier.now (S.content store.old)) side incoming.now.control incoming.now.message)) result }
+    ensures fails { Fails S.plain (S.broken store.old) (S.broken store.new) result }
+{
+    let control = incoming.control.as_slice();
+    let message = incoming.message.as_slice();
+    let content = incoming.content.as_slice();
+    store.matches_remembered(supplier, side, control, message, content)
+}
+
 /// Looks up what the rules need for an ORDERS, in three look-ups.
 #[tactic(auto, using(crate::proofs::LookUps::mails_known))]
 pub(crate) fn known_for_order<S: Store>(
@@ -42,9 +63,7 @@ pub(crate) fn known_for_order<S: Store>(
     ensures fails { FailsOver S.Store NoCause no_answer store.old store.new result }
     ensures stays { Stays S.Store store.old store.new }
 {
-    let control = incoming.control.as_slice();
-    let message = incoming.message.as_slice();
-    let remembered = store.remembered(supplier, Side::Retailer, control, message)?;
+    let remembered = is_repetition(store, supplier, Side::Retailer, incoming)?;
     let number = order.number.as_slice();
     let number_known = store.order_known(supplier, number)?;
     let mails = store.last_mail(supplier)?;
@@ -118,7 +137,7 @@ fn known_of_order<S: Store>(
     store: &mut S,
     supplier: &Gln,
     order: &[u8],
-    remembered: Option<Items<u8>>,
+    remembered: Option<bool>,
     mut orders: KnownOrders,
 ) -> Result<Known, StoreFault>
     ensures told { S.honest store.new → KeepsOrders orders (view supplier.now (S.content store.old)) →
@@ -149,7 +168,7 @@ fn known_of_order<S: Store>(
 /// Returns what is known for a supplier's message: what is remembered, whether its number is known, and orders.
 pub(crate) fn known_with(
     alloc: Global,
-    remembered: Option<Items<u8>>,
+    remembered: Option<bool>,
     number_known: bool,
     orders: KnownOrders,
 ) -> Known
@@ -237,9 +256,7 @@ pub(crate) fn known_for_response<S: Store>(
     ensures stays { Stays S.Store store.old store.new }
 {
     let order = response.order.as_slice();
-    let control = incoming.control.as_slice();
-    let message = incoming.message.as_slice();
-    let remembered = store.remembered(supplier, Side::Supplier, control, message)?;
+    let remembered = is_repetition(store, supplier, Side::Supplier, incoming)?;
     if remembered.is_some() {
         return Ok((known_with(alloc, remembered, false, orders), None));
     }
@@ -253,15 +270,16 @@ pub(crate) fn known_for_response<S: Store>(
     Ok((known, None))
 }
 
-/// Looks up what the rules need for a cancellation, in three look-ups. `Unclean` as for an ORDRSP.
+/// Looks up what the rules need for a cancellation with this content, in three look-ups. `Unclean` as for an ORDRSP.
 pub(crate) fn known_for_cancel<S: Store>(
     alloc: Global,
     store: &mut S,
     cancel: &Cancel,
+    content: &[u8],
 ) -> Result<Known, StoreFault>
     ensures told { S.honest store.new →
         IfOk result (λ known.
-        TellsForCancel known cancel.now (view cancel.now.supplier (S.content store.old))) }
+        TellsForCancel known content.now cancel.now (view cancel.now.supplier (S.content store.old))) }
     ensures unclean { S.honest store.new → S.broken store.old ≡ None →
         are_clean (S.content store.old) ≡ true →
         result ≡ Err Unclean →
@@ -274,7 +292,8 @@ pub(crate) fn known_for_cancel<S: Store>(
     let supplier = &cancel.supplier;
     let order = cancel.order.as_slice();
     let control = cancel.reference.as_slice();
-    let remembered = store.remembered(supplier, Side::Cancellation, control, &[])?;
+    let side = Side::Cancellation;
+    let remembered = store.matches_remembered(supplier, side, control, &[], content)?;
     let none = KnownOrders::new(alloc);
     let known = known_of_order(alloc, store, supplier, order, remembered, none)?;
     Ok(known)
@@ -332,9 +351,7 @@ pub(crate) fn known_for_receipt<S: Store>(
     ensures fails { FailsOver S.Store NoCause no_answer store.old store.new result }
     ensures stays { Stays S.Store store.old store.new }
 {
-    let control = incoming.control.as_slice();
-    let message = incoming.message.as_slice();
-    let remembered = store.remembered(supplier, Side::Retailer, control, message)?;
+    let remembered = is_repetition(store, supplier, Side::Retailer, incoming)?;
     let mails = store.last_mail(supplier)?;
     let units = receipt.units.as_slice();
     let pallets = pallets_of(alloc, store, supplier, units)?;

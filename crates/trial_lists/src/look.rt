@@ -113,6 +113,25 @@ pub(crate) fn remembered_with(
     }
 }
 
+/// Returns whether this text is the content that is remembered for a side of a supplier under two references, or
+/// `None` if nothing is remembered.
+pub(crate) fn matches_remembered(
+    rows: &[RememberedRow],
+    reference: &Reference<'_>,
+    text: &[u8],
+) -> Option<bool>
+    requires { Rises remembered_cmp rows.now }
+    ensures { result ≡ option_map (λ there. same there text.now)
+        (option_map (λ row. row.content) (find (λ row. (row.side == side_letter reference.now.side)
+        && (same row.control reference.now.control.now && same row.message reference.now.message.now))
+        (filter (λ row. same row.supplier reference.now.supplier.now) rows.now))) }
+{
+    match rows_at(rows, reference).first() {
+        Some(row) => Some(row.content.as_slice() == text),
+        None => None,
+    }
+}
+
 /// Whether the supplier has an order with this number.
 #[tactic(auto, using(crate::proofs::Filters::any_of_both))]
 pub(crate) fn has_order(orders: &[OrderRow], supplier: &Gln, number: &[u8]) -> bool

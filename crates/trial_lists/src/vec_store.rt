@@ -121,6 +121,24 @@ impl Store for VecStore {
         Ok(look::remembered_with(self.alloc, rows, &reference)?)
     }
 
+    fn matches_remembered(
+        &mut self,
+        supplier: &Gln,
+        side: Side,
+        control: &[u8],
+        message: &[u8],
+        text: &[u8],
+    ) -> Result<Option<bool>, StoreFault> {
+        let remembered = self.lists.remembered.as_slice();
+        let reference = Reference {
+            supplier,
+            side,
+            control,
+            message,
+        };
+        Ok(look::matches_remembered(remembered, &reference, text))
+    }
+
     fn order_known(&mut self, supplier: &Gln, number: &[u8]) -> Result<bool, StoreFault> {
         let orders = self.lists.orders.as_slice();
         Ok(look::has_order(orders, supplier, number))

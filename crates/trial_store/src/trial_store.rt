@@ -138,6 +138,22 @@ impl<S: Store> Store for TrialStore<S> {
         found
     }
 
+    fn matches_remembered(
+        &mut self,
+        supplier: &Gln,
+        side: Side,
+        control: &[u8],
+        message: &[u8],
+        text: &[u8],
+    ) -> Result<Option<bool>, StoreFault> {
+        self.gate.look_up()?;
+        let found = self
+            .store
+            .matches_remembered(supplier, side, control, message, text);
+        self.gate.seen(&found);
+        found
+    }
+
     fn order_known(&mut self, supplier: &Gln, number: &[u8]) -> Result<bool, StoreFault> {
         self.gate.look_up()?;
         let found = self.store.order_known(supplier, number);

@@ -18,9 +18,9 @@ returns c used state told =
     let judged = despatch_alike s used known despatch (apply_all (first_of s sides.Supplier incoming) state) told.number
     told.used_there (record { used_told = units.used_told; orders = units.orders; lines = units.lines }) in
     let whole = judged_message c.args.retailer.now (option_copied c.args.supplier) sides.Supplier incoming despatch.buyer
-    despatch.supplier (λ s. judge_new_despatch s used despatch) s state c.as_slice.result.now
-    (despatch_from s despatch known) c.in-Ok.ensures.ok c.as_slice.ensures (λ fresh.
-    c.in_default.ensures.none (remembered_of state sides.Supplier incoming.control incoming.message) fresh
+    despatch.supplier (λ s. judge_new_despatch s used despatch) s state
+    (despatch_from s despatch known) c.in-Ok.ensures.ok (λ fresh.
+    c.in_default.ensures.none (remembered_of state sides.Supplier incoming.control incoming.message) incoming.content fresh
     told.remembered) judged in
     c.in_ok-verdict.ensures ∙ sym whole
 

@@ -9,7 +9,7 @@ use Rattle.hub_tables.specs.declared.change.Change.TheVariants.{Remember}
 use Rattle.hub_rules.specs.Judging.{joined}
 use Rattle.hub_rules.specs.MailboxRules.{mail_entry}
 use Rattle.hub_rules.specs.ReceiptRules.{judge_new_receipt}
-use Rattle.hub_rules.specs.RepeatRules.{remembered, once, judge_once}
+use Rattle.hub_rules.specs.RepeatRules.{remembered, judge_once}
 use Rattle.hub_rules.specs.Rules.{referred_by}
 use Rattle.hub_rules.specs.declared.verdict.Verdict.{Verdict}
 use Rattle.hub_judges.specs.FromFacts.{no_sscc, receipts_from}
@@ -43,8 +43,7 @@ returns c =
     c.in-Ok.ensures.ok (λ s.
     judge_once (referred_by s sides.Retailer incoming) incoming.content (judge_new_receipt s.gln incoming body receipt)
     state)
-    ∙ ap (λ content. once row content fresh) (sym c.as_slice.ensures)
-    ∙ c.in_default.ensures.none row fresh told.remembered
+    ∙ c.in_default.ensures.none row incoming.content fresh told.remembered
     ∙ new_receipt_alike memory s.gln incoming body receipt (apply memory state) known.mails known.pallets
     (sym c.is_full.ensures.value ∙ c.if-is_full.false) told.mails told.pallets
     )) c.judge_units.ensures

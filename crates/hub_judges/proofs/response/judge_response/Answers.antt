@@ -18,9 +18,9 @@ returns c state told =
     let judged = response_alike c.args.known.now response (apply_all (first_of s sides.Supplier incoming) state)
     (record { order = answered.order; lines = answered.lines; despatched = answered.despatched }) in
     let whole = judged_message c.args.retailer.now (option_copied c.args.supplier) sides.Supplier incoming
-    (Some response.buyer) response.supplier (λ s. judge_new_response response) s state c.as_slice.result.now
-    (response_from response c.args.known.now) c.in-Ok.ensures.ok c.as_slice.ensures (λ fresh.
-    c.in_default.ensures.none (remembered_of state sides.Supplier incoming.control incoming.message) fresh
+    (Some response.buyer) response.supplier (λ s. judge_new_response response) s state
+    (response_from response c.args.known.now) c.in-Ok.ensures.ok (λ fresh.
+    c.in_default.ensures.none (remembered_of state sides.Supplier incoming.control incoming.message) incoming.content fresh
     told.remembered) judged in
     let first = c.in_ok-push.ensures.ok ∙ ap₂ (λ changes change. changes ++ change ∷ []) c.new-changes.ensures c.remember.ensures in
     c.in_ok-verdict.ensures ∙ ap (λ changes. joined changes (response_from response c.args.known.now)) first ∙ sym whole

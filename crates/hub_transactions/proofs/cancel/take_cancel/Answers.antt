@@ -4,6 +4,7 @@ use Rattle.hub_tables.specs.State.{lines_of}
 use Rattle.hub_tables.specs.Tables.{Tables, view}
 use Rattle.hub_order_lines.specs.KnownLines.{AreUnclean}
 use Rattle.hub_rules.specs.Rules.{judge_cancel}
+use Rattle.hub_judges.specs.Known.{TellsForCancel}
 use Rattle.hub_acts.specs.HubLaw.CancelText.{cancel_text}
 use Rattle.hub_acts.specs.HubLaw.Mark.{Whole}
 use Rattle.hub_acts.specs.HubLaw.Replies.{act_reply}
@@ -31,7 +32,8 @@ returns-clause-carried g c = λ hub rise.
     let content = c.in_ok-content.ensures in
     let verdict : g.S.Store.honest c.known_for_cancel.new.store →
     c.in_ok-verdict.verdict ≡ judge_cancel (supplier_row register.suppliers cancel.supplier) (cancel_text cancel) cancel state =
-    λ honest. c.in_ok-verdict.ensures state (c.in_ok-known.ensures.told honest)
+    λ honest. c.in_ok-verdict.ensures state (subst (λ content. TellsForCancel c.in_ok-known.known content cancel state) c.as_slice.ensures
+    (c.in_ok-known.ensures.told honest))
     ∙ (λ i. judge_cancel (supplier i) (content i) cancel state) in
     after_looking g.S.Store c.args.store.now
     c.known_for_cancel.new.store c.commit_and_reply.new.store
@@ -55,7 +57,8 @@ returns-clause-clean g c = λ hub rise within.
     let content = c.in_ok-content.ensures in
     let verdict : g.S.Store.honest c.known_for_cancel.new.store →
     c.in_ok-verdict.verdict ≡ judge_cancel (supplier_row register.suppliers cancel.supplier) (cancel_text cancel) cancel state =
-    λ honest. c.in_ok-verdict.ensures state (c.in_ok-known.ensures.told honest)
+    λ honest. c.in_ok-verdict.ensures state (subst (λ content. TellsForCancel c.in_ok-known.known content cancel state) c.as_slice.ensures
+    (c.in_ok-known.ensures.told honest))
     ∙ (λ i. judge_cancel (supplier i) (content i) cancel state) in
     clean_after_looking g.S.Store c.args.store.now
     c.known_for_cancel.new.store c.commit_and_reply.new.store

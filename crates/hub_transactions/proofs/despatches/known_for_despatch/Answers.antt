@@ -1,7 +1,8 @@
-use Rattle.std.proofs.Common.{◌≡◌, ℕ, true, List, [], Bor, is_some, map, refl, sym, subst, ap, ap₂, ◌∙◌}
+use Rattle.std.proofs.Common.{◌≡◌, ℕ, true, List, [], Bor, is_some, map, option_map, refl, sym, subst, ap, ap₂, ◌∙◌}
 use Rattle.std.specs.List.{AllByRecursion}
 use Rattle.std.proofs.lemmas.Bool.{true≢false}
 use Rattle.edi_goods.specs.declared.despatch.Unit.{Unit}
+use Rattle.hub_tables.specs.Rows.{same}
 use Rattle.hub_tables.specs.State.{knows_advice, remembered_content}
 use Rattle.hub_tables.specs.Tables.{view, has_pallet}
 use Rattle.hub_tables.specs.declared.cases.Side.TheVariants.{Supplier}
@@ -31,7 +32,7 @@ asked g c honest old =
     let second = c.in_ok-used.ensures.stays.was_honest third in
     let first = c.advice_known.ensures.looks.was_honest second in
     let stays = c.in_ok-used.ensures.stays.content_stays third ∙ c.advice_known.ensures.looks.content_stays second
-    ∙ c.remembered.ensures.looks.content_stays first in
+    ∙ c.is_repetition.ensures.looks.content_stays first in
     let before = view supplier (g.S.Store.content c.used_of.new.store) in
     let apart = map (λ number. number.now) c.know_orders.new.apart in
     subst (λ (orders : Orders). KeepsAsked asks orders apart (view supplier (g.S.Store.content c.args.store.now)))
@@ -55,11 +56,12 @@ returns-clause-told g c = λ honest old.
     let third = c.in_ok-know_orders.ensures.stays.was_honest honest in
     let second = c.in_ok-used.ensures.stays.was_honest third in
     let first = c.advice_known.ensures.looks.was_honest second in
-    let one = c.remembered.ensures.looks.content_stays first in
+    let one = c.is_repetition.ensures.looks.content_stays first in
     let two = c.advice_known.ensures.looks.content_stays second in
     let remembered = c.in_ok-remembered.ensures.looks.answers first in
     let known = c.in_ok-number_known.ensures.looks.answers second in
-    let remembered_is : remembered_content (view supplier t) Supplier c.args.incoming.now.control c.args.incoming.now.message
+    let remembered_is : option_map (λ there. same there c.args.incoming.now.content)
+    (remembered_content (view supplier t) Supplier c.args.incoming.now.control c.args.incoming.now.message)
     ≡ c.in_ok-remembered.remembered = cc in
     let number_is : knows_advice (view supplier t) despatch.number ≡ c.in_ok-number_known.number_known = cc in
     let named = c.in_ok-named.named.entries in
@@ -82,7 +84,7 @@ pub returns-then-is_some-clause-told : goal.returns-then-is_some-clause-told
 returns-then-is_some-clause-told g c = λ honest old.
     let t = g.S.Store.content c.args.store.now in
     let first = c.advice_known.ensures.looks.was_honest honest in
-    let one = c.remembered.ensures.looks.content_stays first in
+    let one = c.is_repetition.ensures.looks.content_stays first in
     let remembered = c.in_ok-remembered.ensures.looks.answers first in
     let known = c.in_ok-number_known.ensures.looks.answers honest in
     let as_it_was = c.known_with.ensures.remembered in

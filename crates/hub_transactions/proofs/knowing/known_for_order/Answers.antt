@@ -6,7 +6,7 @@ pub returns-clause-told : goal.returns-clause-told
 returns-clause-told g c = λ honest kept.
     let second = c.last_mail.ensures.looks.was_honest honest in
     let first = c.order_known.ensures.looks.was_honest second in
-    let one = c.remembered.ensures.looks.content_stays first in
+    let one = c.is_repetition.ensures.looks.content_stays first in
     let two = c.order_known.ensures.looks.content_stays second in
     let remembered = c.in_ok-remembered.ensures.looks.answers first in
     let known = c.in_ok-number_known.ensures.looks.answers second in

@@ -28,12 +28,12 @@ returns-in-Some-clause-told g c = λ honest sound kept.
     let response = c.args.response.now in
     let state = view supplier (g.S.Store.content c.args.store.now) in
     let first = c.named_lines.ensures.stays.was_honest honest in
-    let stays = c.remembered.ensures.looks.content_stays first in
+    let stays = c.is_repetition.ensures.looks.content_stays first in
     let answers = c.in_ok-remembered.ensures.looks.answers first in
     let as_it_was = c.known_with-in-Some.ensures.remembered in
     let incoming = c.args.incoming.now in
-    let remembered : TellsRemembered c.known_with-in-Some.result Supplier incoming.control incoming.message state = cc in
-    let named = subst (λ o. IfSome o (NamedLines response (view supplier (g.S.Store.content c.remembered.new.self)))) c.in-Some.is
+    let remembered : TellsRemembered c.known_with-in-Some.result Supplier incoming.control incoming.message incoming.content state = cc in
+    let named = subst (λ o. IfSome o (NamedLines response (view supplier (g.S.Store.content c.is_repetition.new.store)))) c.in-Some.is
     (c.in_ok-named.ensures.named honest) in
     named_told c.args.incoming.now response state c.known_with-in-Some.result sound remembered
     (subst (λ (orders : Orders). NamedLines response state orders) (sym c.known_with-in-Some.ensures.orders)
