@@ -8,10 +8,12 @@ from tests.harness.first_order import ORDERS
 from tests.harness.hub_scripts import DESPATCH, PALLET, RESPONSE
 from tests.harness.hub_steps import cancelled, founded, mail, one, step, steps, told
 from tests.harness.older_files import older_file
-from tests.harness.register_texts import ALPHA, BETA, HUB, RETAILER
+from tests.harness.register_texts import ALPHA, BETA, GAMMA, HUB, RETAILER
 
 VERIFY = ["verify", "--db", NAME]
 ITEM = "04000862141404"
+# an SSCC under ALPHA's prefix that no pallet has, and one with a wrong check digit
+OTHER_PALLET, NO_PALLET = "340123455000000029", "340123450000000013"
 NAMES = (
     "suppliers",
     "orders",
@@ -45,6 +47,15 @@ def blob(text):
     return f"CAST('{text}' AS BLOB)"
 
 
+def cell(value):
+    return value if str(value).startswith("x'") else blob(value) if isinstance(value, str) else str(value)
+
+
+def insert(table, *values):
+    """A statement that puts a row: texts are stored as bytes, and `x'..'` stands for the bytes that it spells."""
+    return f"INSERT INTO {table} VALUES ({', '.join(map(cell, values))})"
+
+
 def receipt_of(article):
     """A statement that puts a receipt of the announced pallet."""
     return f"INSERT INTO receipt VALUES ({blob(PALLET)}, {blob(article)}, 12, 0, 0)"
@@ -71,6 +82,21 @@ UNCLEAN = [
     ("a cancellation with a message reference", f"remembered {ALPHA} 67 1001 1", "UPDATE remembered SET side = 67 WHERE side = 82"),
     ("an entry with another decimal mark", f"mail {ALPHA} 1", "UPDATE mail SET decimal = 45"),
     ("an entry of number zero", f"mail {ALPHA} 0", "UPDATE mail SET number = 0"),
+    # of a GLN that is not registered, between the two that are
+    ("another's order without a number", f"order {GAMMA} %", insert('"order"', GAMMA, "x''")),
+    ("another's line of number zero", f"line {GAMMA} 7 0", insert("line", GAMMA, "7", 0, ITEM, 1, 1, 0, 0, 87)),
+    ("another's advice without a number", f"advice {GAMMA} %", insert("advice", GAMMA, "x''")),
+    ("another's pallet of a wrong SSCC", f"pallet {NO_PALLET}", insert("pallet", NO_PALLET, GAMMA, "D", 0)),
+    ("a content of a wrong SSCC", f"content {NO_PALLET} 1", insert("content", NO_PALLET, 1, "7", 1, 1)),
+    ("a receipt of a wrong SSCC", f"receipt {NO_PALLET} {ITEM}", insert("receipt", NO_PALLET, ITEM, 1, 0, 0)),
+    ("another's message of no side", f"remembered {GAMMA} 88 1 1", insert("remembered", GAMMA, 88, "1", "1", "m")),
+    ("another's entry of number zero", f"mail {GAMMA} 0", insert("mail", GAMMA, 0, 1748942400, 46, 79, "7", "m", 0)),
+    # the first supplier's rows are clean, those of the last are not
+    ("the last supplier's advice without a number", f"advice {BETA} %", insert("advice", BETA, "x''")),
+    ("the last supplier's entry of number zero", f"mail {BETA} 0", insert("mail", BETA, 0, 1748942400, 46, 79, "7", "m", 0)),
+    # suppliers below and above all GLNs
+    ("an advice of no bytes as its supplier", "advice % D", insert("advice", "x''", "D")),
+    ("an advice of a byte of eight ones as its supplier", "advice %FF D", insert("advice", "x'FF'", "D")),
 ]
 UNSOUND = [
     ("no register", "hub", "DELETE FROM hub"),
@@ -85,6 +111,12 @@ UNSOUND = [
     ("contents without their line", f"content {PALLET} 1", "UPDATE content SET line = 2"),
     ("a line of which too much is open", f"line {ALPHA} 128576 1", "UPDATE line SET open_qty = 25"),
     ("a line of which too little is open", f"line {ALPHA} 128576 1", "UPDATE line SET open_qty = 23"),
+    ("another's line without its order", f"line {GAMMA} 7 1", insert("line", GAMMA, "7", 1, ITEM, 1, 1, 0, 0, 87)),
+    ("another's pallet", f"pallet {OTHER_PALLET}", insert("pallet", OTHER_PALLET, GAMMA, "D", 0)),
+    ("a content of a pallet that is not there", f"content {OTHER_PALLET} 1", insert("content", OTHER_PALLET, 1, "128576", 1, 1)),
+    ("a receipt of a pallet that is not there", f"receipt {OTHER_PALLET} {ITEM}", insert("receipt", OTHER_PALLET, ITEM, 1, 0, 0)),
+    ("a gap in another's mailbox", f"mail {GAMMA} 2", insert("mail", GAMMA, 2, 1748942400, 46, 79, "7", "m", 0)),
+    ("a gap in the last supplier's mailbox", f"mail {BETA} 2", insert("mail", BETA, 2, 1748942400, 46, 79, "7", "m", 0)),
 ]
 
 
@@ -106,8 +138,11 @@ def of_its_size(*counts, after=None):
 def of_sound_files():
     """A founded hub, and one after a day of messages."""
     data = file_of()
+    entry = insert("mail", GAMMA, 1, 1748942400, 46, 79, "7", "m", 1)
+    more = file_of(TABLES, ROWS, insert('"order"', GAMMA, "7"), entry, insert("remembered", GAMMA, 82, "1", "1", "m"))
     return [
         verified("verify: an order, its answer and its despatch", data, sound(len(data), 2, 1, 1, 1, 1, 0, 1, 1, 3)),
+        verified("verify: rows of a GLN that is not registered", more, sound(len(more), 2, 2, 1, 1, 1, 0, 2, 1, 4)),
         founded("verify: a hub that was founded", of_its_size(2, 0, 0, 0, 0, 0, 0, 0, 0)),
         founded(
             "verify: a day of messages",

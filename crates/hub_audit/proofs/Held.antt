@@ -15,7 +15,7 @@ use Rattle.hub_tables.specs.Tables.{Tables}
 use Rattle.hub_verify.specs.AllRows.{IsRead}
 use Rattle.hub_verify.specs.declared.all_rows.Read.{Read as Found}
 use Rattle.hub_verify.specs.declared.all_rows.Read.TheVariants as read
-use Rattle.hub_verify.proofs.Crossing.{rows_are}
+use Rattle.hub_verify.proofs.Reading.{rows_are}
 
 abbrev Never : Tables → Type 0
 Never t = ⊥

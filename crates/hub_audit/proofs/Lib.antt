@@ -3,6 +3,7 @@ pub mod EveryRow
 pub mod Texts
 pub mod Parties
 pub mod Traffic
+pub mod LowestAbove
 pub mod Receiving
 pub mod Held
 pub mod Auditing

@@ -38,7 +38,7 @@ fn audit_rows<S: Alter>(rows: &mut HubRows<S>, alloc: Global) -> Result<Audit, S
     let verdict = verify(rows, alloc)?;
     match verdict {
         Verdict::Sound => {
-            let counts = count(rows)?;
+            let counts = count(rows, alloc)?;
             Ok(Audit::Sound(counts))
         }
         Verdict::Unclean(found) => Ok(Audit::Unclean(found)),

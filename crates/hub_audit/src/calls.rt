@@ -1,5 +1,8 @@
 //! Answers what a check of all rows asks, each by a query.
+ghost use Rattle.hub_verify.specs.AllRows.{IsReadFault};
+
 use crate::kinds;
+use crate::next::next_value;
 use crate::received::received;
 use crate::register::register;
 use crate::rows::HubRows;
@@ -11,8 +14,18 @@ use hub_tables::{
     AdviceRow, ContentRow, HubRow, KeyRow, LineRow, MailRow, OrderRow, PalletRow, PrefixRow,
     ReceiptRow, RememberedRow,
 };
-use hub_verify::{AllRows, Read};
+use hub_verify::{AllRows, PieceKind, Read};
 use sqlite::Alter;
+
+// What a look-up of clean rows fails with: a row without its form is not what the disk held when all were checked.
+fn read_fault(fault: StoreFault) -> StoreFault
+    ensures { IsReadFault result }
+{
+    match fault {
+        StoreFault::Memory => StoreFault::Memory,
+        StoreFault::Disk | StoreFault::Unclean | StoreFault::Version => StoreFault::Disk,
+    }
+}
 
 impl<S: Alter> AllRows for HubRows<S> {
     ghost use Rattle.hub_audit.specs.Rows.{content, honest};
@@ -37,63 +50,74 @@ impl<S: Alter> AllRows for HubRows<S> {
         kinds::every_prefix(&mut self.conn, self.alloc)
     }
 
-    fn every_order(&mut self) -> Result<Read<OrderRow>, StoreFault> {
-        kinds::every_order(&mut self.conn, self.alloc)
+    fn next_value(
+        &mut self,
+        kind: PieceKind,
+        value: &[u8],
+    ) -> Result<Option<Items<u8>>, StoreFault> {
+        match next_value(&mut self.conn, kind, value) {
+            Ok(found) => Ok(found),
+            Err(fault) => Err(read_fault(fault)),
+        }
     }
 
-    fn every_line(&mut self) -> Result<Read<LineRow>, StoreFault> {
-        kinds::every_line(&mut self.conn, self.alloc)
+    fn orders_of(&mut self, supplier: &[u8]) -> Result<Read<OrderRow>, StoreFault> {
+        kinds::orders_of(&mut self.conn, self.alloc, supplier)
     }
 
-    fn every_advice(&mut self) -> Result<Read<AdviceRow>, StoreFault> {
-        kinds::every_advice(&mut self.conn, self.alloc)
+    fn lines_of(&mut self, supplier: &[u8]) -> Result<Read<LineRow>, StoreFault> {
+        kinds::lines_of(&mut self.conn, self.alloc, supplier)
     }
 
-    fn every_pallet(&mut self) -> Result<Read<PalletRow>, StoreFault> {
-        kinds::every_pallet(&mut self.conn, self.alloc)
+    fn advices_of(&mut self, supplier: &[u8]) -> Result<Read<AdviceRow>, StoreFault> {
+        kinds::advices_of(&mut self.conn, self.alloc, supplier)
     }
 
-    fn every_content(&mut self) -> Result<Read<ContentRow>, StoreFault> {
-        kinds::every_content(&mut self.conn, self.alloc)
+    fn pallets_of(&mut self, supplier: &[u8]) -> Result<Read<PalletRow>, StoreFault> {
+        kinds::pallets_of(&mut self.conn, self.alloc, supplier)
     }
 
-    fn every_receipt(&mut self) -> Result<Read<ReceiptRow>, StoreFault> {
-        kinds::every_receipt(&mut self.conn, self.alloc)
+    fn contents_on(&mut self, sscc: &[u8]) -> Result<Read<ContentRow>, StoreFault> {
+        kinds::contents_on(&mut self.conn, self.alloc, sscc)
     }
 
-    fn every_remembered(&mut self) -> Result<Read<RememberedRow>, StoreFault> {
-        kinds::every_remembered(&mut self.conn, self.alloc)
+    fn receipts_on(&mut self, sscc: &[u8]) -> Result<Read<ReceiptRow>, StoreFault> {
+        kinds::receipts_on(&mut self.conn, self.alloc, sscc)
     }
 
-    fn every_mail(&mut self) -> Result<Read<MailRow>, StoreFault> {
-        kinds::every_mail(&mut self.conn, self.alloc)
+    fn remembered_of(&mut self, supplier: &[u8]) -> Result<Read<RememberedRow>, StoreFault> {
+        kinds::remembered_of(&mut self.conn, self.alloc, supplier)
+    }
+
+    fn mail_of(&mut self, supplier: &[u8]) -> Result<Read<MailRow>, StoreFault> {
+        kinds::mail_of(&mut self.conn, self.alloc, supplier)
     }
 
     fn order_known(&mut self, supplier: &Gln, number: &[u8]) -> Result<bool, StoreFault> {
-        hub_reads::order_known(&mut self.conn, supplier, number)
+        match hub_reads::order_known(&mut self.conn, supplier, number) {
+            Ok(known) => Ok(known),
+            Err(fault) => Err(read_fault(fault)),
+        }
     }
 
     fn used(&mut self, sscc: &Sscc) -> Result<bool, StoreFault> {
-        hub_reads::used(&mut self.conn, sscc)
+        match hub_reads::used(&mut self.conn, sscc) {
+            Ok(used) => Ok(used),
+            Err(fault) => Err(read_fault(fault)),
+        }
     }
 
     fn received(&mut self, sscc: &Sscc) -> Result<bool, StoreFault> {
-        received(&mut self.conn, sscc)
+        match received(&mut self.conn, sscc) {
+            Ok(received) => Ok(received),
+            Err(fault) => Err(read_fault(fault)),
+        }
     }
 
     fn mail_item(&mut self, supplier: &Gln, number: u64) -> Result<Option<MailRow>, StoreFault> {
-        hub_reads::mail_item(&mut self.conn, supplier, number)
-    }
-
-    fn lines_of(&mut self, supplier: &Gln) -> Result<Items<LineRow>, StoreFault> {
-        hub_reads::all_lines(&mut self.conn, self.alloc, supplier)
-    }
-
-    fn pallets_of(&mut self, supplier: &Gln) -> Result<Items<PalletRow>, StoreFault> {
-        hub_reads::all_pallets(&mut self.conn, self.alloc, supplier)
-    }
-
-    fn contents_on(&mut self, sscc: &Sscc) -> Result<Items<ContentRow>, StoreFault> {
-        hub_reads::contents_on(&mut self.conn, self.alloc, sscc)
+        match hub_reads::mail_item(&mut self.conn, supplier, number) {
+            Ok(entry) => Ok(entry),
+            Err(fault) => Err(read_fault(fault)),
+        }
     }
 }

@@ -1,15 +1,18 @@
-//! Reads all rows of a kind.
-ghost use Rattle.std.specs.Prelude.{◌≡◌, [], IfOk, IfErr};
+//! Reads rows of a kind.
+ghost use Rattle.std.specs.Prelude.{◌≡◌, IfOk, IfErr};
 ghost use Rattle.hub_audit.specs.Every.{AreRead};
 ghost use Rattle.hub_rows.specs.Asks.{Asks};
 ghost use Rattle.hub_schema.specs.State.{Never};
+ghost use Rattle.hub_verify.specs.AllRows.{IsReadFault};
 ghost use Rattle.sqlite.specs.Held.{state};
+ghost use Rattle.sqlite.specs.Values.{bound};
 
 use crate::key::{Part, key_of};
 use edi_base::Items;
 use hub_rows::{Shown, query};
 use hub_store::StoreFault;
 use hub_verify::Read;
+use sqlite::types::ValueRef;
 use sqlite::{Alter, Connection, Row};
 use std::alloc::Global;
 
@@ -37,17 +40,19 @@ fn read_rows<T: Shown>(alloc: Global, rows: &[Row], parts: &[Part]) -> Result<Re
     Ok(Read::Rows(items))
 }
 
-/// Returns all rows that a text selects, or the key of the first without the form of its kind. The columns of the key
+/// Returns the rows that a text selects, or the key of the first without the form of its kind. The columns of the key
 /// come first.
 pub(crate) fn every<S: Alter, T: Shown>(
     conn: &mut Connection<S>,
     alloc: Global,
     text: &str,
+    params: &[ValueRef<'_>],
     parts: &[Part],
 ) -> Result<Read<T>, StoreFault>
-    ensures asks { Asks (AreRead T.shown T.clean parts.now) Never text.now []
+    ensures asks { Asks (AreRead T.shown T.clean parts.now) Never text.now (bound params.now)
         (state S.Store conn.old) (state S.Store conn.new) result }
+    ensures fails { IfErr result IsReadFault }
 {
-    let rows = query(conn, text, &[])?;
+    let rows = query(conn, text, params)?;
     read_rows(alloc, rows.as_slice(), parts)
 }

@@ -7,6 +7,7 @@ mod every;
 mod file;
 mod key;
 mod kinds;
+mod next;
 mod received;
 mod register;
 mod report;

@@ -1,8 +1,9 @@
 //! Reads the register that the rows hold.
-ghost use Rattle.std.specs.Prelude.{◌≡◌};
+ghost use Rattle.std.specs.Prelude.{◌≡◌, IfErr};
 ghost use Rattle.hub_schema.specs.State.{LooksFor, Never};
 ghost use Rattle.hub_tables.specs.Sets.{Rising};
 ghost use Rattle.hub_founding.specs.Founding.{IsHeldBy};
+ghost use Rattle.hub_verify.specs.AllRows.{IsReadFault};
 ghost use Rattle.sqlite.specs.Held.{state};
 
 use crate::kinds::{every_hub, every_prefix, every_supplier};
@@ -21,9 +22,10 @@ fn register_by<S: Alter>(
     hubs: &[HubRow],
     keys: &[KeyRow],
 ) -> Result<Option<Register>, StoreFault>
-    ensures { LooksFor
+    ensures looks { LooksFor
         (λ t register. t.hubs ≡ hubs.now → t.keys ≡ keys.now → Rising t → IsHeldBy t register) Never
         (state S.Store conn.old) (state S.Store conn.new) result }
+    ensures fails { IfErr result IsReadFault }
 {
     match every_prefix(conn, alloc)? {
         Read::Rows(prefixes) => Ok(register_of(alloc, hubs, keys, prefixes.as_slice())?),
@@ -37,8 +39,9 @@ fn register_of_hubs<S: Alter>(
     alloc: Global,
     hubs: &[HubRow],
 ) -> Result<Option<Register>, StoreFault>
-    ensures { LooksFor (λ t register. t.hubs ≡ hubs.now → Rising t → IsHeldBy t register) Never
+    ensures looks { LooksFor (λ t register. t.hubs ≡ hubs.now → Rising t → IsHeldBy t register) Never
         (state S.Store conn.old) (state S.Store conn.new) result }
+    ensures fails { IfErr result IsReadFault }
 {
     match every_supplier(conn, alloc)? {
         Read::Rows(keys) => register_by(conn, alloc, hubs, keys.as_slice()),
@@ -52,7 +55,8 @@ pub(crate) fn register<S: Alter>(
     conn: &mut Connection<S>,
     alloc: Global,
 ) -> Result<Option<Register>, StoreFault>
-    ensures { LooksFor IsHeldBy Never (state S.Store conn.old) (state S.Store conn.new) result }
+    ensures looks { LooksFor IsHeldBy Never (state S.Store conn.old) (state S.Store conn.new) result }
+    ensures fails { IfErr result IsReadFault }
 {
     match every_hub(conn, alloc)? {
         Read::Rows(hubs) => register_of_hubs(conn, alloc, hubs.as_slice()),

@@ -4,10 +4,9 @@ use Rattle.hub_sound.specs.Finding.{Key}
 use Rattle.hub_tables.specs.Tables.{Tables}
 use Rattle.hub_verify.specs.AllRows.{Tells, IsRead}
 use Rattle.hub_verify.specs.Counts.{AreCounts, is_open, is_received, is_untaken}
-use Rattle.hub_verify.specs.declared.counts.Counts.{Counts}
 use Rattle.hub_verify.specs.declared.all_rows.Read.{Read as Found}
 use Rattle.hub_verify.specs.declared.all_rows.Read.TheVariants.{Rows}
-use Rattle.hub_verify.proofs.Crossing.{rows_are}
+use Rattle.hub_verify.proofs.Reading.{rows_are}
 use Rattle.hub_verify.proofs.Telling.{follows, then}
 
 module _ {S : Type 0} (content : S → Tables) (honest : S → Type 0) where
@@ -17,13 +16,6 @@ module _ {S : Type 0} (content : S → Tables) (honest : S → Type 0) where
     counted n count =
         follows content honest (λ t. IsRead key_of clean (rows t)) (λ t n. n ≡ length (rows t)) old mid read n
         (λ t h. count ∙ ap length (rows_are key_of clean (rows t) read xs is h)) was_read
-
-    pub counted_both : (p : X → Bool) (n : ℕ) → n ≡ length xs → (m : ℕ) → m ≡ count_by p xs
-        → Tells content honest (λ t (n : ℕ × ℕ). (n.0 ≡ length (rows t)) × (n.1 ≡ count_by p (rows t))) old mid (Ok (n, m))
-    counted_both p n count m some =
-        follows content honest (λ t. IsRead key_of clean (rows t))
-        (λ t (n : ℕ × ℕ). (n.0 ≡ length (rows t)) × (n.1 ≡ count_by p (rows t))) old mid read (n, m)
-        (λ t h. let same = rows_are key_of clean (rows t) read xs is h in (count ∙ ap length same, some ∙ ap (count_by p) same)) was_read
 
   pub both : {X Y : Type 0} (one : Tables → X → Type 0) (two : Tables → Y → Type 0) (old mid new : S) (x : X) (y : Y)
       → Tells content honest one old mid (Ok x) → Tells content honest two mid new (Ok y)

@@ -1,77 +1,30 @@
 -- What is gathered of suppliers.
-use Rattle.std.proofs.Common.{◌≡◌, ℕ, ◌+◌, ◌<◌, ◌≤◌, Bool, true, false, cond, ◌&&◌, ◌||◌, List, [], ◌∷◌, ◌++◌, drop, length, get_or, filter}
-use Rattle.std.proofs.Common.{Option, None, Some, is_some, Ok, refl, sym, ◌∙◌, ap, subst, append_assoc, append-nil}
-use Rattle.std.specs.List.{AllByRecursion, list_all, list_any}
-use Rattle.std.proofs.lemmas.Bool.{and_parts, and_from}
+use Rattle.std.proofs.Common.{◌≡◌, ◌⊎◌, ℕ, ◌+◌, ◌<◌, ◌≤◌, ◌==◌, Bool, true, false, cond, inl, inr, List, [], ◌∷◌, ◌++◌, drop}
+use Rattle.std.proofs.Common.{length, get_or, filter, map, Option, None, Some, Ok, refl, sym, ◌∙◌, ap, subst, append_assoc, append-nil}
+use Rattle.std.specs.List.{list_all, list_any}
 use Rattle.std.proofs.lemmas.List.{drop_all}
+use Rattle.hub_sound.proofs.Deciding.{true_all}
 use Rattle.hub_sound.proofs.Settling.{rest_from}
 use Rattle.hub_sound.proofs.Gathering.{tells_supplier}
 use Rattle.hub_sound.specs.Goods.{gathered, goods_of, TellsSettled, TellsOfSupplier}
 use Rattle.hub_sound.specs.Showing.{IsSettled}
 use Rattle.hub_sound.specs.declared.finding.Finding.{Finding}
-use Rattle.hub_store.specs.Clean.{are_clean, clean_hub, clean_key, clean_prefix, clean_order, clean_line, clean_pallet}
+use Rattle.hub_store.specs.Clean.{are_clean, clean_content, clean_line, clean_pallet}
 use Rattle.hub_tables.specs.Rows.{same}
-use Rattle.hub_tables.specs.Sets.{Rising}
+use Rattle.hub_tables.specs.Sets.{Has, Rising}
 use Rattle.hub_tables.specs.State.{contents_of}
 use Rattle.hub_tables.specs.Tables.{Tables, view}
 use Rattle.hub_tables.specs.declared.rows.ContentRow.{ContentRow}
 use Rattle.hub_tables.specs.declared.rows.LineRow.{LineRow}
 use Rattle.hub_tables.specs.declared.rows.PalletRow.{PalletRow}
-use Rattle.hub_tables.proofs.Lists.{same_if}
-use Rattle.hub_sound.specs.Finding.{line_key, pallet_key}
-use Rattle.hub_verify.specs.AllRows.{Tells, IsRead}
-use Rattle.hub_verify.specs.Goods.{Keeps, Covers, CoversLines, TellsOfAll, TellsOfGoods}
-use Rattle.hub_verify.specs.declared.all_rows.Read.{Read as Found}
-use Rattle.hub_verify.specs.declared.all_rows.Read.TheVariants.{Rows}
-use Rattle.hub_verify.proofs.Crossing.{rows_are}
-use Rattle.hub_verify.proofs.Telling.{at_once, follows, then}
-
--- GLNs.
-
-pub keeps_more : (a b c : List (List ℕ)) → Keeps a b → Keeps b c → Keeps a c
-keeps_more a b c f g gln h = g gln (f gln h)
-
-any_left : {X : Type 0} (p : X → Bool) (xs ys : List X) → list_any p xs ≡ true → list_any p (xs ++ ys) ≡ true
-any_left p [] ys h = cc
-any_left p (x ∷ xs) ys h = elim (p x) as (λ v. (v || list_any p xs) ≡ true → (v || list_any p (xs ++ ys)) ≡ true)
-    [ true ↦ λ _. refl | false ↦ λ g. any_left p xs ys g ] h
-
-pub keeps_push : (glns : List (List ℕ)) (gln : List ℕ) → Keeps glns (glns ++ gln ∷ [])
-keeps_push glns gln other h = any_left (same other) glns (gln ∷ []) h
-
-pub has_pushed : (glns : List (List ℕ)) (gln : List ℕ) → list_any (same gln) (glns ++ gln ∷ []) ≡ true
-has_pushed [] gln = ap (λ v. v || false) (same_if gln gln refl)
-has_pushed (one ∷ glns) gln = elim (same gln one) as (λ v. (v || list_any (same gln) (glns ++ gln ∷ [])) ≡ true)
-    [ true ↦ refl | false ↦ has_pushed glns gln ]
-
--- rows whose suppliers are among them
-module _ {X : Type 0} (supplier : X → List ℕ) where
-  abbrev pub among : List (List ℕ) → X → Bool
-  among glns row = list_any (same (supplier row)) glns
-
-  pub all_more : (some more : List (List ℕ)) → Keeps some more → (xs : List X) → list_all (among some) xs ≡ true
-      → list_all (among more) xs ≡ true
-  all_more some more keeps [] h = refl
-  all_more some more keeps (x ∷ xs) h =
-      let parts = and_parts (among some x) (list_all (among some) xs) h in
-      and_from (among more x) (list_all (among more) xs) (keeps (supplier x) parts.0) (all_more some more keeps xs parts.1)
-
-  -- so far: whatever is more, all are among it where the rest are
-  abbrev pub Gathers : List X → ℕ → List (List ℕ) → Type 0
-  Gathers xs i glns = (more : List (List ℕ)) → Keeps glns more → list_all (among more) (drop i xs) ≡ true
-      → list_all (among more) xs ≡ true
-
-  pub gathers_next : (xs : List X) (i : ℕ) (x : X) → i < length xs → x ≡ get_or xs i x → (old new : List (List ℕ))
-      → list_any (same (supplier x)) new ≡ true → Keeps old new
-      → Gathers xs i old → Gathers xs (i + 1) new
-  gathers_next xs i x inside at old new one others so_far more keeps h =
-      so_far more (keeps_more old new more others keeps)
-      (subst (λ zs. list_all (among more) zs ≡ true) (sym (rest_from xs i x inside at))
-      (and_from (among more x) (list_all (among more) (drop (i + 1) xs)) (keeps (supplier x) one) h))
-
-  pub gathers_all : (xs : List X) (i : ℕ) → length xs ≤ i → (glns : List (List ℕ)) → Gathers xs i glns
-      → list_all (among glns) xs ≡ true
-  gathers_all xs i over glns so_far = so_far glns (λ gln h. h) (ap (list_all (among glns)) (drop_all i xs over))
+use Rattle.hub_tables.proofs.Lists.{same_if, same_is}
+use Rattle.hub_tables.proofs.Members.{all_if, any_if, has_map}
+use Rattle.hub_verify.specs.AllRows.{Tells}
+use Rattle.hub_verify.specs.Goods.{LinesAreSettled, PalletsAreSettled, ShowsMisfit, TellsOfAll}
+use Rattle.hub_verify.specs.Pieces.{piece, values_in}
+use Rattle.hub_verify.specs.Verdict.{Told}
+use Rattle.hub_verify.specs.declared.piece_kind.PieceKind.TheVariants.{Line, Pallet}
+use Rattle.hub_verify.proofs.Telling.{follows, then}
 
 -- Contents.
 
@@ -94,17 +47,19 @@ module _ {S : Type 0} (content : S → Tables) (honest : S → Type 0) where
   GatheredSoFar ps i all t u = gathered t ps ≡ all ++ gathered t (drop i ps)
 
   pub gather_more : (ps : List PalletRow) (i : ℕ) (p : PalletRow) → i < length ps → p ≡ get_or ps i p
-      → (old mid new : S) (all rows more : List ContentRow) → more ≡ all ++ rows
+      → (old mid new : S) (all rows more : List ContentRow) → more ≡ all ++ rows → (digits : List ℕ) → digits ≡ p.sscc
       → Tells content honest (GatheredSoFar ps i all) old mid (Ok tt)
-      → Tells content honest (λ t rows. rows ≡ contents_of t p.sscc) mid new (Ok rows)
+      → Tells content honest (λ t rows. (rows ≡ piece (λ (row : ContentRow). row.sscc) digits t.contents)
+      × (list_all clean_content rows ≡ true)) mid new (Ok rows)
       → Tells content honest (GatheredSoFar ps (i + 1) more) old new (Ok tt)
-  gather_more ps i p inside at old mid new all rows more grown so_far looked =
+  gather_more ps i p inside at old mid new all rows more grown digits sscc so_far looked =
       follows content honest (λ t found. GatheredSoFar ps i all t tt × (found ≡ contents_of t p.sscc))
       (GatheredSoFar ps (i + 1) more) old new rows tt
       (λ t h. gather_next t ps i p inside at all rows more h.1 grown h.0)
-      (then content honest (GatheredSoFar ps i all) (λ t found. found ≡ contents_of t p.sscc)
-      (λ t found. GatheredSoFar ps i all t tt × (found ≡ contents_of t p.sscc)) old mid new tt (λ t h found is. (h, is)) so_far
-      (Ok rows) looked)
+      (then content honest (GatheredSoFar ps i all)
+      (λ t rows. (rows ≡ piece (λ (row : ContentRow). row.sscc) digits t.contents) × (list_all clean_content rows ≡ true))
+      (λ t found. GatheredSoFar ps i all t tt × (found ≡ contents_of t p.sscc)) old mid new tt
+      (λ t h found is. (h, is.0 ∙ ap (contents_of t) sscc)) so_far (Ok rows) looked)
 
   pub gather_ends : (ps : List PalletRow) (i : ℕ) → length ps ≤ i → (old mid : S) (all : List ContentRow)
       → Tells content honest (GatheredSoFar ps i all) old mid (Ok tt)
@@ -115,139 +70,163 @@ module _ {S : Type 0} (content : S → Tables) (honest : S → Type 0) where
 
 -- One supplier.
 
-lines_clean : (t : Tables) → are_clean t ≡ true → list_all clean_line t.lines ≡ true
-lines_clean t h =
-    let hubs = and_parts (list_all clean_hub t.hubs) _ h in
-    let keys = and_parts (list_all clean_key t.keys) _ hubs.1 in
-    let prefixes = and_parts (list_all clean_prefix t.prefixes) _ keys.1 in
-    let orders = and_parts (list_all clean_order t.orders) _ prefixes.1 in
-    (and_parts (list_all clean_line t.lines) _ orders.1).0
-
-all_filtered : {X : Type 0} (p q : X → Bool) (xs : List X) → list_all p xs ≡ true → list_all p (filter q xs) ≡ true
-all_filtered p q [] h = refl
-all_filtered p q (x ∷ xs) h =
-    let parts = and_parts (p x) (list_all p xs) h in
-    elim (q x) as (λ v. list_all p (cond v (x ∷ filter q xs) (filter q xs)) ≡ true) [
-      | true ↦ and_from (p x) (list_all p (filter q xs)) parts.0 (all_filtered p q xs parts.1)
-      | false ↦ all_filtered p q xs parts.1
-    ]
-
 module _ {S : Type 0} (content : S → Tables) (honest : S → Type 0) (gln : List ℕ) where
   abbrev pub OfSupplier : Tables → Option Finding → Type 0
   OfSupplier t found = Rising t → are_clean t ≡ true → TellsOfSupplier gln t found
 
-  pub misfit_told : (old one two new : S) (lines : List LineRow) (pallets : List PalletRow) (contents : List ContentRow)
+  abbrev pub AreLines : Tables → List LineRow → Type 0
+  AreLines t rows = (rows ≡ (view gln t).lines) × (list_all clean_line rows ≡ true)
+
+  abbrev pub ArePallets : Tables → List PalletRow → Type 0
+  ArePallets t rows = (rows ≡ (view gln t).pallets) × (list_all clean_pallet rows ≡ true)
+
+  module _ (old one two new : S) (lines : List LineRow) (pallets : List PalletRow) (contents : List ContentRow)
       (lines_slice : List LineRow) (pallets_slice : List PalletRow) (contents_slice : List ContentRow) (found : Option Finding)
-      → lines_slice ≡ lines → pallets_slice ≡ pallets → contents_slice ≡ contents
-      → Tells content honest (λ t rows. rows ≡ (view gln t).lines) old one (Ok lines)
-      → Tells content honest (λ t rows. rows ≡ (view gln t).pallets) one two (Ok pallets)
-      → Tells content honest (λ t rows. rows ≡ gathered t pallets_slice) two new (Ok contents)
-      → (list_all clean_line lines_slice ≡ true → TellsSettled (goods_of lines_slice contents_slice) found)
-      → Tells content honest OfSupplier old new (Ok found)
-  misfit_told old one two new lines pallets contents lines_slice pallets_slice contents_slice found ls ps cs a b c misfit =
-      follows content honest (λ t rows. (lines ≡ (view gln t).lines) × ((pallets ≡ (view gln t).pallets) × (rows ≡ gathered t
-      pallets_slice)))
-      OfSupplier old new contents found
-      (λ t h rising clean.
-      let of_lines : lines_slice ≡ (view gln t).lines = ls ∙ h.0 in
-      let of_contents : contents_slice ≡ gathered t (view gln t).pallets =
-      cs ∙ h.1.1 ∙ ap (gathered t) (ps ∙ h.1.0) in
-      tells_supplier gln t rising found
-      (subst (λ xs. TellsSettled (goods_of xs (gathered t (view gln t).pallets)) found) of_lines
-      (subst (λ ys. TellsSettled (goods_of lines_slice ys) found) of_contents
-      (misfit (ap (list_all clean_line) of_lines
-      ∙ all_filtered clean_line (λ line. same line.supplier gln) t.lines (lines_clean t clean))))))
-      (then content honest (λ t rows. rows ≡ (view gln t).lines)
-      (λ t rows. (pallets ≡ (view gln t).pallets) × (rows ≡ gathered t pallets_slice))
-      (λ t rows. (lines ≡ (view gln t).lines) × ((pallets ≡ (view gln t).pallets) × (rows ≡ gathered t pallets_slice))) old one new lines
-      (λ t h rows it. (h, it)) a (Ok contents)
-      (then content honest (λ t rows. rows ≡ (view gln t).pallets) (λ t rows. rows ≡ gathered t pallets_slice)
-      (λ t rows. (pallets ≡ (view gln t).pallets) × (rows ≡ gathered t pallets_slice)) one two new pallets
-      (λ t h rows it. (h, it)) b (Ok contents) c))
+      (ls : lines_slice ≡ lines) (ps : pallets_slice ≡ pallets) (cs : contents_slice ≡ contents) where
+    abbrev AreGathered : Tables → List ContentRow → Type 0
+    AreGathered t rows = rows ≡ gathered t pallets_slice
 
--- All of them.
+    abbrev OfPallets : Tables → List ContentRow → Type 0
+    OfPallets t rows = ArePallets t pallets × AreGathered t rows
 
-module _ {S : Type 0} (content : S → Tables) (honest : S → Type 0) (glns : List (List ℕ)) where
-  abbrev pub Settled : Tables → List ℕ → Type 0
-  Settled t gln = IsSettled (view gln t)
+    abbrev OfAll : Tables → List ContentRow → Type 0
+    OfAll t rows = AreLines t lines × OfPallets t rows
 
-  abbrev pub SettledSoFar : ℕ → Tables → Unit {0} → Type 0
-  SettledSoFar i t u = Rising t → are_clean t ≡ true → AllByRecursion (Settled t) (drop i glns) → AllByRecursion (Settled t) glns
+    pub misfit_told : Tells content honest AreLines old one (Ok lines)
+        → Tells content honest ArePallets one two (Ok pallets)
+        → Tells content honest AreGathered two new (Ok contents)
+        → (list_all clean_line lines_slice ≡ true → TellsSettled (goods_of lines_slice contents_slice) found)
+        → Tells content honest OfSupplier old new (Ok found)
+    misfit_told a b c misfit =
+        follows content honest OfAll OfSupplier old new contents found
+        (λ t h rising clean.
+        let of_lines : lines_slice ≡ (view gln t).lines = ls ∙ h.0.0 in
+        let of_contents : contents_slice ≡ gathered t (view gln t).pallets =
+        cs ∙ h.1.1 ∙ ap (gathered t) (ps ∙ h.1.0.0) in
+        tells_supplier gln t rising found
+        (subst (λ xs. TellsSettled (goods_of xs (gathered t (view gln t).pallets)) found) of_lines
+        (subst (λ ys. TellsSettled (goods_of lines_slice ys) found) of_contents
+        (misfit (ap (list_all clean_line) ls ∙ h.0.1)))))
+        (then content honest AreLines OfPallets OfAll old one new lines (λ t h rows it. (h, it)) a (Ok contents)
+        (then content honest ArePallets AreGathered OfPallets one two new pallets (λ t h rows it. (h, it)) b (Ok contents) c))
 
-  abbrev pub OfGoods : Tables → Option Finding → Type 0
-  OfGoods t found = Rising t → are_clean t ≡ true → TellsOfGoods glns t found
+  -- as a walk takes it
+  abbrev pub WithLines : Tables → Option Finding → Type 0
+  WithLines t = Told (Rising t → are_clean t ≡ true → IsSettled (view gln t)) (ShowsMisfit t)
 
-  pub settled_begins : (s : S) → Tells content honest (SettledSoFar 0) s s (Ok tt)
-  settled_begins s = at_once content honest (SettledSoFar 0) s tt (λ rising clean h. h)
+  abbrev pub WithoutLines : Tables → Option Finding → Type 0
+  WithoutLines t = Told (Rising t → are_clean t ≡ true → (view gln t).lines ≡ [] → IsSettled (view gln t)) (ShowsMisfit t)
 
-  module _ (i : ℕ) (gln : List ℕ) (inside : i < length glns) (at : gln ≡ get_or glns i gln) (old mid new : S)
-      (so_far : Tells content honest (SettledSoFar i) old mid (Ok tt)) (found : Option Finding)
-      (looked : Tells content honest (OfSupplier content honest gln) mid new (Ok found)) where
-    both : Tells content honest (λ t f. SettledSoFar i t tt × OfSupplier content honest gln t f) old new (Ok found)
-    both = then content honest (SettledSoFar i) (OfSupplier content honest gln)
-        (λ t f. SettledSoFar i t tt × OfSupplier content honest gln t f) old mid new tt (λ t h f it. (h, it)) so_far (Ok found) looked
+  pub with_lines_told : (old new : S) (found : Option Finding) → Tells content honest OfSupplier old new (Ok found)
+      → Tells content honest WithLines old new (Ok found)
+  with_lines_told old new found = follows content honest OfSupplier WithLines old new found found (λ t. by t found)
+    where
+      by : (t : Tables) (f : Option Finding) → OfSupplier t f → WithLines t f
+      by t None h = h
+      by t (Some f) h = h
 
-    pub settled_next : is_some found ≡ false → Tells content honest (SettledSoFar (i + 1)) old new (Ok tt)
-    settled_next none = follows content honest (λ t f. SettledSoFar i t tt × OfSupplier content honest gln t f)
-        (SettledSoFar (i + 1)) old new found tt
-        (λ t h rising clean rest. h.0 rising clean
-        (subst (AllByRecursion (Settled t)) (sym (rest_from glns i gln inside at)) (one t found none (h.1 rising clean), rest))) both
-      where
-        one : (t : Tables) (f : Option Finding) → is_some f ≡ false → TellsOfSupplier gln t f → IsSettled (view gln t)
-        one t None e it = it
-        one t (Some f) e it = cc
+  pub without_lines_told : (old mid new : S) (lines : List LineRow) (found : Option Finding)
+      → Tells content honest AreLines old mid (Ok lines) → Tells content honest OfSupplier mid new (Ok found)
+      → Tells content honest WithoutLines old new (Ok found)
+  without_lines_told old mid new lines found a =
+      then content honest AreLines OfSupplier WithoutLines old mid new lines (λ t h f it. by t f it) a (Ok found)
+    where
+      by : (t : Tables) (f : Option Finding) → OfSupplier t f → WithoutLines t f
+      by t None h = λ rising clean none. h rising clean
+      by t (Some f) h = h
 
-    pub settled_stops : is_some found ≡ true → Tells content honest OfGoods old new (Ok found)
-    settled_stops some = follows content honest (λ t f. SettledSoFar i t tt × OfSupplier content honest gln t f) OfGoods old new
-        found found (λ t h rising clean. one t found some (h.1 rising clean)) both
-      where
-        one : (t : Tables) (f : Option Finding) → is_some f ≡ true → TellsOfSupplier gln t f → TellsOfGoods glns t f
-        one t None e it = cc
-        one t (Some f) e it = it
+  pub lines_told : (old mid : S) (lines : List LineRow) → (length lines == 0) ≡ false
+      → Tells content honest AreLines old mid (Ok lines) → Tells content honest WithoutLines old mid (Ok None)
+  lines_told old mid lines some =
+      follows content honest AreLines WithoutLines old mid lines None
+      (λ t h rising clean none. absurd (let clash : true ≡ false = sym (ap (λ xs. length xs == 0) (h.0 ∙ none)) ∙ some in cc))
 
-  pub settled_ends : (i : ℕ) → length glns ≤ i → (old mid : S) → Tells content honest (SettledSoFar i) old mid (Ok tt)
-      → Tells content honest OfGoods old mid (Ok None)
-  settled_ends i over old mid = follows content honest (SettledSoFar i) OfGoods old mid tt None
-      (λ t h rising clean. h rising clean (subst (AllByRecursion (Settled t)) (sym (drop_all i glns over)) tt))
+-- All suppliers.
+
+settled_of : {X : Type 0} (t : Tables) (supplier : X → List ℕ) (rows : List X) (glns : List (List ℕ))
+    → ((x : X) → Has rows x → Has glns (supplier x))
+    → list_all (λ row. list_any (same (supplier row)) glns) rows ≡ true
+settled_of t supplier rows glns there =
+    true_all (λ row. list_any (same (supplier row)) glns) rows
+    (all_if (λ row. list_any (same (supplier row)) glns ≡ true) rows
+    (λ x here. any_if (same (supplier x)) glns (supplier x) (there x here) (same_if (supplier x) (supplier x) refl)))
+
+has_left : {X : Type 0} (xs ys : List X) (x : X) → Has xs x → Has (xs ++ ys) x
+has_left [] ys x there = absurd there
+has_left (z ∷ xs) ys x there = elim there [ inl e ↦ inl e | inr later ↦ inr (has_left xs ys x later) ]
+
+has_right : {X : Type 0} (xs ys : List X) (x : X) → Has ys x → Has (xs ++ ys) x
+has_right [] ys x there = there
+has_right (z ∷ xs) ys x there = inr (has_right xs ys x there)
+
+has_either : {X : Type 0} (xs ys : List X) (x : X) → Has (xs ++ ys) x → Has xs x ⊎ Has ys x
+has_either [] ys x there = inr there
+has_either (z ∷ xs) ys x there = elim there [
+  | inl e ↦ inl (inl e)
+  | inr later ↦ elim (has_either xs ys x later) [ inl early ↦ inl (inr early) | inr late ↦ inr late ]
+]
+
+-- rows of a supplier are none, or the supplier is that of one of them
+own_or_none : {X : Type 0} (supplier : X → List ℕ) (gln : List ℕ) (rows : List X)
+    → (filter (λ row. same (supplier row) gln) rows ≡ []) ⊎ Has (map supplier rows) gln
+own_or_none supplier gln [] = inl refl
+own_or_none supplier gln (x ∷ xs) = by (own_or_none supplier gln xs) (same (supplier x) gln) refl
+  where
+    by : (filter (λ row. same (supplier row) gln) xs ≡ []) ⊎ Has (map supplier xs) gln → (b : Bool) → same (supplier x) gln ≡ b
+        → (filter (λ row. same (supplier row) gln) (x ∷ xs) ≡ []) ⊎ Has (map supplier (x ∷ xs)) gln
+    by rest true e = inr (inl (sym (same_is (supplier x) gln e)))
+    by rest false e = elim rest [
+      | inl none ↦ inl (ap (λ b. cond b (x ∷ filter (λ row. same (supplier row) gln) xs)
+          (filter (λ row. same (supplier row) gln) xs)) e ∙ none)
+      | inr there ↦ inr (inr there)
+    ]
 
 module _ {S : Type 0} (content : S → Tables) (honest : S → Type 0) where
-  pub goods_told : (old mid new : S) (glns slice : List (List ℕ)) (found : Option Finding) → slice ≡ glns
-      → Tells content honest Covers old mid (Ok glns)
-      → Tells content honest (OfGoods content honest slice) mid new (Ok found)
-      → Tells content honest (λ t f. Rising t → are_clean t ≡ true → TellsOfAll t f) old new (Ok found)
-  goods_told old mid new glns slice found same_glns a b =
-      then content honest Covers (OfGoods content honest slice) (λ t f. Rising t → are_clean t ≡ true → TellsOfAll t f) old mid new glns
-      (λ t covers f it rising clean. one t f (subst (Covers t) (sym same_glns) covers) (it rising clean)) a (Ok found) b
+  abbrev pub Goods : Tables → Option Finding → Type 0
+  Goods t found = Rising t → are_clean t ≡ true → TellsOfAll t found
+
+  pub lines_misfit : (old new : S) (o : Option Finding) (f : Finding) → o ≡ Some f
+      → Tells content honest LinesAreSettled old new (Ok o) → Tells content honest Goods old new (Ok (Some f))
+  lines_misfit old new o f some = follows content honest LinesAreSettled Goods old new o (Some f)
+      (λ t h. subst (LinesAreSettled t) some h)
+
+  module _ (t : Tables) (lines : (gln : List ℕ) → Has (values_in Line t) gln → Rising t → are_clean t ≡ true → IsSettled (view gln t))
+      (pallets : (gln : List ℕ) → Has (values_in Pallet t) gln → Rising t → are_clean t ≡ true → (view gln t).lines ≡ []
+      → IsSettled (view gln t)) (rising : Rising t) (clean : are_clean t ≡ true) where
+    abbrev glns : List (List ℕ)
+    glns = values_in Line t ++ values_in Pallet t
+
+    of_pallet : (gln : List ℕ) → Has (values_in Pallet t) gln → IsSettled (view gln t)
+    of_pallet gln there = elim (own_or_none (λ (row : LineRow). row.supplier) gln t.lines) [
+      | inl none ↦ pallets gln there rising clean none
+      | inr has ↦ lines gln has rising clean
+    ]
+
+    settled : TellsOfAll t None
+    settled = (
+      glns,
+      record {
+        lines = settled_of t (λ (row : LineRow). row.supplier) t.lines glns
+            (λ x there. has_left (values_in Line t) (values_in Pallet t) x.supplier
+            (has_map (λ (row : LineRow). row.supplier) t.lines x there));
+        pallets = settled_of t (λ (row : PalletRow). row.supplier) t.pallets glns
+            (λ x there. has_right (values_in Line t) (values_in Pallet t) x.supplier
+            (has_map (λ (row : PalletRow). row.supplier) t.pallets x there));
+      },
+      all_if (λ gln. IsSettled (view gln t)) glns (λ gln there.
+          elim (has_either (values_in Line t) (values_in Pallet t) gln there) [
+            | inl line ↦ lines gln line rising clean
+            | inr pallet ↦ of_pallet gln pallet
+          ]),
+    )
+
+  pub goods_told : (old mid new : S) (o : Option Finding) → o ≡ None → (found : Option Finding)
+      → Tells content honest LinesAreSettled old mid (Ok o) → Tells content honest PalletsAreSettled mid new (Ok found)
+      → Tells content honest Goods old new (Ok found)
+  goods_told old mid new o none found a b =
+      then content honest LinesAreSettled PalletsAreSettled Goods old mid new o
+      (λ t h f it. by t (subst (LinesAreSettled t) none h) f it) a (Ok found) b
     where
-      one : (t : Tables) (f : Option Finding) → Covers t slice → TellsOfGoods slice t f → TellsOfAll t f
-      one t None covers it = (slice, covers, it)
-      one t (Some f) covers it = it
-
-  pub lines_told : (old one : S) (read : Found LineRow) (lines slice : List LineRow) (glns : List (List ℕ)) → read ≡ Rows lines
-      → slice ≡ lines
-      → Tells content honest (λ t. IsRead line_key clean_line t.lines) old one (Ok read)
-      → list_all (λ line. list_any (same line.supplier) glns) slice ≡ true
-      → Tells content honest CoversLines old one (Ok glns)
-  lines_told old one read lines slice glns r ls a covered =
-      follows content honest (λ t. IsRead line_key clean_line t.lines) CoversLines old one read glns
-      (λ t h. subst (λ xs. list_all (λ line. list_any (same line.supplier) glns) xs ≡ true)
-      (ls ∙ rows_are line_key clean_line t.lines read lines r h) covered) a
-
-  pub covers_told : (old one two : S) (more : Found PalletRow) (pallets slice : List PalletRow) (some glns : List (List ℕ))
-      → more ≡ Rows pallets → slice ≡ pallets
-      → Tells content honest CoversLines old one (Ok some)
-      → Tells content honest (λ t. IsRead pallet_key clean_pallet t.pallets) one two (Ok more)
-      → list_all (λ pallet. list_any (same pallet.supplier) glns) slice ≡ true
-      → Keeps some glns
-      → Tells content honest Covers old two (Ok glns)
-  covers_told old one two more pallets slice some glns m ps a b covered keeps =
-      follows content honest (λ t found. CoversLines t some × IsRead pallet_key clean_pallet t.pallets found) Covers
-      old two more glns
-      (λ t h. record {
-        lines = all_more (λ (row : LineRow). row.supplier) some glns keeps t.lines h.0;
-        pallets = subst (λ xs. list_all (λ pallet. list_any (same pallet.supplier) glns) xs ≡ true)
-            (ps ∙ rows_are pallet_key clean_pallet t.pallets more pallets m h.1) covered;
-      })
-      (then content honest CoversLines (λ t. IsRead pallet_key clean_pallet t.pallets)
-      (λ t found. CoversLines t some × IsRead pallet_key clean_pallet t.pallets found) old one two some
-      (λ t h found it. (h, it)) a (Ok more) b)
+      by : (t : Tables) → LinesAreSettled t None → (f : Option Finding) → PalletsAreSettled t f → Goods t f
+      by t lines None pallets = settled t lines pallets
+      by t lines (Some f) it = it

@@ -1,6 +1,6 @@
 -- What is told of the register, and of all.
-use Rattle.std.proofs.Common.{◌≡◌, true, false, List, [], Option, None, Some, Ok, refl, sym, subst}
-use Rattle.std.specs.List.{AllByRecursion, list_all}
+use Rattle.std.proofs.Common.{◌≡◌, true, [], Option, None, Some, Ok, sym, subst}
+use Rattle.std.specs.List.{list_all}
 use Rattle.hub_founding.specs.Fits.{fits_pallet}
 use Rattle.hub_founding.specs.Founding.{IsHeldBy}
 use Rattle.hub_parties.specs.Rows.{RegisterRows}
@@ -10,7 +10,6 @@ use Rattle.hub_sound.specs.declared.finding.Finding.{Finding}
 use Rattle.hub_sound.specs.declared.finding.RowKind.TheVariants as kinds
 use Rattle.hub_sound.proofs.Showing.{unclean_shows, shows_none, checked_sound}
 use Rattle.hub_store.specs.Clean.{are_clean}
-use Rattle.hub_tables.specs.Register.{register_of}
 use Rattle.hub_tables.specs.Sets.{Rising}
 use Rattle.hub_tables.specs.Tables.{Tables}
 use Rattle.hub_verify.specs.AllRows.{Tells}

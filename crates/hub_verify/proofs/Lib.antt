@@ -3,4 +3,7 @@ pub mod Counting
 pub mod Crossing
 pub mod Gathered
 pub mod Judging
+pub mod Reading
+pub mod Tallying
 pub mod Telling
+pub mod Walking

@@ -1,10 +1,10 @@
 -- Calls one after another, and what they tell.
-use Rattle.std.proofs.Common.{◌≡◌, ◌+◌, ◌<◌, ◌≤◌, Bool, true, false, not, List, [], ◌∷◌, ◌++◌, find, drop, length, get_or, ℕ}
-use Rattle.std.proofs.Common.{Option, Some, None, option_copied, Result, Ok, Err, IfOk, OnOk, refl, sym, ◌∙◌, ap, subst, arith}
+use Rattle.std.proofs.Common.{◌≡◌, ◌+◌, ◌<◌, ◌≤◌, Bool, true, false, not, List, find, drop, length, get_or, ℕ}
+use Rattle.std.proofs.Common.{Option, Some, None, option_copied, Result, Ok, Err, refl, sym, ◌∙◌, ap, subst}
 use Rattle.std.specs.Borrow.{Bor}
 use Rattle.std.specs.List.{list_all}
 use Rattle.hub_sound.specs.Finding.{Key}
-use Rattle.hub_sound.specs.Showing.{Fails, ShowsUnclean, ShowsUnsound}
+use Rattle.hub_sound.specs.Showing.{Fails, ShowsUnclean}
 use Rattle.hub_sound.specs.declared.finding.Finding.{Finding}
 use Rattle.hub_sound.specs.declared.finding.RowKind.{RowKind}
 use Rattle.hub_sound.proofs.Settling.{find_next, find_here, find_none}
@@ -20,7 +20,7 @@ module _ {S : Type 0} (content : S → Tables) (honest : S → Type 0) where
   -- without any call
   pub at_once : {X : Type 0} (says : Tables → X → Type 0) (s : S) (x : X) → says (content s) x
       → Tells content honest says s s (Ok x)
-  at_once says s x is = record { answers = λ h. is; stays = λ h. refl; was_honest = λ h. h }
+  at_once says s x is = record { answers = λ h. is; stays = λ h. refl; was_honest = λ h. h; fails = tt }
 
   -- what follows from an answer
   pub follows : {X Y : Type 0} (one : Tables → X → Type 0) (all : Tables → Y → Type 0) (old new : S) (x : X) (y : Y)
@@ -30,6 +30,7 @@ module _ {S : Type 0} (content : S → Tables) (honest : S → Type 0) where
     answers = λ h. so (content old) (it.answers h);
     stays = it.stays;
     was_honest = it.was_honest;
+    fails = tt;
   }
 
   -- a second call, after an answer of the first
@@ -42,8 +43,14 @@ module _ {S : Type 0} (content : S → Tables) (honest : S → Type 0) where
         so (content old) (a.answers before) y (subst (λ (t : Tables). two t y) (a.stays before) (b.answers h));
     stays = λ h. b.stays h ∙ a.stays (b.was_honest h);
     was_honest = λ h. a.was_honest (b.was_honest h);
+    fails = tt;
   }
-  then one two all old mid new x so a (Err e) b = record { answers = λ h. tt; stays = λ h. tt; was_honest = λ h. tt }
+  then one two all old mid new x so a (Err e) b = record {
+    answers = λ h. tt;
+    stays = λ h. tt;
+    was_honest = λ h. tt;
+    fails = b.fails;
+  }
 
   -- Rows of a kind.
 

@@ -1,5 +1,5 @@
 -- Rows that lack what they name.
-use Rattle.std.specs.Prelude.{◌≡◌, true, Option, None, Some}
+use Rattle.std.specs.Prelude.{◌≡◌, true, Option}
 use Rattle.std.specs.List.{list_all}
 use Rattle.hub_founding.specs.Fits.{fits_pallet}
 use Rattle.hub_parties.specs.Rows.{RegisterRows}
@@ -9,12 +9,15 @@ use Rattle.hub_sound.specs.declared.finding.Finding.{Finding}
 use Rattle.hub_sound.specs.declared.finding.RowKind.TheVariants.{Pallet}
 use Rattle.hub_tables.specs.Register.{HoldsRegister, register_of}
 use Rattle.hub_tables.specs.Tables.{Tables}
+use Rattle.hub_verify.specs.Verdict.{Told}
+
+-- it is a pallet that is under no prefix that this register has for its supplier
+abbrev pub ShowsUnrooted : RegisterRows → Tables → Finding → Type 0
+ShowsUnrooted register t found = (found.kind ≡ Pallet) × Fails pallet_key (fits_pallet register) t.pallets found.key
 
 -- each pallet is under a prefix that this register has for its supplier; or it is a pallet that is not
 abbrev pub TellsRooted : RegisterRows → Tables → Option Finding → Type 0
-TellsRooted register t None = list_all (fits_pallet register) t.pallets ≡ true
-TellsRooted register t (Some found) =
-    (found.kind ≡ Pallet) × Fails pallet_key (fits_pallet register) t.pallets found.key
+TellsRooted register t = Told (list_all (fits_pallet register) t.pallets ≡ true) (ShowsUnrooted register t)
 
 -- the tables hold a register, and each pallet is under a prefix of its supplier
 pub record PartiesFit (t : Tables) : Type 0 where

@@ -1,28 +1,35 @@
 -- The goods of all suppliers that have some.
-use Rattle.std.specs.Prelude.{◌≡◌, ℕ, true, List, Option, None, Some}
+use Rattle.std.specs.Prelude.{◌≡◌, ℕ, [], true, List, Option, None, Some}
 use Rattle.std.specs.List.{AllByRecursion, list_all, list_any}
 use Rattle.hub_sound.specs.Showing.{IsSettled, ShowsUnsound}
 use Rattle.hub_sound.specs.declared.finding.Finding.{Finding}
+use Rattle.hub_store.specs.Clean.{are_clean}
 use Rattle.hub_tables.specs.Rows.{same}
+use Rattle.hub_tables.specs.Sets.{Has, Rising}
 use Rattle.hub_tables.specs.Tables.{Tables, view}
-
--- each that is among some is among more
-abbrev pub Keeps : List (List ℕ) → List (List ℕ) → Type 0
-Keeps some more = (gln : List ℕ) → list_any (same gln) some ≡ true → list_any (same gln) more ≡ true
-
--- each supplier of a line is among them
-abbrev pub CoversLines : Tables → List (List ℕ) → Type 0
-CoversLines t glns = list_all (λ line. list_any (same line.supplier) glns) t.lines ≡ true
+use Rattle.hub_verify.specs.Pieces.{values_in}
+use Rattle.hub_verify.specs.Verdict.{Told}
+use Rattle.hub_verify.specs.declared.piece_kind.PieceKind.TheVariants.{Line, Pallet}
 
 -- each supplier of a line or a pallet is among them
 pub record Covers (t : Tables) (glns : List (List ℕ)) : Type 0 where
-  pub lines : CoversLines t glns
+  pub lines : list_all (λ line. list_any (same line.supplier) glns) t.lines ≡ true
   pub pallets : list_all (λ pallet. list_any (same pallet.supplier) glns) t.pallets ≡ true
 
--- what each of them sees is settled; or a row shows that the tables are not sound
-abbrev pub TellsOfGoods : List (List ℕ) → Tables → Option Finding → Type 0
-TellsOfGoods glns t None = AllByRecursion (λ gln. IsSettled (view gln t)) glns
-TellsOfGoods glns t (Some found) = ShowsUnsound t found.kind found.key
+-- in clean tables, the row shows that they are not sound
+abbrev pub ShowsMisfit : Tables → Finding → Type 0
+ShowsMisfit t found = Rising t → are_clean t ≡ true → ShowsUnsound t found.kind found.key
+
+-- in clean tables, what each supplier with a line sees is settled
+abbrev pub LinesAreSettled : Tables → Option Finding → Type 0
+LinesAreSettled t =
+    Told ((gln : List ℕ) → Has (values_in Line t) gln → Rising t → are_clean t ≡ true → IsSettled (view gln t)) (ShowsMisfit t)
+
+-- in clean tables, what each supplier with a pallet and no line sees is settled
+abbrev pub PalletsAreSettled : Tables → Option Finding → Type 0
+PalletsAreSettled t =
+    Told ((gln : List ℕ) → Has (values_in Pallet t) gln → Rising t → are_clean t ≡ true → (view gln t).lines ≡ []
+    → IsSettled (view gln t)) (ShowsMisfit t)
 
 -- what each supplier with a line or a pallet sees is settled; or a row shows that the tables are not sound
 abbrev pub TellsOfAll : Tables → Option Finding → Type 0

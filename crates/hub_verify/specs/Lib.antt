@@ -3,4 +3,5 @@ pub mod Clean
 pub mod Counts
 pub mod Cross
 pub mod Goods
+pub mod Pieces
 pub mod Verdict

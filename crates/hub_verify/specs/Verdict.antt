@@ -1,5 +1,5 @@
 -- What is found of all rows.
-use Rattle.std.specs.Prelude.{◌≡◌, Bool, true, false, List, Option, None, Some}
+use Rattle.std.specs.Prelude.{◌≡◌, true, false, Option, None, Some}
 use Rattle.hub_sound.specs.Showing.{ShowsUnclean, ShowsUnsound}
 use Rattle.hub_sound.specs.HubRules.Laws.{SoundHub}
 use Rattle.hub_sound.specs.declared.finding.Finding.{Finding}
@@ -8,15 +8,18 @@ use Rattle.hub_tables.specs.Tables.{Tables}
 use Rattle.hub_verify.specs.declared.verdict.Verdict.{Verdict as Judged}
 use Rattle.hub_verify.specs.declared.verdict.Verdict.TheVariants.{Sound, Unclean, Unsound}
 
+-- nothing was found, so this holds; or what was found shows that
+abbrev pub Told : {X : Type 0} → Type 0 → (X → Type 0) → Option X → Type 0
+Told holds shows None = holds
+Told holds shows (Some found) = shows found
+
 -- nothing was found, so this holds; or the row shows that the tables are not clean
 abbrev pub ToldUnclean : (Tables → Type 0) → Tables → Option Finding → Type 0
-ToldUnclean holds t None = holds t
-ToldUnclean holds t (Some found) = ShowsUnclean t found.kind found.key
+ToldUnclean holds t = Told (holds t) (λ found. ShowsUnclean t found.kind found.key)
 
 -- nothing was found, so this holds; or the row shows that the tables are not sound
 abbrev pub ToldUnsound : (Tables → Type 0) → Tables → Option Finding → Type 0
-ToldUnsound holds t None = holds t
-ToldUnsound holds t (Some found) = ShowsUnsound t found.kind found.key
+ToldUnsound holds t = Told (holds t) (λ found. ShowsUnsound t found.kind found.key)
 
 -- a sound start, or the row that shows it is none
 abbrev pub IsVerdict : Tables → Judged → Type 0

@@ -1,197 +1,135 @@
 //! Looks for a row that lacks what it names.
-ghost use Rattle.std.specs.Prelude.{◌≡◌, [], true, not, find, IfOk, option_copied};
+ghost use Rattle.std.specs.Prelude.{◌≡◌, [], true, Bool, not, find, IfOk, option_copied};
 ghost use Rattle.std.specs.List.{list_all};
 ghost use Rattle.gs1_ids.specs.Sscc.{under_some};
 ghost use Rattle.hub_founding.specs.Fits.{fits_pallet};
-ghost use Rattle.hub_sound.specs.Showing.{has_order, is_on_pallet, is_of_received, goes_on};
+ghost use Rattle.hub_sound.specs.Showing.{has_order, is_on_pallet, is_of_received, goes_on, ShowsUnsound};
 ghost use Rattle.hub_verify.specs.AllRows.{Tells};
-ghost use Rattle.hub_verify.specs.Cross.{TellsRooted, PartiesFit, RowsFit};
+ghost use Rattle.hub_verify.specs.Cross.{ShowsUnrooted, TellsRooted, PartiesFit, RowsFit};
+ghost use Rattle.hub_verify.specs.Pieces.{piece};
 ghost use Rattle.hub_sound.specs.declared.finding.RowKind.TheVariants as kinds;
-ghost use Rattle.hub_verify.specs.Verdict.{ToldUnsound};
+ghost use Rattle.hub_verify.specs.Verdict.{Told, ToldUnsound};
 
-use crate::all_rows::{AllRows, Read};
+use crate::all_rows::AllRows;
+use crate::piece_kind::PieceKind;
+use crate::pieces::rows_with;
+use crate::placed::Placed;
+use crate::walk::{PieceCheck, walk};
 use edi_base::Items;
 use gs1_ids::Sscc;
 use hub_parties::SupplierRow;
 use hub_register::Register;
-use hub_sound::{
-    Finding, RowKind, content_finding, line_finding, mail_finding, pallet_finding, receipt_finding,
-};
+use hub_sound::{Finding, RowKind, pallet_finding};
 use hub_store::StoreFault;
 use hub_tables::{ContentRow, LineRow, MailRow, PalletRow, ReceiptRow};
 use std::alloc::Global;
+use std::marker::PhantomData;
 
-/// Takes the rows that were read. The error is `Unclean` if one does not have the form of its kind.
-pub(crate) fn rows_of<T: Drop>(read: Read<T>) -> Result<Items<T>, StoreFault>
-    ensures { IfOk result (λ rows. read ≡ Read.Rows rows) }
-{
-    match read {
-        Read::Rows(rows) => Ok(rows),
-        Read::Unclean(_key) => Err(StoreFault::Unclean),
-    }
-}
-
-// Whether an entry is the first of its mailbox, or the one before it is there.
-fn follows_another<S: AllRows>(store: &mut S, entry: &MailRow) -> Result<bool, StoreFault>
-    ensures { Tells S.content S.honest (λ t joined. joined ≡ goes_on t entry.now) store.old store.new result }
-{
-    if entry.number == 1 {
-        return Ok(true);
-    }
-    let before = store.mail_item(&entry.supplier, entry.number.saturating_sub(1))?;
-    Ok(before.is_some())
-}
-
-// Whether the supplier of a line has its order.
-fn is_ordered<S: AllRows>(store: &mut S, line: &LineRow) -> Result<bool, StoreFault>
-    ensures { Tells S.content S.honest (λ t known. known ≡ has_order t line.now) store.old store.new result }
-{
-    let number = line.number.as_slice();
-    store.order_known(&line.supplier, number)
-}
-
-// The first line whose order its supplier does not have.
-fn line_without_order<'r, S: AllRows>(
+// The first row that is not in its place.
+fn first_misplaced<'r, S: AllRows, T: Placed>(
     store: &mut S,
-    lines: &'r [LineRow],
-) -> Result<Option<&'r LineRow>, StoreFault>
+    rows: &'r [T],
+) -> Result<Option<&'r T>, StoreFault>
     ensures { Tells S.content S.honest
-        (λ t found. option_copied found ≡ find (λ line. not (has_order t line)) lines.now)
+        (λ t found. option_copied found ≡ find (λ row. not (T.in_place t row)) rows.now)
         store.old store.new result }
 {
-    for line in lines {
-        let known = is_ordered(store, line)?;
-        if !known {
-            return Ok(Some(line));
+    for row in rows {
+        let placed = row.is_placed(store)?;
+        if !placed {
+            return Ok(Some(row));
         }
     }
     Ok(None)
 }
 
-// The first content whose pallet is not there.
-fn content_without_pallet<'r, S: AllRows>(
+// A row with this value that is not in its place.
+fn misplaced_with<S: AllRows, T: Placed>(
     store: &mut S,
-    contents: &'r [ContentRow],
-) -> Result<Option<&'r ContentRow>, StoreFault>
+    alloc: Global,
+    value: &[u8],
+) -> Result<Option<Finding>, StoreFault>
     ensures { Tells S.content S.honest
-        (λ t found. option_copied found ≡ find (λ content. not (is_on_pallet t content)) contents.now)
+        (ToldUnsound (λ t. list_all (T.in_place t) (piece T.column value.now (T.rows t)) ≡ true))
         store.old store.new result }
 {
-    for content in contents {
-        let used = store.used(&content.sscc)?;
-        if !used {
-            return Ok(Some(content));
-        }
-    }
-    Ok(None)
+    let rows = rows_with::<S, T>(store, value)?;
+    let first = first_misplaced(store, rows.as_slice())?;
+    let Some(row) = first else {
+        return Ok(None);
+    };
+    let found = row.finding(alloc)?;
+    Ok(Some(found))
 }
 
-// The first receipt of a pallet that was not received.
-fn receipt_not_received<'r, S: AllRows>(
-    store: &mut S,
-    receipts: &'r [ReceiptRow],
-) -> Result<Option<&'r ReceiptRow>, StoreFault>
-    ensures { Tells S.content S.honest
-        (λ t found. option_copied found ≡ find (λ receipt. not (is_of_received t receipt)) receipts.now)
-        store.old store.new result }
-{
-    for receipt in receipts {
-        let received = store.received(&receipt.sscc)?;
-        if !received {
-            return Ok(Some(receipt));
-        }
-    }
-    Ok(None)
+// Looks for rows that are not in their place.
+#[derive(Drop)]
+struct Misplaced<T> {
+    of: PhantomData<T>,
 }
 
-// The first entry that is not the first of its mailbox and lacks the one before it.
-fn entry_after_gap<'r, S: AllRows>(
+impl<T: Placed> PieceCheck for Misplaced<T> {
+    ghost holds = { λ check t value. list_all (T.in_place t) (piece T.column value (T.rows t)) ≡ true };
+
+    ghost shows = { λ check t found. ShowsUnsound t found.kind found.key };
+
+    fn check<S: AllRows>(
+        &self,
+        store: &mut S,
+        alloc: Global,
+        value: &[u8],
+    ) -> Result<Option<Finding>, StoreFault> {
+        misplaced_with::<S, T>(store, alloc, value)
+    }
+}
+
+// A row that is not in its place.
+fn misplaced_row<S: AllRows, T: Placed>(
     store: &mut S,
-    entries: &'r [MailRow],
-) -> Result<Option<&'r MailRow>, StoreFault>
-    ensures { Tells S.content S.honest
-        (λ t found. option_copied found ≡ find (λ entry. not (goes_on t entry)) entries.now)
+    alloc: Global,
+) -> Result<Option<Finding>, StoreFault>
+    ensures { Tells S.content S.honest (ToldUnsound (λ t. list_all (T.in_place t) (T.rows t) ≡ true))
         store.old store.new result }
 {
-    for entry in entries {
-        let joined = follows_another(store, entry)?;
-        if !joined {
-            return Ok(Some(entry));
-        }
-    }
-    Ok(None)
+    let check = Misplaced::<T> { of: PhantomData };
+    let kind = T::piece_kind();
+    let found = walk(store, alloc, kind, &check)?;
+    Ok(found)
 }
 
 // A line without its order.
-pub(crate) fn unordered_line<S: AllRows>(
-    store: &mut S,
-    alloc: Global,
-) -> Result<Option<Finding>, StoreFault>
+fn unordered_line<S: AllRows>(store: &mut S, alloc: Global) -> Result<Option<Finding>, StoreFault>
     ensures { Tells S.content S.honest (ToldUnsound (λ t. list_all (has_order t) t.lines ≡ true))
         store.old store.new result }
 {
-    let read = store.every_line()?;
-    let lines = rows_of(read)?;
-    let first = line_without_order(store, lines.as_slice())?;
-    let Some(line) = first else {
-        return Ok(None);
-    };
-    let found = line_finding(alloc, line)?;
-    Ok(Some(found))
+    misplaced_row::<S, LineRow>(store, alloc)
 }
 
 // A content without its pallet.
-pub(crate) fn unplaced_content<S: AllRows>(
-    store: &mut S,
-    alloc: Global,
-) -> Result<Option<Finding>, StoreFault>
+fn unplaced_content<S: AllRows>(store: &mut S, alloc: Global) -> Result<Option<Finding>, StoreFault>
     ensures { Tells S.content S.honest (ToldUnsound (λ t. list_all (is_on_pallet t) t.contents ≡ true))
         store.old store.new result }
 {
-    let read = store.every_content()?;
-    let contents = rows_of(read)?;
-    let first = content_without_pallet(store, contents.as_slice())?;
-    let Some(content) = first else {
-        return Ok(None);
-    };
-    let found = content_finding(alloc, content)?;
-    Ok(Some(found))
+    misplaced_row::<S, ContentRow>(store, alloc)
 }
 
 // A receipt of a pallet that was not received.
-pub(crate) fn unreceived_receipt<S: AllRows>(
+fn unreceived_receipt<S: AllRows>(
     store: &mut S,
     alloc: Global,
 ) -> Result<Option<Finding>, StoreFault>
     ensures { Tells S.content S.honest (ToldUnsound (λ t. list_all (is_of_received t) t.receipts ≡ true))
         store.old store.new result }
 {
-    let read = store.every_receipt()?;
-    let receipts = rows_of(read)?;
-    let first = receipt_not_received(store, receipts.as_slice())?;
-    let Some(receipt) = first else {
-        return Ok(None);
-    };
-    let found = receipt_finding(alloc, receipt)?;
-    Ok(Some(found))
+    misplaced_row::<S, ReceiptRow>(store, alloc)
 }
 
 // An entry after a gap.
-pub(crate) fn lost_entry<S: AllRows>(
-    store: &mut S,
-    alloc: Global,
-) -> Result<Option<Finding>, StoreFault>
+fn lost_entry<S: AllRows>(store: &mut S, alloc: Global) -> Result<Option<Finding>, StoreFault>
     ensures { Tells S.content S.honest (ToldUnsound (λ t. list_all (goes_on t) t.mail ≡ true))
         store.old store.new result }
 {
-    let read = store.every_mail()?;
-    let entries = rows_of(read)?;
-    let first = entry_after_gap(store, entries.as_slice())?;
-    let Some(entry) = first else {
-        return Ok(None);
-    };
-    let found = mail_finding(alloc, entry)?;
-    Ok(Some(found))
+    misplaced_row::<S, MailRow>(store, alloc)
 }
 
 // Whether the SSCC is under a prefix of the supplier.
@@ -230,6 +168,47 @@ fn first_unrooted<'p>(register: &Register, pallets: &'p [PalletRow]) -> Option<&
     None
 }
 
+// A pallet of this supplier that is under none of its prefixes.
+fn unrooted_with<S: AllRows>(
+    store: &mut S,
+    alloc: Global,
+    register: &Register,
+    supplier: &[u8],
+) -> Result<Option<Finding>, StoreFault>
+    ensures { Tells S.content S.honest (λ t. Told
+        (list_all (fits_pallet register.now) (piece (λ row. row.supplier) supplier.now t.pallets) ≡ true)
+        (ShowsUnrooted register.now t)) store.old store.new result }
+{
+    let pallets = rows_with::<S, PalletRow>(store, supplier)?;
+    let Some(pallet) = first_unrooted(register, pallets.as_slice()) else {
+        return Ok(None);
+    };
+    let found = pallet_finding(alloc, pallet)?;
+    Ok(Some(found))
+}
+
+// Looks for pallets that are under no prefix of their supplier.
+#[derive(Drop)]
+struct Unrooted<'r> {
+    register: &'r Register,
+}
+
+impl<'r> PieceCheck for Unrooted<'r> {
+    ghost holds = { λ check t value.
+        list_all (fits_pallet check.register.now) (piece (λ row. row.supplier) value t.pallets) ≡ true };
+
+    ghost shows = { λ check t. ShowsUnrooted check.register.now t };
+
+    fn check<S: AllRows>(
+        &self,
+        store: &mut S,
+        alloc: Global,
+        value: &[u8],
+    ) -> Result<Option<Finding>, StoreFault> {
+        unrooted_with(store, alloc, self.register, value)
+    }
+}
+
 // A pallet that is under no prefix of its supplier.
 fn unrooted_pallet<S: AllRows>(
     store: &mut S,
@@ -238,13 +217,9 @@ fn unrooted_pallet<S: AllRows>(
 ) -> Result<Option<Finding>, StoreFault>
     ensures { Tells S.content S.honest (TellsRooted register.now) store.old store.new result }
 {
-    let read = store.every_pallet()?;
-    let pallets = rows_of(read)?;
-    let Some(pallet) = first_unrooted(register, pallets.as_slice()) else {
-        return Ok(None);
-    };
-    let found = pallet_finding(alloc, pallet)?;
-    Ok(Some(found))
+    let check = Unrooted { register };
+    let found = walk(store, alloc, PieceKind::Pallet, &check)?;
+    Ok(found)
 }
 
 // Says that no register is held.

@@ -1,86 +1,24 @@
 //! Compares what is on the pallets of each supplier with the lines of its orders.
-ghost use Rattle.std.specs.Prelude.{◌≡◌, ◌++◌, true, IfOk, OnOk};
-ghost use Rattle.std.specs.List.{list_all, list_any};
+ghost use Rattle.std.specs.Prelude.{◌≡◌, ◌++◌, [], true, OnOk};
+ghost use Rattle.std.specs.List.{list_all};
 ghost use Rattle.hub_sound.specs.Goods.{gathered, TellsOfSupplier};
-ghost use Rattle.hub_store.specs.Clean.{are_clean};
-ghost use Rattle.hub_tables.specs.Rows.{same};
+ghost use Rattle.hub_sound.specs.Showing.{IsSettled};
+ghost use Rattle.hub_store.specs.Clean.{are_clean, clean_line, clean_pallet};
 ghost use Rattle.hub_tables.specs.Sets.{Rising};
+ghost use Rattle.hub_tables.specs.Tables.{view};
 ghost use Rattle.hub_verify.specs.AllRows.{Tells};
-ghost use Rattle.hub_verify.specs.Goods.{Keeps, Covers, CoversLines, TellsOfAll, TellsOfGoods};
+ghost use Rattle.hub_verify.specs.Goods.{LinesAreSettled, PalletsAreSettled, ShowsMisfit, TellsOfAll};
+ghost use Rattle.hub_verify.specs.Verdict.{Told};
 
 use crate::all_rows::AllRows;
-use crate::cross::rows_of;
+use crate::piece_kind::PieceKind;
+use crate::pieces::rows_with;
+use crate::walk::{PieceCheck, walk};
 use edi_base::{Items, MemoryFault};
-use gs1_ids::Gln;
 use hub_sound::{Finding, first_misfit};
 use hub_store::StoreFault;
 use hub_tables::{ContentRow, LineRow, PalletRow};
 use std::alloc::Global;
-
-// Whether the GLN is one of these.
-fn has_gln(glns: &[Gln], gln: &Gln) -> bool
-    ensures { result ≡ list_any (same gln.now) glns.now }
-{
-    glns.iter().any(|known| *gln == *known)
-}
-
-// The GLNs with one more, if it is not among them.
-fn with_gln(mut glns: Items<Gln>, gln: Gln) -> Result<Items<Gln>, MemoryFault>
-    ensures one { IfOk result (λ more. list_any (same gln) more ≡ true) }
-    ensures others { IfOk result (Keeps glns) }
-{
-    let known = has_gln(glns.as_slice(), &gln);
-    if known {
-        return Ok(glns);
-    }
-    glns.push(gln)?;
-    Ok(glns)
-}
-
-// The GLNs with those of the suppliers of lines.
-fn with_lines(mut glns: Items<Gln>, lines: &[LineRow]) -> Result<Items<Gln>, MemoryFault>
-    ensures all { IfOk result (λ more.
-        list_all (λ line. list_any (same line.supplier) more) lines.now ≡ true) }
-    ensures others { IfOk result (Keeps glns) }
-{
-    for line in lines {
-        glns = with_gln(glns, line.supplier)?;
-    }
-    Ok(glns)
-}
-
-// The GLNs with those of the suppliers of pallets.
-fn with_pallets(mut glns: Items<Gln>, pallets: &[PalletRow]) -> Result<Items<Gln>, MemoryFault>
-    ensures all { IfOk result (λ more.
-        list_all (λ pallet. list_any (same pallet.supplier) more) pallets.now ≡ true) }
-    ensures others { IfOk result (Keeps glns) }
-{
-    for pallet in pallets {
-        glns = with_gln(glns, pallet.supplier)?;
-    }
-    Ok(glns)
-}
-
-// Returns the suppliers that have a line. The lines are dropped before other rows are read.
-fn line_suppliers<S: AllRows>(store: &mut S, alloc: Global) -> Result<Items<Gln>, StoreFault>
-    ensures { Tells S.content S.honest CoversLines store.old store.new result }
-{
-    let read = store.every_line()?;
-    let lines = rows_of(read)?;
-    let glns = with_lines(Items::new(alloc), lines.as_slice())?;
-    Ok(glns)
-}
-
-// The suppliers that have a line or a pallet.
-fn suppliers<S: AllRows>(store: &mut S, alloc: Global) -> Result<Items<Gln>, StoreFault>
-    ensures { Tells S.content S.honest Covers store.old store.new result }
-{
-    let some = line_suppliers(store, alloc)?;
-    let read = store.every_pallet()?;
-    let pallets = rows_of(read)?;
-    let glns = with_pallets(some, pallets.as_slice())?;
-    Ok(glns)
-}
 
 // Puts rows after others.
 fn put_all(found: &mut Items<ContentRow>, rows: Items<ContentRow>) -> Result<(), MemoryFault>
@@ -103,46 +41,137 @@ fn contents_of<S: AllRows>(
 {
     let mut found = Items::new(alloc);
     for pallet in pallets {
-        let rows = store.contents_on(&pallet.sscc)?;
+        let sscc = pallet.sscc.digits();
+        let rows = rows_with::<S, ContentRow>(store, sscc)?;
         put_all(&mut found, rows)?;
     }
     Ok(found)
+}
+
+fn lines_of<S: AllRows>(store: &mut S, supplier: &[u8]) -> Result<Items<LineRow>, StoreFault>
+    ensures { Tells S.content S.honest
+        (λ t rows. (rows ≡ (view supplier.now t).lines) × (list_all clean_line rows ≡ true))
+        store.old store.new result }
+{
+    rows_with::<S, LineRow>(store, supplier)
+}
+
+fn pallets_of<S: AllRows>(store: &mut S, supplier: &[u8]) -> Result<Items<PalletRow>, StoreFault>
+    ensures { Tells S.content S.honest
+        (λ t rows. (rows ≡ (view supplier.now t).pallets) × (list_all clean_pallet rows ≡ true))
+        store.old store.new result }
+{
+    rows_with::<S, PalletRow>(store, supplier)
 }
 
 // A content of a supplier without its line, or a line out of balance.
 fn misfit_of<S: AllRows>(
     store: &mut S,
     alloc: Global,
-    gln: &Gln,
+    supplier: &[u8],
 ) -> Result<Option<Finding>, StoreFault>
     ensures { Tells S.content S.honest
-        (λ t found. Rising t → are_clean t ≡ true → TellsOfSupplier gln.now t found)
+        (λ t found. Rising t → are_clean t ≡ true → TellsOfSupplier supplier.now t found)
         store.old store.new result }
 {
-    let lines = store.lines_of(gln)?;
-    let pallets = store.pallets_of(gln)?;
-    let contents = contents_of(store, alloc, pallets.as_slice())?;
-    let found = first_misfit(alloc, lines.as_slice(), contents.as_slice())?;
+    let lines = lines_of(store, supplier)?;
+    let pallets = pallets_of(store, supplier)?;
+    let despatched = pallets.as_slice();
+    let contents = contents_of(store, alloc, despatched)?;
+    let rows = lines.as_slice();
+    let goods = contents.as_slice();
+    let found = first_misfit(alloc, rows, goods)?;
     Ok(found)
 }
 
-// Like `misfit_of`, for several suppliers.
-fn misfit_among<S: AllRows>(
+// Like `misfit_of`, as a walk over the suppliers of lines takes it.
+fn misfit_with_lines<S: AllRows>(
     store: &mut S,
     alloc: Global,
-    glns: &[Gln],
+    supplier: &[u8],
 ) -> Result<Option<Finding>, StoreFault>
     ensures { Tells S.content S.honest
-        (λ t found. Rising t → are_clean t ≡ true → TellsOfGoods glns.now t found)
+        (λ t. Told (Rising t → are_clean t ≡ true → IsSettled (view supplier.now t)) (ShowsMisfit t))
         store.old store.new result }
 {
-    for gln in glns {
-        let found = misfit_of(store, alloc, gln)?;
-        if found.is_some() {
-            return Ok(found);
-        }
+    let found = misfit_of(store, alloc, supplier)?;
+    Ok(found)
+}
+
+// Like `misfit_of`, for a supplier without lines; nothing for others.
+fn misfit_without_lines<S: AllRows>(
+    store: &mut S,
+    alloc: Global,
+    supplier: &[u8],
+) -> Result<Option<Finding>, StoreFault>
+    ensures { Tells S.content S.honest
+        (λ t. Told (Rising t → are_clean t ≡ true → (view supplier.now t).lines ≡ [] → IsSettled (view supplier.now t))
+        (ShowsMisfit t)) store.old store.new result }
+{
+    let lines = lines_of(store, supplier)?;
+    let none = lines.is_empty();
+    if !none {
+        return Ok(None);
     }
-    Ok(None)
+    let found = misfit_of(store, alloc, supplier)?;
+    Ok(found)
+}
+
+// Compares the goods of the suppliers that have lines.
+#[derive(Drop)]
+struct OfLines;
+
+impl PieceCheck for OfLines {
+    ghost holds = { λ check t gln. Rising t → are_clean t ≡ true → IsSettled (view gln t) };
+
+    ghost shows = { λ check t. ShowsMisfit t };
+
+    fn check<S: AllRows>(
+        &self,
+        store: &mut S,
+        alloc: Global,
+        value: &[u8],
+    ) -> Result<Option<Finding>, StoreFault> {
+        misfit_with_lines(store, alloc, value)
+    }
+}
+
+// Compares the goods of the suppliers that have pallets and no lines.
+#[derive(Drop)]
+struct OfPallets;
+
+impl PieceCheck for OfPallets {
+    ghost holds = { λ check t gln. Rising t → are_clean t ≡ true → (view gln t).lines ≡ [] → IsSettled (view gln t) };
+
+    ghost shows = { λ check t. ShowsMisfit t };
+
+    fn check<S: AllRows>(
+        &self,
+        store: &mut S,
+        alloc: Global,
+        value: &[u8],
+    ) -> Result<Option<Finding>, StoreFault> {
+        misfit_without_lines(store, alloc, value)
+    }
+}
+
+// A content without its line or a line out of balance, of a supplier with lines.
+fn misfit_of_lines<S: AllRows>(store: &mut S, alloc: Global) -> Result<Option<Finding>, StoreFault>
+    ensures { Tells S.content S.honest LinesAreSettled store.old store.new result }
+{
+    let found = walk(store, alloc, PieceKind::Line, &OfLines)?;
+    Ok(found)
+}
+
+// A content without its line, of a supplier with pallets and no lines.
+fn misfit_of_pallets<S: AllRows>(
+    store: &mut S,
+    alloc: Global,
+) -> Result<Option<Finding>, StoreFault>
+    ensures { Tells S.content S.honest PalletsAreSettled store.old store.new result }
+{
+    let found = walk(store, alloc, PieceKind::Pallet, &OfPallets)?;
+    Ok(found)
 }
 
 /// Returns a content of any supplier without its line, or a line out of balance, if there is one.
@@ -154,7 +183,10 @@ pub(crate) fn unsound_goods<S: AllRows>(
         (λ t found. Rising t → are_clean t ≡ true → TellsOfAll t found)
         store.old store.new result }
 {
-    let glns = suppliers(store, alloc)?;
-    let found = misfit_among(store, alloc, glns.as_slice())?;
+    let of_lines = misfit_of_lines(store, alloc)?;
+    if let Some(found) = of_lines {
+        return Ok(Some(found));
+    }
+    let found = misfit_of_pallets(store, alloc)?;
     Ok(found)
 }

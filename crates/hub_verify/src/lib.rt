@@ -6,10 +6,15 @@ mod clean;
 mod counts;
 mod cross;
 mod goods;
+mod piece_kind;
+mod pieces;
+mod placed;
 mod verdict;
+mod walk;
 mod whole;
 
 pub use all_rows::{AllRows, Read};
 pub use counts::{Counts, count};
+pub use piece_kind::PieceKind;
 pub use verdict::Verdict;
 pub use whole::verify;

@@ -12,17 +12,17 @@ use hub_store::StoreFault;
 use std::alloc::Global;
 
 /// Returns `Sound` exactly if the rows are clean and a sound start, and otherwise the row that shows that they are not.
-/// This is promised if the keys of each kind rise, as they do in a database file. Apart from the register and the GLNs
-/// of suppliers, it keeps at most one table, or the rows of one supplier, at a time.
+/// This is promised if the keys of each kind rise, as they do in a database file. Apart from the register it keeps at
+/// most the rows of one supplier at a time.
 ///
 /// # Errors
 ///
-/// Those of the rows; what was found before is then lost.
+/// `Memory` or `Disk`; what was found before is then lost.
 pub fn verify<S: AllRows>(store: &mut S, alloc: Global) -> Result<Verdict, StoreFault>
     ensures { Tells S.content S.honest (λ t verdict. Rising t → IsVerdict t verdict)
         store.old store.new result }
 {
-    let unclean = unclean_row(store)?;
+    let unclean = unclean_row(store, alloc)?;
     if let Some(found) = unclean {
         return Ok(Verdict::Unclean(found));
     }

@@ -1,4 +1,4 @@
-use Rattle.hub_verify.proofs.Counting.{both, all_counted}
+use Rattle.hub_verify.proofs.Counting.{all_counted}
 use Rattle.hub_verify.proofs.counts.count.Goals as goal
 
 pub returns : goal.returns

@@ -1,15 +1,18 @@
-use Rattle.hub_verify.proofs.Crossing.{rooted_none, rooted_some}
+use Rattle.std.proofs.Common.{◌≡◌, true, refl}
+use Rattle.std.specs.List.{list_all}
+use Rattle.hub_founding.specs.Fits.{fits_pallet}
+use Rattle.hub_tables.specs.Tables.{Tables}
+use Rattle.hub_tables.specs.declared.rows.PalletRow.{PalletRow}
+use Rattle.hub_verify.specs.Cross.{ShowsUnrooted}
+use Rattle.hub_verify.specs.Pieces.{piece}
+use Rattle.hub_verify.specs.declared.piece_kind.PieceKind.TheVariants.{Pallet}
+use Rattle.hub_verify.proofs.Walking.{walked_rows}
 use Rattle.hub_verify.proofs.cross.unrooted_pallet.Goals as goal
-
-pub returns-in_default : goal.returns-in_default
-returns-in_default g c =
-    rooted_none g.S.AllRows.content g.S.AllRows.honest c.args.register.now c.args.store.now c.every_pallet.new.self
-    c.in_ok-read.read c.in_ok-pallets.pallets
-    c.as_slice.result.now c.in_ok-pallets.ensures c.as_slice.ensures c.in_ok-read.ensures c.in_default.ensures
 
 pub returns : goal.returns
 returns g c =
-    rooted_some g.S.AllRows.content g.S.AllRows.honest c.args.register.now c.args.store.now c.every_pallet.new.self
-    c.in_ok-read.read c.in_ok-pallets.pallets
-    c.as_slice.result.now c.in_ok-pallets.ensures c.as_slice.ensures c.in_ok-read.ensures c.in-Some.pallet.now c.in-Some.ensures
-    c.in_ok-found.found c.in_ok-found.ensures
+    walked_rows g.S.AllRows.content g.S.AllRows.honest Pallet
+    (λ (t : Tables) value. list_all (fits_pallet c.args.register.now) (piece (λ (row : PalletRow). row.supplier) value t.pallets) ≡ true)
+    (ShowsUnrooted c.args.register.now) (λ t. t.pallets) (λ (row : PalletRow). row.supplier) (λ t. refl)
+    (λ t. fits_pallet c.args.register.now) (λ t value h. h) c.args.store.now c.walk.new.store c.in_ok-found.found
+    c.in_ok-found.ensures
