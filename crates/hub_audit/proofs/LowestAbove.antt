@@ -36,10 +36,12 @@ use Rattle.hub_rows.proofs.Looking.{Selects, looks_for}
 use Rattle.hub_rows.proofs.Ranking.{then_none, rank_bytes}
 use Rattle.hub_rows.proofs.Sorting.{listed_moved, permuted_has, sorted_alike, sorted_map}
 use Rattle.hub_schema.specs.Cells.{bytes_in}
-use Rattle.hub_schema.specs.Rows.{in_key_order, tables_in, order_in, line_in, advice_in, pallet_in, content_in, receipt_in, remembered_in, mail_in}
+use Rattle.hub_schema.specs.Rows.{in_key_order, tables_in, order_in, line_in, advice_in, pallet_in, content_in, receipt_in}
+use Rattle.hub_schema.specs.Rows.{remembered_in, mail_in}
 use Rattle.hub_schema.specs.State.{IsHub, LooksFor}
 use Rattle.hub_schema.proofs.Single.{order_kinds, line_kinds, pallet_kinds, content_kinds, receipt_kinds, remembered_kinds, mail_kinds}
-use Rattle.hub_schema.proofs.Single.{order_cells, line_cells, advice_cells, pallet_cells, content_cells, receipt_cells, remembered_cells, mail_cells}
+use Rattle.hub_schema.proofs.Single.{order_cells, line_cells, advice_cells, pallet_cells, content_cells, receipt_cells}
+use Rattle.hub_schema.proofs.Single.{remembered_cells, mail_cells}
 use Rattle.hub_sound.proofs.Deciding.{from_filter}
 use Rattle.hub_store.specs.Clean.{are_bytes}
 use Rattle.hub_store.specs.declared.fault.StoreFault.{StoreFault}
@@ -53,7 +55,8 @@ use Rattle.hub_tables.specs.declared.rows.ContentRow.{ContentRow}
 use Rattle.hub_tables.specs.declared.rows.ReceiptRow.{ReceiptRow}
 use Rattle.hub_tables.specs.declared.rows.RememberedRow.{RememberedRow}
 use Rattle.hub_tables.specs.declared.rows.MailRow.{MailRow}
-use Rattle.hub_tables.proofs.KindOrders.{order_total, line_total, advice_total, pallet_total, content_total, receipt_total, remembered_total, mail_total}
+use Rattle.hub_tables.proofs.KindOrders.{order_total, line_total, advice_total, pallet_total, content_total, receipt_total}
+use Rattle.hub_tables.proofs.KindOrders.{remembered_total, mail_total}
 use Rattle.hub_tables.proofs.Lists.{all_passes}
 use Rattle.hub_tables.proofs.Members.{all_of, has_filter, has_map}
 use Rattle.hub_verify.specs.Pieces.{IsNext, values_in}
@@ -61,7 +64,8 @@ use Rattle.hub_verify.specs.declared.piece_kind.PieceKind.{PieceKind}
 use Rattle.hub_verify.specs.declared.piece_kind.PieceKind.TheVariants as pieces
 use Rattle.hub_audit.specs.Next.{Any, next_text}
 use Rattle.hub_audit.proofs.Texts.{above, next_of}
-use Rattle.hub_audit.proofs.Texts.{next_order_select, next_line_select, next_advice_select, next_pallet_select, next_content_select, next_receipt_select, next_remembered_select, next_mail_select}
+use Rattle.hub_audit.proofs.Texts.{next_order_select, next_line_select, next_advice_select, next_pallet_select, next_content_select}
+use Rattle.hub_audit.proofs.Texts.{next_receipt_select, next_remembered_select, next_mail_select}
 
 -- Cells of bytes.
 
@@ -98,7 +102,8 @@ from_map f (x ∷ xs) y there = elim there [
 ]
 
 -- the first of sorted values is the lowest
-lowest : (v : List ℕ) (vs : List (List ℕ)) → IsSorted bytes_cmp (v ∷ vs) → (other : List ℕ) → Has (v ∷ vs) other → ¬ (bytes_cmp other v ≡ Less)
+lowest : (v : List ℕ) (vs : List (List ℕ)) → IsSorted bytes_cmp (v ∷ vs)
+    → (other : List ℕ) → Has (v ∷ vs) other → ¬ (bytes_cmp other v ≡ Less)
 lowest v vs sorted other there =
     let lt : List ℕ → List ℕ → Bool = λ a b. is_lt (bytes_cmp a b) in
     not_less (bytes_cmp other v)
@@ -235,8 +240,10 @@ next_looked pieces.Receipt value =
     next_row receipt_total receipt_in 12 1 (λ (row : ReceiptRow). row.sscc) (λ row. refl) (AreOf receipt_kinds 0) (λ row it. it.0) value
     next_receipt_select (λ db. refl) (values_in pieces.Receipt) (λ db. refl) (λ s hub. receipt_cells s.now hub.schema hub.sound hub.ordered)
 next_looked pieces.Remembered value =
-    next_row remembered_total remembered_in 14 1 (λ (row : RememberedRow). row.supplier) (λ row. refl) (AreOf remembered_kinds 0) (λ row it. it.0) value
-    next_remembered_select (λ db. refl) (values_in pieces.Remembered) (λ db. refl) (λ s hub. remembered_cells s.now hub.schema hub.sound hub.ordered)
+    next_row remembered_total remembered_in 14 1 (λ (row : RememberedRow). row.supplier) (λ row. refl)
+    (AreOf remembered_kinds 0) (λ row it. it.0) value
+    next_remembered_select (λ db. refl) (values_in pieces.Remembered) (λ db. refl)
+    (λ s hub. remembered_cells s.now hub.schema hub.sound hub.ordered)
 next_looked pieces.Mail value =
     next_row mail_total mail_in 16 1 (λ (row : MailRow). row.supplier) (λ row. refl) (AreOf mail_kinds 0) (λ row it. it.0) value
     next_mail_select (λ db. refl) (values_in pieces.Mail) (λ db. refl) (λ s hub. mail_cells s.now hub.schema hub.sound hub.ordered)

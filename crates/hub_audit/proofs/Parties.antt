@@ -49,7 +49,8 @@ pub prefixes_read : (old new : State) (result : Result (Found PrefixRow) StoreFa
     → Asks (AreRead shown_prefix clean_prefix (Text ∷ [])) (λ rows. ⊥) prefixes_text [] old new result
     → LooksFor (λ t. IsRead prefix_key clean_prefix t.prefixes) (λ t. ⊥) old new result
 prefixes_read =
-    every_row prefix_total prefix_row_in shown_prefix two_columns by_one [] [] (λ row. refl) clean_prefix prefix_key (Text ∷ []) (λ row. refl)
+    every_row prefix_total prefix_row_in shown_prefix two_columns by_one [] []
+    (λ row. refl) clean_prefix prefix_key (Text ∷ []) (λ row. refl)
     (AreOf prefix_kinds 0) (λ row. ⊤) (λ row h. tt)
     (λ x y a b. then_none _ ∙ rank_bytes (column x 1) (column y 1) a.0.0 b.0.0)
     (λ row. true) (λ row it. refl) 22 prefixes_select (λ db. refl) (λ t. t.prefixes) (λ db. all_pass _)

@@ -34,7 +34,8 @@ use Rattle.hub_verify.specs.declared.all_rows.Read.{Read as Found}
 use Rattle.hub_audit.specs.Every.{AreRead}
 use Rattle.hub_audit.specs.declared.key.Part.TheVariants.{Text, Number}
 use Rattle.hub_audit.proofs.EveryRow.{every_row}
-use Rattle.hub_audit.proofs.Texts.{by_first, by_second, two_columns, nine_columns, four_columns, five_columns, eight_columns, by_two, by_three, by_one, by_four}
+use Rattle.hub_audit.proofs.Texts.{by_first, by_second, two_columns, nine_columns, four_columns, five_columns, eight_columns, by_two}
+use Rattle.hub_audit.proofs.Texts.{by_three, by_one, by_four}
 use Rattle.hub_audit.proofs.Texts.{orders_text, orders_select, lines_text, lines_select, advices_text, advices_select, pallets_text, pallets_select, contents_text, contents_select, receipts_text, receipts_select, remembered_text, remembered_select, mail_text, mail_select}
 use Rattle.std.proofs.lemmas.Bool.{and_parts}
 use Rattle.std.proofs.lemmas.Bool.Decides.{nat_tests}
@@ -66,7 +67,8 @@ pub orders_read : (supplier : List ℕ) (old new : State) (result : Result (Foun
     → Asks (AreRead shown_order clean_order (Text ∷ Text ∷ [])) (λ rows. ⊥) orders_text (Blob supplier ∷ []) old new result
     → LooksFor (λ t. IsRead order_key clean_order (view supplier t).orders) (λ t. ⊥) old new result
 orders_read supplier =
-    every_row order_total order_in shown_order two_columns by_two by_first (Blob supplier ∷ []) (λ row. refl) clean_order order_key (Text ∷ Text ∷ []) (λ row. refl)
+    every_row order_total order_in shown_order two_columns by_two by_first (Blob supplier ∷ [])
+    (λ row. refl) clean_order order_key (Text ∷ Text ∷ []) (λ row. refl)
     (AreOf order_kinds 0) (λ row. ⊤) (λ row h. tt)
     (λ x y a b. ap₂ ordering_then (rank_bytes (column x 1) (column y 1) a.0.0 b.0.0) (then_none _ ∙ rank_bytes (column x 2) (column y 2) a.0.1.0 b.0.1.0))
     (λ (row : OrderRow). same row.supplier supplier) (λ row it. and_true _ ∙ cell_bytes (column row 1) supplier it.0)
@@ -77,7 +79,8 @@ pub lines_read : (supplier : List ℕ) (old new : State) (result : Result (Found
     → Asks (AreRead shown_line clean_line (Text ∷ Text ∷ Number ∷ [])) (λ rows. ⊥) lines_text (Blob supplier ∷ []) old new result
     → LooksFor (λ t. IsRead line_key clean_line (view supplier t).lines) (λ t. ⊥) old new result
 lines_read supplier =
-    every_row line_total line_in shown_line nine_columns by_three by_first (Blob supplier ∷ []) (λ row. refl) clean_line line_key (Text ∷ Text ∷ Number ∷ []) (λ row. refl)
+    every_row line_total line_in shown_line nine_columns by_three by_first (Blob supplier ∷ [])
+    (λ row. refl) clean_line line_key (Text ∷ Text ∷ Number ∷ []) (λ row. refl)
     (AreOf line_kinds 0) (λ (row : LineRow). row.line < 2 ^ 64) line_low
     (λ x y a b. ap₂ ordering_then (rank_bytes (column x 1) (column y 1) a.0.0 b.0.0) (ap₂ ordering_then (rank_bytes (column x 2) (column y 2) a.0.1.0 b.0.1.0) (then_none _ ∙ rank_numbers (column x 3) (column y 3) a.0.1.1.0 b.0.1.1.0 a.1 b.1)))
     (λ (row : LineRow). same row.supplier supplier) (λ row it. and_true _ ∙ cell_bytes (column row 1) supplier it.0)
@@ -88,7 +91,8 @@ pub advices_read : (supplier : List ℕ) (old new : State) (result : Result (Fou
     → Asks (AreRead shown_advice clean_advice (Text ∷ Text ∷ [])) (λ rows. ⊥) advices_text (Blob supplier ∷ []) old new result
     → LooksFor (λ t. IsRead advice_key clean_advice (view supplier t).advices) (λ t. ⊥) old new result
 advices_read supplier =
-    every_row advice_total advice_in shown_advice two_columns by_two by_first (Blob supplier ∷ []) (λ row. refl) clean_advice advice_key (Text ∷ Text ∷ []) (λ row. refl)
+    every_row advice_total advice_in shown_advice two_columns by_two by_first (Blob supplier ∷ [])
+    (λ row. refl) clean_advice advice_key (Text ∷ Text ∷ []) (λ row. refl)
     (AreOf order_kinds 0) (λ row. ⊤) (λ row h. tt)
     (λ x y a b. ap₂ ordering_then (rank_bytes (column x 1) (column y 1) a.0.0 b.0.0) (then_none _ ∙ rank_bytes (column x 2) (column y 2) a.0.1.0 b.0.1.0))
     (λ (row : AdviceRow). same row.supplier supplier) (λ row it. and_true _ ∙ cell_bytes (column row 1) supplier it.0)
@@ -99,7 +103,8 @@ pub pallets_read : (supplier : List ℕ) (old new : State) (result : Result (Fou
     → Asks (AreRead shown_pallet clean_pallet (Text ∷ [])) (λ rows. ⊥) pallets_text (Blob supplier ∷ []) old new result
     → LooksFor (λ t. IsRead pallet_key clean_pallet (view supplier t).pallets) (λ t. ⊥) old new result
 pallets_read supplier =
-    every_row pallet_total pallet_in shown_pallet four_columns by_one by_second (Blob supplier ∷ []) (λ row. refl) clean_pallet pallet_key (Text ∷ []) (λ row. refl)
+    every_row pallet_total pallet_in shown_pallet four_columns by_one by_second (Blob supplier ∷ [])
+    (λ row. refl) clean_pallet pallet_key (Text ∷ []) (λ row. refl)
     (AreOf pallet_kinds 0) (λ row. ⊤) (λ row h. tt)
     (λ x y a b. then_none _ ∙ rank_bytes (column x 1) (column y 1) a.0.0 b.0.0)
     (λ (row : PalletRow). same row.supplier supplier) (λ row it. and_true _ ∙ cell_bytes (column row 2) supplier it.1.0)
@@ -110,7 +115,8 @@ pub contents_read : (sscc : List ℕ) (old new : State) (result : Result (Found 
     → Asks (AreRead shown_content clean_content (Text ∷ Number ∷ [])) (λ rows. ⊥) contents_text (Blob sscc ∷ []) old new result
     → LooksFor (λ t. IsRead content_key clean_content (contents_of t sscc)) (λ t. ⊥) old new result
 contents_read sscc =
-    every_row content_total content_in shown_content five_columns by_two by_first (Blob sscc ∷ []) (λ row. refl) clean_content content_key (Text ∷ Number ∷ []) (λ row. refl)
+    every_row content_total content_in shown_content five_columns by_two by_first (Blob sscc ∷ [])
+    (λ row. refl) clean_content content_key (Text ∷ Number ∷ []) (λ row. refl)
     (AreOf content_kinds 0) (λ (row : ContentRow). row.place < 2 ^ 64) content_low
     (λ x y a b. ap₂ ordering_then (rank_bytes (column x 1) (column y 1) a.0.0 b.0.0) (then_none _ ∙ rank_numbers (column x 2) (column y 2) a.0.1.0 b.0.1.0 a.1 b.1))
     (λ (row : ContentRow). same row.sscc sscc) (λ row it. and_true _ ∙ cell_bytes (column row 1) sscc it.0)
@@ -121,7 +127,8 @@ pub receipts_read : (sscc : List ℕ) (old new : State) (result : Result (Found 
     → Asks (AreRead shown_receipt clean_receipt (Text ∷ Text ∷ [])) (λ rows. ⊥) receipts_text (Blob sscc ∷ []) old new result
     → LooksFor (λ t. IsRead receipt_key clean_receipt (receipts_of t sscc)) (λ t. ⊥) old new result
 receipts_read sscc =
-    every_row receipt_total receipt_in shown_receipt five_columns by_two by_first (Blob sscc ∷ []) (λ row. refl) clean_receipt receipt_key (Text ∷ Text ∷ []) (λ row. refl)
+    every_row receipt_total receipt_in shown_receipt five_columns by_two by_first (Blob sscc ∷ [])
+    (λ row. refl) clean_receipt receipt_key (Text ∷ Text ∷ []) (λ row. refl)
     (AreOf receipt_kinds 0) (λ row. ⊤) (λ row h. tt)
     (λ x y a b. ap₂ ordering_then (rank_bytes (column x 1) (column y 1) a.0.0 b.0.0) (then_none _ ∙ rank_bytes (column x 2) (column y 2) a.0.1.0 b.0.1.0))
     (λ (row : ReceiptRow). same row.sscc sscc) (λ row it. and_true _ ∙ cell_bytes (column row 1) sscc it.0)
@@ -129,10 +136,12 @@ receipts_read sscc =
     (λ s hub. receipt_cells s.now hub.schema hub.sound hub.ordered) (λ s hub. (hub_rises s hub).receipts)
 
 pub remembered_read : (supplier : List ℕ) (old new : State) (result : Result (Found RememberedRow) StoreFault)
-    → Asks (AreRead shown_remembered clean_remembered (Text ∷ Number ∷ Text ∷ Text ∷ [])) (λ rows. ⊥) remembered_text (Blob supplier ∷ []) old new result
+    → Asks (AreRead shown_remembered clean_remembered (Text ∷ Number ∷ Text ∷ Text ∷ [])) (λ rows. ⊥)
+    remembered_text (Blob supplier ∷ []) old new result
     → LooksFor (λ t. IsRead remembered_key clean_remembered (view supplier t).remembered) (λ t. ⊥) old new result
 remembered_read supplier =
-    every_row remembered_total remembered_in shown_remembered five_columns by_four by_first (Blob supplier ∷ []) (λ row. refl) clean_remembered remembered_key (Text ∷ Number ∷ Text ∷ Text ∷ []) (λ row. refl)
+    every_row remembered_total remembered_in shown_remembered five_columns by_four by_first (Blob supplier ∷ [])
+    (λ row. refl) clean_remembered remembered_key (Text ∷ Number ∷ Text ∷ Text ∷ []) (λ row. refl)
     (AreOf remembered_kinds 0) (λ (row : RememberedRow). row.side < 2 ^ 64) remembered_low
     (λ x y a b. ap₂ ordering_then (rank_bytes (column x 1) (column y 1) a.0.0 b.0.0) (ap₂ ordering_then (rank_numbers (column x 2) (column y 2) a.0.1.0 b.0.1.0 a.1 b.1) (ap₂ ordering_then (rank_bytes (column x 3) (column y 3) a.0.1.1.0 b.0.1.1.0) (then_none _ ∙ rank_bytes (column x 4) (column y 4) a.0.1.1.1.0 b.0.1.1.1.0))))
     (λ (row : RememberedRow). same row.supplier supplier) (λ row it. and_true _ ∙ cell_bytes (column row 1) supplier it.0)
@@ -143,7 +152,8 @@ pub mail_read : (supplier : List ℕ) (old new : State) (result : Result (Found 
     → Asks (AreRead shown_mail clean_mail (Text ∷ Number ∷ [])) (λ rows. ⊥) mail_text (Blob supplier ∷ []) old new result
     → LooksFor (λ t. IsRead mail_key clean_mail (view supplier t).mail) (λ t. ⊥) old new result
 mail_read supplier =
-    every_row mail_total mail_in shown_mail eight_columns by_two by_first (Blob supplier ∷ []) (λ row. refl) clean_mail mail_key (Text ∷ Number ∷ []) (λ row. refl)
+    every_row mail_total mail_in shown_mail eight_columns by_two by_first (Blob supplier ∷ [])
+    (λ row. refl) clean_mail mail_key (Text ∷ Number ∷ []) (λ row. refl)
     (AreOf mail_kinds 0) (λ (row : MailRow). row.number < 2 ^ 64) mail_low
     (λ x y a b. ap₂ ordering_then (rank_bytes (column x 1) (column y 1) a.0.0 b.0.0) (then_none _ ∙ rank_numbers (column x 2) (column y 2) a.0.1.0 b.0.1.0 a.1 b.1))
     (λ (row : MailRow). same row.supplier supplier) (λ row it. and_true _ ∙ cell_bytes (column row 1) supplier it.0)

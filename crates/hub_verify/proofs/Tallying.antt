@@ -142,7 +142,8 @@ module _ {S : Type 0} (content : S → Tables) (honest : S → Type 0) (kind : P
       nothing = none_kept (λ x. lower at (column x)) (rows (content s)) (all_if _ (rows (content s)) (λ x there.
           not_less (bytes_cmp (column x) at) (subst (λ v. ¬ (bytes_cmp (column x) v ≡ Less)) (sym none) (none_below (column x)))))
 
-  module _ (valued : (t : Tables) → values_in kind t ≡ map column (rows t)) (at slice : List ℕ) (here : slice ≡ at) (old mid new last : S) (all some : ℕ)
+  module _ (valued : (t : Tables) → values_in kind t ≡ map column (rows t)) (at slice : List ℕ) (here : slice ≡ at)
+      (old mid new last : S) (all some : ℕ)
       (so_far : Tells content honest (Tallied all some at) old mid (Ok tt))
       (xs ys : List X) (same_rows : ys ≡ xs) (read : Tells content honest (ArePiece slice) mid new (Ok xs))
       (more : ℕ) (grown : more ≡ all + length xs) (few : ℕ) (counted : few ≡ count_by apart ys)

@@ -4,4 +4,5 @@ use Rattle.hub_audit.proofs.kinds.pallets_of.Goals as goal
 
 pub returns-clause-looks : goal.returns-clause-looks
 returns-clause-looks g c =
-    pallets_read c.args.supplier.now (state g.S.Store c.args.conn.now) (state g.S.Store c.every.new.conn) c.every.result c.every.ensures.asks
+    pallets_read c.args.supplier.now (state g.S.Store c.args.conn.now) (state g.S.Store c.every.new.conn)
+    c.every.result c.every.ensures.asks
