@@ -4,7 +4,7 @@ ghost use Rattle.edi_relay.specs.Relay.{AreRelayWords};
 use edi_envelope::Moment;
 use edi_relay::{RelayWords, relay_run, relay_text};
 use edi_tokens::{ReadFault, Sink, Source};
-use hub_commands::{TextFault, check_run, key_in, read_key, read_register_text, show_run};
+use hub_commands::{RegisterTextFault, check_run, key_in, read_key, read_register_text, show_run};
 use std::alloc::Global;
 use std::io;
 use std::test::Fail;
@@ -348,7 +348,7 @@ fn a_register_is_checked(rt: HostRuntime) -> Result<(), Fail> {
     Ok(())
 }
 
-fn register_text(alloc: Global, input: &mut Brittle<'_>) -> Result<String, TextFault> {
+fn register_text(alloc: Global, input: &mut Brittle<'_>) -> Result<String, RegisterTextFault> {
     read_register_text(alloc, input)
 }
 
@@ -356,8 +356,8 @@ fn register_text(alloc: Global, input: &mut Brittle<'_>) -> Result<String, TextF
 fn is_read_as(alloc: Global, left: &[u8], fails: bool, is_read: bool) -> Result<bool, Fail> {
     match register_text(alloc, &mut Brittle { left, fails }) {
         Ok(text) => Ok(is_read && text.as_bytes() == left),
-        Err(TextFault::File) => Ok(!is_read),
-        Err(TextFault::Memory) => Err(Fail::new("out of memory")),
+        Err(RegisterTextFault::File) => Ok(!is_read),
+        Err(RegisterTextFault::Memory) => Err(Fail::new("out of memory")),
     }
 }
 

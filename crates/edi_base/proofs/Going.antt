@@ -4,7 +4,7 @@ use Rattle.std.proofs.Common.{◌∙◌, append_assoc}
 use Rattle.std.proofs.lemmas.List.{append-nil, take-append-drop}
 use Rattle.std.specs.Prelude.{IsErr}
 use Rattle.std.specs.Io.KnownBytes.{Appends, Consumes}
-use Rattle.edi_base.specs.Buffer.{Goes, Puts}
+use Rattle.edi_base.specs.Buffer.{WritesSome, Puts}
 
 Appends-nil : (a : Option (List ℕ)) → Appends a a []
 Appends-nil None = tt
@@ -17,14 +17,14 @@ Appends-then (Some x) (Some y) None xs ys p q = absurd q
 Appends-then (Some x) (Some y) (Some z) xs ys p q = q ∙ ap (λ l. l ++ ys) p ∙ append_assoc x xs ys
 
 -- nothing has been put yet
-pub goes_none : (a : Option (List ℕ)) (waiting whole : List ℕ) → Goes a a waiting waiting whole whole
+pub goes_none : (a : Option (List ℕ)) (waiting whole : List ℕ) → WritesSome a a waiting waiting whole whole
 goes_none a waiting whole = record { front = []; appends = Appends-nil a; parts = refl }
 
 -- one more part was put
 pub goes_put : {a b c : Option (List ℕ)} {waiting left later part ahead whole : List ℕ}
-    → Goes a b waiting left (part ++ ahead) whole
-    → Goes b c left later [] part
-    → Goes a c waiting later ahead whole
+    → WritesSome a b waiting left (part ++ ahead) whole
+    → WritesSome b c left later [] part
+    → WritesSome a c waiting later ahead whole
 goes_put {a} {b} {c} {waiting} {left} {later} {part} {ahead} {whole} so_far put = record {
   front = so_far.front ++ put.front;
   appends = Appends-then a b c so_far.front put.front so_far.appends put.appends;
@@ -38,9 +38,9 @@ goes_put {a} {b} {c} {waiting} {left} {later} {part} {ahead} {whole} so_far put 
 
 -- one more part was begun
 pub goes_cut : {a b c : Option (List ℕ)} {waiting left part whole : List ℕ} (ahead : List ℕ)
-    → Goes a b waiting left (part ++ ahead) whole
-    → ((rest : List ℕ) × Goes b c left [] rest part)
-    → (rest : List ℕ) × Goes a c waiting [] rest whole
+    → WritesSome a b waiting left (part ++ ahead) whole
+    → ((rest : List ℕ) × WritesSome b c left [] rest part)
+    → (rest : List ℕ) × WritesSome a c waiting [] rest whole
 goes_cut {a} {b} {c} {waiting} {left} {part} {whole} ahead so_far cut = (
   cut.0 ++ ahead,
   record {
@@ -57,16 +57,16 @@ goes_cut {a} {b} {c} {waiting} {left} {part} {whole} ahead so_far cut = (
 -- what is yet to come, written in another way
 pub goes_as : {a b : Option (List ℕ)} {waiting left whole : List ℕ} (x y : List ℕ)
     → x ≡ y
-    → Goes a b waiting left x whole
-    → Goes a b waiting left y whole
-goes_as {a} {b} {waiting} {left} {whole} x y e so_far = subst (λ (l : List ℕ). Goes a b waiting left l whole) e so_far
+    → WritesSome a b waiting left x whole
+    → WritesSome a b waiting left y whole
+goes_as {a} {b} {waiting} {left} {whole} x y e so_far = subst (λ (l : List ℕ). WritesSome a b waiting left l whole) e so_far
 
 -- what is yet to come, less what was written of it
 pub goes_written : {a b c : Option (List ℕ)} {waiting ahead whole : List ℕ} (n : ℕ) (rest : List ℕ)
-    → Goes a b waiting [] ahead whole
+    → WritesSome a b waiting [] ahead whole
     → Appends b c (take n ahead)
     → rest ≡ drop n ahead
-    → Goes a c waiting [] rest whole
+    → WritesSome a c waiting [] rest whole
 goes_written {a} {b} {c} {waiting} {ahead} {whole} n rest so_far written e = record {
   front = so_far.front ++ take n ahead;
   appends = Appends-then a b c so_far.front (take n ahead) so_far.appends written;
@@ -79,7 +79,7 @@ goes_written {a} {b} {c} {waiting} {ahead} {whole} n rest so_far written e = rec
 -- the last part was put completely, or begun
 pub puts_last : {E : Type 0} {a b : Option (List ℕ)} {waiting left part whole : List ℕ} (r : Result (Unit {0}) E)
     (c : Option (List ℕ)) (later : List ℕ)
-    → Goes a b waiting left part whole
+    → WritesSome a b waiting left part whole
     → Puts r b c left later part
     → Puts r a c waiting later whole
 puts_last {E} {a} {b} {waiting} {left} {part} {whole} (Ok done) c later so_far put =
@@ -90,7 +90,7 @@ puts_last {E} {a} {b} {waiting} {left} {part} {whole} (Err e) c later so_far cut
 -- a fault after a prefix was written
 pub puts_cut : {E : Type 0} {a c : Option (List ℕ)} {waiting whole : List ℕ} (r : Result (Unit {0}) E) (later : List ℕ)
     → IsErr r
-    → ((rest : List ℕ) × Goes a c waiting [] rest whole)
+    → ((rest : List ℕ) × WritesSome a c waiting [] rest whole)
     → Puts r a c waiting later whole
 puts_cut (Ok done) later e cut = absurd cc
 puts_cut (Err fault) later e cut = cut

@@ -9,26 +9,26 @@ Among f [] = ⊥
 Among f (x ∷ xs) = (f ≡ x) ⊎ Among f xs
 
 -- the numbers rise, and all are above n
-abbrev pub Above : {F : Type 0} → (F → ℕ) → ℕ → List F → Type 0
-Above number n [] = Unit {0}
-Above number n (x ∷ xs) = (n < number x) × Above number (number x) xs
+abbrev pub RiseAbove : {F : Type 0} → (F → ℕ) → ℕ → List F → Type 0
+RiseAbove number n [] = Unit {0}
+RiseAbove number n (x ∷ xs) = (n < number x) × RiseAbove number (number x) xs
 
 abbrev pub rise_above : {F : Type 0} → (F → ℕ) → ℕ → List F → Bool
 rise_above number n [] = true
 rise_above number n (x ∷ xs) = nat_lt n (number x) && rise_above number (number x) xs
 
 module _ {F : Type 0} (number : F → ℕ) where
-  pub Above-from_test : (n : ℕ) (xs : List F) → rise_above number n xs ≡ true → Above number n xs
-  Above-from_test n [] h = tt
-  Above-from_test n (x ∷ xs) h = let both = and_parts _ _ h in (ltb-true _ _ both.0, Above-from_test (number x) xs both.1)
+  pub RiseAbove-from_test : (n : ℕ) (xs : List F) → rise_above number n xs ≡ true → RiseAbove number n xs
+  RiseAbove-from_test n [] h = tt
+  RiseAbove-from_test n (x ∷ xs) h = let both = and_parts _ _ h in (ltb-true _ _ both.0, RiseAbove-from_test (number x) xs both.1)
 
-  above_each : (n : ℕ) (xs : List F) (f : F) → Above number n xs → Among f xs → n < number f
+  above_each : (n : ℕ) (xs : List F) (f : F) → RiseAbove number n xs → Among f xs → n < number f
   above_each n [] f h m = absurd m
   above_each n (x ∷ xs) f h (inl e) = rw e h.0
   above_each n (x ∷ xs) f h (inr m) = let later = above_each (number x) xs f h.1 m in omega arith
 
   not_below : (x : F) (xs : List F) (f g : F)
-      → Above number (number x) xs
+      → RiseAbove number (number x) xs
       → x ≡ f
       → Among g (x ∷ xs)
       → number g < number f
@@ -48,7 +48,7 @@ module _ {F : Type 0} (number : F → ℕ) where
         ]
 
     found_lowest : (n : ℕ) (xs : List F) (f g : F)
-        → Above number n xs
+        → RiseAbove number n xs
         → find p xs ≡ Some f
         → Among g xs
         → number g < number f
@@ -67,7 +67,7 @@ module _ {F : Type 0} (number : F → ℕ) where
 
     -- what holds is found, if nothing with a lower number does
     lowest_found : (n : ℕ) (xs : List F) (f : F)
-        → Above number n xs
+        → RiseAbove number n xs
         → Among f xs
         → p f ≡ true
         → ((g : F) → number g < number f → p g ≡ false)
@@ -94,7 +94,7 @@ module _ {F : Type 0} (number : F → ℕ) where
     none_hold (x ∷ xs) h = rw (h x) (none_hold xs h)
 
     -- for a list of all conditions that can hold
-    module _ (xs : List F) (rising : Above number 0 xs) (listed : (f : F) → (p f ≡ false) ⊎ Among f xs) where
+    module _ (xs : List F) (rising : RiseAbove number 0 xs) (listed : (f : F) → (p f ≡ false) ⊎ Among f xs) where
       pub holds_here : (f : F) → find p xs ≡ Some f → p f ≡ true
       holds_here f h = found_holds xs f h
 

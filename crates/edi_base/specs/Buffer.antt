@@ -3,7 +3,7 @@ use Rattle.std.specs.Prelude.{◌≡◌, ◌⊎◌, ℕ, ◌<◌, ◌+◌, Bool,
 use Rattle.std.specs.Io.KnownBytes.{Appends}
 
 -- of the waiting bytes followed by `whole`, a prefix was written, `left` still waits, and `ahead` is yet to come
-pub record Goes (old new : Option (List ℕ)) (waiting left ahead whole : List ℕ) : Type 0 where
+pub record WritesSome (old new : Option (List ℕ)) (waiting left ahead whole : List ℕ) : Type 0 where
   pub front : List ℕ
   pub appends : Appends old new front
   pub parts : front ++ (left ++ ahead) ≡ waiting ++ whole
@@ -11,8 +11,8 @@ pub record Goes (old new : Option (List ℕ)) (waiting left ahead whole : List �
 -- at Ok all bytes were written or wait; after a fault a prefix of them was written
 abbrev pub Puts : {E : Type 0} → Result (Unit {0}) E → Option (List ℕ) → Option (List ℕ) → List ℕ → List ℕ → List ℕ
     → Type 0
-Puts (Ok done) old new waiting left bytes = Goes old new waiting left [] bytes
-Puts (Err e) old new waiting left bytes = (rest : List ℕ) × Goes old new waiting [] rest bytes
+Puts (Ok done) old new waiting left bytes = WritesSome old new waiting left [] bytes
+Puts (Err e) old new waiting left bytes = (rest : List ℕ) × WritesSome old new waiting [] rest bytes
 
 -- a sink's `failed` flag: unchanged at Ok, set after a fault
 abbrev pub Flags : {E : Type 0} → Result (Unit {0}) E → Bool → Bool → Type 0
@@ -41,6 +41,6 @@ pub record NoneWait (old new : Option (List ℕ)) (waiting left bytes : List ℕ
   pub written : AppendsFront flushed new bytes
 
 -- what waits after bytes that did not fit after the waiting ones were not all written
-pub record Leaves (old new : Option (List ℕ)) (waiting left bytes : List ℕ) : Type 0 where
+pub record WaitsAfterFault (old new : Option (List ℕ)) (waiting left bytes : List ℕ) : Type 0 where
   pub full : room < length waiting + length bytes
   pub waits : StillWait old new waiting left ⊎ NoneWait old new waiting left bytes

@@ -1,7 +1,7 @@
 //! Collects bytes that are written together.
 
 ghost use Rattle.std.specs.Prelude.{◌≡◌, ◌+◌, ◌≤◌, [], ◌++◌, length, OnOk, OnErr};
-ghost use Rattle.edi_base.specs.Buffer.{Puts, Flags, Leaves};
+ghost use Rattle.edi_base.specs.Buffer.{Puts, Flags, WaitsAfterFault};
 
 use crate::sink::{Sink, WriteFault};
 use std::marker::Model;
@@ -75,7 +75,7 @@ impl Buffer {
     pub fn put<W: Sink>(&mut self, out: &mut W, bytes: &[u8]) -> Result<(), WriteFault>
         ensures bytes { Puts result (W.contents out.old) (W.contents out.new) self.old self.new bytes.now }
         ensures flag { Flags result (W.failed out.old) (W.failed out.new) }
-        ensures waits { OnErr result (Leaves (W.contents out.old) (W.contents out.new) self.old self.new bytes.now) }
+        ensures waits { OnErr result (WaitsAfterFault (W.contents out.old) (W.contents out.new) self.old self.new bytes.now) }
     {
         if bytes.len() > ROOM - self.filled {
             self.flush(out)?;

@@ -75,7 +75,7 @@ impl<T> Items<T> {
 }
 
 /// Copies bytes.
-pub fn copied(alloc: Global, bytes: &[u8]) -> Result<Items<u8>, MemoryFault>
+pub fn copy_bytes(alloc: Global, bytes: &[u8]) -> Result<Items<u8>, MemoryFault>
     ensures { IfOk result (λ copy. copy ≡ bytes.now) }
 {
     Ok(Items::from_vec(Vec::from_slice(alloc, bytes)?))

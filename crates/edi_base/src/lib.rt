@@ -12,7 +12,7 @@ mod sink;
 mod source;
 
 pub use buffer::Buffer;
-pub use items::{Items, copied};
+pub use items::{Items, copy_bytes};
 pub use limits::{
     GREATEST, all_printable, are_digits, count_of, has_length, is_count_of, value_of,
 };

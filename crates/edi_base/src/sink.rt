@@ -80,7 +80,7 @@ impl<W> OfWrite<W> {
     }
 
     /// Whether a write has failed so far.
-    pub fn failed(&self) -> bool
+    pub fn has_failed(&self) -> bool
         ensures { result ≡ self.now.1 }
     {
         self.failed

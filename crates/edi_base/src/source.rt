@@ -69,7 +69,7 @@ impl<R> OfRead<R> {
     }
 
     /// Whether a read has returned an error so far.
-    pub fn failed(&self) -> bool
+    pub fn has_failed(&self) -> bool
         ensures { result ≡ self.now.1 }
     {
         self.failed

@@ -13,7 +13,7 @@ use Rattle.edi_envelope.specs.declared.fault.EnvelopeFault.{EnvelopeFault}
 use Rattle.edi_envelope.specs.declared.fault.EnvelopeFault.TheVariants.{InterchangeFrame}
 use Rattle.edi_envelope.specs.declared.header.HeaderMarks.{HeaderMarks}
 use Rattle.edi_envelope.specs.declared.check.EnvelopeCheck.{EnvelopeCheck}
-use Rattle.edi_envelope.specs.declared.check.Marks.{Marks}
+use Rattle.edi_envelope.specs.declared.check.EnvelopeConditions.{EnvelopeConditions}
 use Rattle.edi_envelope.specs.Segments.{is_unz, component, first_segment, last_segment, between}
 use Rattle.edi_envelope.specs.Limits.{is_reference}
 use Rattle.edi_envelope.specs.Header.{is_valid_header, is_test}
@@ -50,7 +50,7 @@ outside_more (u ∷ m) s h old new f before is =
     ∙ and_or (marks_of u).seven_bit (list_any has_high_data (u ∷ m)) (has_high_data s))
 
 -- the conditions of segments as they are defined
-abbrev exact : List Segment → Marks
+abbrev exact : List Segment → EnvelopeConditions
 exact xs = record {
   interchange_header = not (is_valid_header (first_segment xs));
   message_header = not (list_all is_within_limits (messages_in xs));
@@ -82,7 +82,7 @@ fault_of-lost xs h f r taken =
       | inr not_so ↦ rw (f, not_so, taken ∙ not_so) refl
     ]
 
-lowest_same : (a b : Marks)
+lowest_same : (a b : EnvelopeConditions)
     → a.interchange_header ≡ b.interchange_header
     → a.message_header ≡ b.message_header
     → a.segment_count ≡ b.segment_count
@@ -211,7 +211,7 @@ ends_in_row [] z j r unz = absurd (false≢true r.fronted.begins)
 ends_in_row (u ∷ m) z j r unz = row_at u m z j r unz
 
 -- nothing is marked
-record Unmarked (m : Marks) : Type 0 where
+record Unmarked (m : EnvelopeConditions) : Type 0 where
   pub interchange_header : m.interchange_header ≡ false
   pub message_header : m.message_header ≡ false
   pub segment_count : m.segment_count ≡ false
@@ -221,7 +221,7 @@ record Unmarked (m : Marks) : Type 0 where
   pub too_many_messages : m.too_many_messages ≡ false
   pub character_set : m.character_set ≡ false
 
-abbrev marks : Bool → Bool → Bool → Bool → Bool → Bool → Bool → Bool → Bool → Bool → Marks
+abbrev marks : Bool → Bool → Bool → Bool → Bool → Bool → Bool → Bool → Bool → Bool → EnvelopeConditions
 marks a b c d e f g h i k = record {
   interchange_header = a;
   message_header = b;

@@ -15,7 +15,7 @@ use Rattle.edi_envelope.specs.Header.{head_of}
 use Rattle.edi_envelope.specs.Blocks.{blocks}
 use Rattle.edi_envelope.specs.Message.{message_of}
 use Rattle.edi_envelope.specs.Check.{IsGoingOn, IsBegun, Placed}
-use Rattle.edi_envelope.specs.Gathered.{head_in, IsLast, Keeps, Whole, Ends, Gathers}
+use Rattle.edi_envelope.specs.Gathered.{head_in, IsLast, KeepsMessages, HasAllMessages, EndsMessages, Gathers}
 use Rattle.edi_envelope.proofs.BlockLemmas.{blocks-at}
 use Rattle.edi_envelope.proofs.FrameLemmas.{other_tag}
 use Rattle.edi_envelope.proofs.JoinLemmas.{between_of}
@@ -35,7 +35,7 @@ pub joined : (m before l : List Segment) → m ≡ before ++ l → IsLast before
 joined m before [] split is some = absurd (some refl)
 joined m before (u ∷ ys) split is some = ap blocks split ∙ blocks-at before u ys is.0 is.1
 
-pub closed_empty : (lent : List Segment) (g : Gathered) → Keeps lent g → g.last.items ≡ [] → Whole lent g
+pub closed_empty : (lent : List Segment) (g : Gathered) → KeepsMessages lent g → g.last.items ≡ [] → HasAllMessages lent g
 closed_empty lent g k none = record {
   head = k.head;
   last = none;
@@ -43,7 +43,7 @@ closed_empty lent g k none = record {
       k.messages ∙ ap (λ l. map message_of (blocks l)) (sym (k.split ∙ ap (λ l. k.before ++ l) none ∙ append-nil k.before));
 }
 
-pub closed_more : (lent : List Segment) (g : Gathered) (messages : List RawMessage) (message : RawMessage) → Keeps lent g
+pub closed_more : (lent : List Segment) (g : Gathered) (messages : List RawMessage) (message : RawMessage) → KeepsMessages lent g
     → g.last.items ≢ []
     → message ≡ message_of g.last.items
     → messages ≡ g.messages.items ++ message ∷ []
@@ -56,7 +56,7 @@ closed_more lent g messages message k some is put =
 pub not_last : (lent : List Segment) (s : Segment) → is_unz s ≡ false → is_unz (last_segment (lent ++ s ∷ [])) ≡ false
 not_last lent s h = ap is_unz (last_at lent s) ∙ h
 
-going_gathers : (lent : List Segment) (g : Gathered) → is_unz (last_segment lent) ≡ false → Keeps lent g → Gathers lent g
+going_gathers : (lent : List Segment) (g : Gathered) → is_unz (last_segment lent) ≡ false → KeepsMessages lent g → Gathers lent g
 going_gathers lent g z k = record { going = λ _. k; ended = λ e. absurd (true≢false (sym e ∙ z)) }
 
 pub header_kept : (p : Place) (lent : List Segment) (g new : Gathered) (s : Segment) → p ≡ place.Header → Gathers lent g → Placed p lent s
@@ -66,7 +66,7 @@ pub header_kept : (p : Place) (lent : List Segment) (g new : Gathered) (s : Segm
     → Gathers (lent ++ s ∷ []) new
 header_kept p lent g new s is gathers placed head messages last =
     let at = subst (λ (q : Place). Placed q lent s) is placed in
-    let k = subst (λ (l : List Segment). Keeps l g) at.0 (gathers.going (ap (λ l. is_unz (last_segment l)) at.0)) in
+    let k = subst (λ (l : List Segment). KeepsMessages l g) at.0 (gathers.going (ap (λ l. is_unz (last_segment l)) at.0)) in
     subst (λ (l : List Segment). Gathers (l ++ s ∷ []) new) (sym at.0)
     (going_gathers (s ∷ []) new (other_tag s.tag (codes "UNB") (codes "UNZ") refl at.1)
     (record {
@@ -77,7 +77,8 @@ header_kept p lent g new s is gathers placed head messages last =
       messages = messages ∙ k.messages;
     }))
 
-pub unh_kept : (p : Place) (lent : List Segment) (g new : Gathered) (s : Segment) → p ≡ place.MessageHeader → Whole lent g → Placed p lent s
+pub unh_kept : (p : Place) (lent : List Segment) (g new : Gathered) (s : Segment) → p ≡ place.MessageHeader → HasAllMessages lent g
+    → Placed p lent s
     → new.head ≡ g.head
     → new.messages.items ≡ g.messages.items
     → new.last.items ≡ g.last.items ++ s ∷ []
@@ -100,16 +101,16 @@ last_more before [] s is some not_h = absurd (false≢true (ap (λ b. list_any i
 last_more before (u ∷ ys) s is some not_h =
     (is.0, list_any-append is_unh ys (s ∷ []) ∙ or_from (list_any is_unh ys) _ is.1 (or_from (is_unh s) false not_h refl))
 
-pub record Goes (lent : List Segment) (s : Segment) : Type 0 where
+pub record GoesOnInMessage (lent : List Segment) (s : Segment) : Type 0 where
   pub going : IsGoingOn lent
   pub begun : IsBegun lent
   pub not_h : is_unh s ≡ false
   pub not_z : is_unz s ≡ false
 
-inside_goes : (lent : List Segment) (s : Segment) → Placed place.Inside lent s → Goes lent s
+inside_goes : (lent : List Segment) (s : Segment) → Placed place.Inside lent s → GoesOnInMessage lent s
 inside_goes lent s h = record { going = h.0; begun = h.1; not_h = (frame_tags s h.2).0; not_z = h.3 }
 
-trailer_goes : (lent : List Segment) (s : Segment) → Placed place.MessageTrailer lent s → Goes lent s
+trailer_goes : (lent : List Segment) (s : Segment) → Placed place.MessageTrailer lent s → GoesOnInMessage lent s
 trailer_goes lent s h = record {
   going = h.0;
   begun = h.1;
@@ -118,11 +119,11 @@ trailer_goes lent s h = record {
 }
 
 pub goes_at : (p : Place) (lent : List Segment) (s : Segment) → (p ≡ place.Inside)
-    ⊎ (p ≡ place.MessageTrailer) → Placed p lent s → Goes lent s
+    ⊎ (p ≡ place.MessageTrailer) → Placed p lent s → GoesOnInMessage lent s
 goes_at p lent s (inl is) placed = inside_goes lent s (subst (λ (q : Place). Placed q lent s) is placed)
 goes_at p lent s (inr is) placed = trailer_goes lent s (subst (λ (q : Place). Placed q lent s) is placed)
 
-pub inside_kept : (lent : List Segment) (g new : Gathered) (s : Segment) → Gathers lent g → Goes lent s
+pub inside_kept : (lent : List Segment) (g new : Gathered) (s : Segment) → Gathers lent g → GoesOnInMessage lent s
     → new.head ≡ g.head
     → new.messages.items ≡ g.messages.items
     → new.last.items ≡ g.last.items ++ s ∷ []
@@ -142,12 +143,13 @@ inside_kept lent g new s gathers goes head messages last =
       messages = messages ∙ k.messages;
     })
 
-ends_at : (lent : List Segment) (g : Gathered) (z : Segment) → Whole lent g → 0 < length lent → Ends (lent ++ z ∷ []) g
+ends_at : (lent : List Segment) (g : Gathered) (z : Segment) → HasAllMessages lent g → 0 < length lent → EndsMessages (lent ++ z ∷ []) g
 ends_at [] g z w some = absurd (omega arith)
 ends_at (u ∷ m) g z w some =
     record { head = w.head; messages = w.messages ∙ ap (λ l. map message_of (blocks l)) (sym (between_of u m z)) }
 
-pub trailer_kept : (p : Place) (lent : List Segment) (g : Gathered) (z : Segment) → p ≡ place.Trailer → Whole lent g → Placed p lent z
+pub trailer_kept : (p : Place) (lent : List Segment) (g : Gathered) (z : Segment) → p ≡ place.Trailer → HasAllMessages lent g
+    → Placed p lent z
     → Gathers (lent ++ z ∷ []) g
 trailer_kept p lent g z is w placed =
     let at = subst (λ (q : Place). Placed q lent z) is placed in
@@ -157,7 +159,7 @@ trailer_kept p lent g z is w placed =
 pub keeps_at : (p : Place) (lent : List Segment) (g : Gathered) (s : Segment) →
     (p ≡ place.MessageHeader) ⊎ (p ≡ place.Trailer) → Gathers lent g
     → Placed p lent s
-    → Keeps lent g
+    → KeepsMessages lent g
 keeps_at p lent g s (inl is) gathers placed = gathers.going (subst (λ (q : Place). Placed q lent s) is placed).0.1
 keeps_at p lent g s (inr is) gathers placed = gathers.going (subst (λ (q : Place). Placed q lent s) is placed).0.1
 

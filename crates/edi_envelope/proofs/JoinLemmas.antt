@@ -14,7 +14,7 @@ use Rattle.edi_envelope.specs.Header.{head_of}
 use Rattle.edi_envelope.specs.Blocks.{before_message, blocks}
 use Rattle.edi_envelope.specs.Message.{is_frame, is_block, message_of}
 use Rattle.edi_envelope.specs.Interchange.{is_framed, is_row_of_messages, messages_in, contents_of}
-use Rattle.edi_envelope.specs.Law.{IsFaultless, IsMessage, IsInterchange}
+use Rattle.edi_envelope.specs.Law.{HasNoEnvelopeFault, IsMessage, IsInterchange}
 use Rattle.edi_envelope.proofs.FrameLemmas.{framed_unb, framed_unz, framed_length, front_is, other_tag}
 
 -- the first segment, what stands between, and the last
@@ -48,7 +48,7 @@ all_messages (b ∷ bs) h =
     (record { block = parts.0; fields = refl }, all_messages bs parts.1)
 
 -- the contents of segments without a fault are an interchange of them
-pub IsInterchange-contents : (tokens : Tokens) → IsFaultless tokens.segments → IsInterchange tokens (contents_of tokens)
+pub IsInterchange-contents : (tokens : Tokens) → HasNoEnvelopeFault tokens.segments → IsInterchange tokens (contents_of tokens)
 unfolding contents_of is_row_of_messages
 IsInterchange-contents tokens h =
     let xs = tokens.segments in

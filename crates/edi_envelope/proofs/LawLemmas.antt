@@ -3,7 +3,7 @@ use Rattle.std.proofs.Common.{◌≡◌, ◌≤◌, length, ◌⊎◌, inl, inr,
 use Rattle.std.proofs.Common.{Ok, Err, refl, sym, ap, ◌∙◌, arith}
 use Rattle.std.proofs.lemmas.Bool.{ltb-false}
 use Rattle.std.proofs.lemmas.List.{length-map}
-use Rattle.edi_base.proofs.Lowest.{Among, Above, Above-from_test, holds_here, none_lower, is_found, all_false, is_none}
+use Rattle.edi_base.proofs.Lowest.{Among, RiseAbove, RiseAbove-from_test, holds_here, none_lower, is_found, all_false, is_none}
 use Rattle.edi_envelope.specs.Message.{message_of}
 use Rattle.edi_segments.specs.declared.segment.Segment.{Segment}
 use Rattle.edi_envelope.specs.declared.fault.EnvelopeFault.{EnvelopeFault}
@@ -16,10 +16,10 @@ use Rattle.edi_envelope.specs.Fault.{number}
 use Rattle.edi_segments.specs.declared.segment.Tokens.{Tokens}
 use Rattle.edi_envelope.specs.declared.interchange.Interchange.{Interchange}
 use Rattle.edi_envelope.specs.Interchange.{holds, faults, fault_of, checked, contents_of, interchange_of, messages_in}
-use Rattle.edi_envelope.specs.Law.{IsLowest, IsFaultless}
+use Rattle.edi_envelope.specs.Law.{IsLowestEnvelopeFault, HasNoEnvelopeFault}
 
-rising : Above number 0 faults
-rising = Above-from_test number 0 faults refl
+rising : RiseAbove number 0 faults
+rising = RiseAbove-from_test number 0 faults refl
 
 -- each fault but out of memory is listed
 listed : (f : EnvelopeFault) → (f ≡ Memory) ⊎ Among f faults
@@ -47,23 +47,23 @@ listed_or_false segments f =
     elim (listed f) [ inl memory ↦ inl (not_memory f segments memory) | inr among ↦ inr among ]
 
 module _ (segments : List Segment) where
-  pub IsLowest-from_fault_of : (f : EnvelopeFault) → fault_of segments ≡ Some f → IsLowest f segments
+  pub IsLowestEnvelopeFault-from_fault_of : (f : EnvelopeFault) → fault_of segments ≡ Some f → IsLowestEnvelopeFault f segments
   unfolding fault_of
-  IsLowest-from_fault_of f h = record {
+  IsLowestEnvelopeFault-from_fault_of f h = record {
     here = holds_here number (λ fault. holds fault segments) faults rising (listed_or_false segments) f h;
     lower = none_lower number (λ fault. holds fault segments) faults rising (listed_or_false segments) f h;
   }
 
-  pub fault_of-lowest : (f : EnvelopeFault) → IsLowest f segments → fault_of segments ≡ Some f
+  pub fault_of-lowest : (f : EnvelopeFault) → IsLowestEnvelopeFault f segments → fault_of segments ≡ Some f
   unfolding fault_of
   fault_of-lowest f h =
       is_found number (λ fault. holds fault segments) faults rising (listed_or_false segments) f h.here h.lower
 
-  pub IsFaultless-from_none : fault_of segments ≡ None → IsFaultless segments
+  pub HasNoEnvelopeFault-from_none : fault_of segments ≡ None → HasNoEnvelopeFault segments
   unfolding fault_of
-  IsFaultless-from_none h = all_false number (λ fault. holds fault segments) faults rising (listed_or_false segments) h
+  HasNoEnvelopeFault-from_none h = all_false number (λ fault. holds fault segments) faults rising (listed_or_false segments) h
 
-  pub fault_of-none : IsFaultless segments → fault_of segments ≡ None
+  pub fault_of-none : HasNoEnvelopeFault segments → fault_of segments ≡ None
   unfolding fault_of
   fault_of-none h = is_none number (λ fault. holds fault segments) faults rising (listed_or_false segments) h
 
@@ -78,24 +78,24 @@ checked_contents None contents i h = (refl, cc)
 checked_contents (Some g) contents i h = cc
 
 pub fault_law : (tokens : Tokens) (f : EnvelopeFault)
-    → (interchange_of tokens ≡ Err f → IsLowest f tokens.segments)
-    × (IsLowest f tokens.segments → interchange_of tokens ≡ Err f)
+    → (interchange_of tokens ≡ Err f → IsLowestEnvelopeFault f tokens.segments)
+    × (IsLowestEnvelopeFault f tokens.segments → interchange_of tokens ≡ Err f)
 unfolding interchange_of
 fault_law tokens f = (
-  (λ h. IsLowest-from_fault_of tokens.segments f (checked_fault (fault_of tokens.segments) (contents_of tokens) f h)),
+  (λ h. IsLowestEnvelopeFault-from_fault_of tokens.segments f (checked_fault (fault_of tokens.segments) (contents_of tokens) f h)),
   (λ h. ap (λ found. checked found (contents_of tokens)) (fault_of-lowest tokens.segments f h)),
 )
 
 pub contents_law : (tokens : Tokens) (i : Interchange)
     → interchange_of tokens ≡ Ok i
-    → IsFaultless tokens.segments × (i ≡ contents_of tokens)
+    → HasNoEnvelopeFault tokens.segments × (i ≡ contents_of tokens)
 unfolding interchange_of
 contents_law tokens i h =
     let both = checked_contents (fault_of tokens.segments) (contents_of tokens) i h in
-    (IsFaultless-from_none tokens.segments both.0, both.1)
+    (HasNoEnvelopeFault-from_none tokens.segments both.0, both.1)
 
 pub contents_again : (tokens : Tokens) (i : Interchange)
-    → IsFaultless tokens.segments
+    → HasNoEnvelopeFault tokens.segments
     → i ≡ contents_of tokens
     → interchange_of tokens ≡ Ok i
 unfolding interchange_of

@@ -17,14 +17,14 @@ use Rattle.edi_envelope.specs.Segments.{is_unb, first_segment}
 use Rattle.edi_envelope.specs.Header.{head_of}
 use Rattle.edi_envelope.specs.Interchange.{is_framed, fault_of, contents_of, interchange_of, checked}
 use Rattle.edi_envelope.specs.Check.{Checked, Placed, is_fine}
-use Rattle.edi_envelope.specs.Gathered.{head_in, Gathers, Ends, IsOf, Stands, IsChecked}
+use Rattle.edi_envelope.specs.Gathered.{head_in, Gathers, EndsMessages, IsInterchangeOf, OpeningStands, IsChecked}
 use Rattle.edi_envelope.proofs.FrameLemmas.{framed_unb, framed_unz}
 use Rattle.edi_envelope.proofs.JoinLemmas.{same_interchange}
-use Rattle.edi_envelope.proofs.LawLemmas.{IsFaultless-from_none, contents_again, few_messages}
+use Rattle.edi_envelope.proofs.LawLemmas.{HasNoEnvelopeFault-from_none, contents_again, few_messages}
 
 -- one more segment, which is kept
 module _ (lent : List Segment) (s t : Segment) (o : Opening) (check : EnvelopeCheck) (stands : Place) (same : t ≡ s)
-    (before : Stands lent o)
+    (before : OpeningStands lent o)
     (checked_next : Checked (lent ++ t ∷ []) check) (placed : Placed stands lent t)
     (refused : (stands ≡ place.Refused) → is_fine check ≡ false)
     (for_good : is_fine check ≡ true → is_fine o.check ≡ true) where
@@ -36,14 +36,15 @@ module _ (lent : List Segment) (s t : Segment) (o : Opening) (check : EnvelopeCh
 
   pub keeps : {E A : Type 0} (r : Result A E) (gathered : Gathered)
       → (Gathers lent o.gathered → stands ≢ place.Refused → Placed stands lent s → OnOk r (Gathers (lent ++ s ∷ []) gathered))
-      → OnOk r (Stands (lent ++ s ∷ []) (record { check = check; gathered = gathered }))
+      → OnOk r (OpeningStands (lent ++ s ∷ []) (record { check = check; gathered = gathered }))
   keeps (Ok a) gathered kept = record {
     checked = checked_so;
     kept = λ fine. kept (before.kept (for_good fine)) (λ e. true≢false (sym fine ∙ refused e)) placed_so;
   }
   keeps (Err e) gathered kept = tt
 
-  pub drops : (gathered : Gathered) → stands ≡ place.Refused → Stands (lent ++ s ∷ []) (record { check = check; gathered = gathered })
+  pub drops : (gathered : Gathered) → stands ≡ place.Refused
+      → OpeningStands (lent ++ s ∷ []) (record { check = check; gathered = gathered })
   drops gathered is = record { checked = checked_so; kept = λ fine. absurd (true≢false (sym fine ∙ refused is)) }
 
 -- ---- the end
@@ -57,24 +58,24 @@ head_first : (xs : List Segment) → is_unb (first_segment xs) ≡ true → head
 head_first [] h = absurd (false≢true h)
 head_first (u ∷ m) h = refl
 
-module _ (tokens : Tokens) (o : Opening) (stands : Stands tokens.segments o) (none : fault_of tokens.segments ≡ None)
+module _ (tokens : Tokens) (o : Opening) (stands : OpeningStands tokens.segments o) (none : fault_of tokens.segments ≡ None)
     (fine : is_fine o.check ≡ true) where
   framed : is_framed tokens.segments ≡ true
-  framed = not-false _ (IsFaultless-from_none tokens.segments none InterchangeFrame)
+  framed = not-false _ (HasNoEnvelopeFault-from_none tokens.segments none InterchangeFrame)
 
-  ended : Ends tokens.segments o.gathered
+  ended : EndsMessages tokens.segments o.gathered
   ended = (stands.kept fine).ended (framed_unz tokens.segments framed)
 
   head_is : o.gathered.head ≡ Some (head_of (first_segment tokens.segments))
   head_is = ended.head ∙ head_first tokens.segments (framed_unb tokens.segments framed)
 
   pub opened_as : (decimal : ℕ) (i : Interchange) → tokens.service.decimal ≡ decimal →
-      IsOf o.gathered decimal i → interchange_of tokens ≡ Ok i
+      IsInterchangeOf o.gathered decimal i → interchange_of tokens ≡ Ok i
   unfolding contents_of
   opened_as decimal i mark is =
       let heads : Some i.head ≡ Some (head_of (first_segment tokens.segments)) = sym is.head ∙ head_is in
       let head : i.head ≡ head_of (first_segment tokens.segments) = cc in
-      contents_again tokens i (IsFaultless-from_none tokens.segments none)
+      contents_again tokens i (HasNoEnvelopeFault-from_none tokens.segments none)
       (same_interchange i (contents_of tokens) (is.decimal_is ∙ sym mark) head (is.messages ∙ ended.messages))
 
   pub has_head : o.gathered.head ≡ None → (r : Result Interchange EnvelopeFault) → interchange_of tokens ≡ r

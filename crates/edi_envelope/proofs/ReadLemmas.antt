@@ -8,7 +8,8 @@ use Rattle.edi_segments.specs.declared.fault.TokenFault.{TokenFault}
 use Rattle.edi_segments.specs.declared.fault.TokenFault.TheVariants as token
 use Rattle.edi_segments.specs.Reading.{tokens_of}
 use Rattle.edi_segments.specs.Machine.{tokens_at}
-use Rattle.edi_tokens.specs.Lender.{AtEnd, Came, Fed, HasCause, TellsSome, Told, Feeds, Flags, TakesOf, answered, lent_by, room_of, stopped}
+use Rattle.edi_tokens.specs.Lender.{AtEnd, Came, Fed, HasCause, TellsSome, TellsNext, Feeds, FaultHasCause, TakesOf, answered, lent_by}
+use Rattle.edi_tokens.specs.Lender.{room_of, stopped}
 use Rattle.edi_tokens.proofs.Lending.{takes_none, takes_then}
 use Rattle.edi_envelope.specs.declared.opening.Opening.{Opening}
 use Rattle.edi_segments.specs.declared.fault.TokenFault.TheVariants.{TooLong, ServiceString, Byte, Cut, Tag, LongSegment, Read, Memory}
@@ -19,11 +20,11 @@ use Rattle.edi_envelope.specs.declared.fault.OpenFault.{OpenFault}
 use Rattle.edi_envelope.specs.declared.fault.OpenFault.TheVariants.{Token, Envelope}
 use Rattle.edi_envelope.specs.declared.interchange.Interchange.{Interchange}
 use Rattle.edi_envelope.specs.Interchange.{interchange_of}
-use Rattle.edi_envelope.specs.Gathered.{Stands, HasRead, Reads, ReadsSome}
+use Rattle.edi_envelope.specs.Gathered.{OpeningStands, HasRead, ReadsOpening, ReadsSome}
 use Rattle.edi_envelope.specs.Opened.{checked_as, read_as, opened, Opens}
 
 module _ (before : Option (List ℕ)) (was : Bool) (old : Lender) where
-  pub nothing_read : (opening : Opening) → Stands [] opening → HasRead before before was was old opening old
+  pub nothing_read : (opening : Opening) → OpeningStands [] opening → HasRead before before was was old opening old
   nothing_read opening stands = record {
     lent = [];
     stands = stands;
@@ -39,9 +40,9 @@ module _ (before : Option (List ℕ)) (was : Bool) (old : Lender) where
       (result : Result Bool TokenFault) (read : HasRead before between was flag old opening now)
       (feeds : Feeds between after flag failed now (answered result new) new) where
     told_as : (given : Result Bool TokenFault) → result ≡ given
-        → (all : List ℕ) → Fed before all [] old → Told after all read.lent (answered given new) new
+        → (all : List ℕ) → Fed before all [] old → TellsNext after all read.lent (answered given new) new
     told_as given is all fed =
-        subst (λ (r : Result Bool TokenFault). Told after all read.lent (answered r new) new) is
+        subst (λ (r : Result Bool TokenFault). TellsNext after all read.lent (answered r new) new) is
         (feeds.told all read.lent (read.fed all fed))
 
     some_as : (given : Result Bool TokenFault) → result ≡ given → Came [] old → TellsSome read.lent (answered given new) new
@@ -54,9 +55,9 @@ module _ (before : Option (List ℕ)) (was : Bool) (old : Lender) where
     pub ends_then : AtEnd before old → AtEnd after new
     ends_then end = feeds.ends (read.ends end)
 
-    flags_as : (given : Result Bool TokenFault) → result ≡ given → stopped old ≡ None → Flags (answered given new) flag failed
+    flags_as : (given : Result Bool TokenFault) → result ≡ given → stopped old ≡ None → FaultHasCause (answered given new) flag failed
     flags_as given is begun =
-        subst (λ (r : Result Bool TokenFault). Flags (answered r new) flag failed) is (feeds.flag (read.going begun))
+        subst (λ (r : Result Bool TokenFault). FaultHasCause (answered r new) flag failed) is (feeds.flag (read.going begun))
 
     pub still_flagged : (more : Bool) → result ≡ Ok more → stopped old ≡ None → failed ≡ was
     still_flagged true is begun = flags_as (Ok true) is begun ∙ read.flag begun
@@ -75,15 +76,15 @@ module _ (before : Option (List ℕ)) (was : Bool) (old : Lender) where
     fault_of_some fault is came = some_as (Err fault) is came
 
     pub end_of_some : result ≡ Ok false → Came [] old
-        → (lent : List Segment) × Stands lent opening × ((all : List ℕ) × (tokens_of all ≡ Ok (tokens_at lent new.machine)))
+        → (lent : List Segment) × OpeningStands lent opening × ((all : List ℕ) × (tokens_of all ≡ Ok (tokens_at lent new.machine)))
     end_of_some is came = (read.lent, read.stands, (some_as (Ok false) is came).1)
 
     pub end_told : result ≡ Ok false
-        → (lent : List Segment) × Stands lent opening
+        → (lent : List Segment) × OpeningStands lent opening
         × ((all : List ℕ) → Fed before all [] old → tokens_of all ≡ Ok (tokens_at lent new.machine))
     end_told is = (read.lent, read.stands, λ all fed. (told_as (Ok false) is all fed).1)
 
-    pub more_read : (next : Opening) → result ≡ Ok true → Stands (read.lent ++ lent_by new ∷ []) next
+    pub more_read : (next : Opening) → result ≡ Ok true → OpeningStands (read.lent ++ lent_by new ∷ []) next
         → HasRead before after was failed old next new
     more_read next is stands = record {
       lent = read.lent ++ lent_by new ∷ [];
@@ -91,7 +92,7 @@ module _ (before : Option (List ℕ)) (was : Bool) (old : Lender) where
       fed = λ all fed. told_as (Ok true) is all fed;
       some = λ came. some_as (Ok true) is came;
       flag = λ e.
-          subst (λ (r : Result Bool TokenFault). Flags (answered r new) flag failed) is (feeds.flag (read.going e)) ∙ read.flag e;
+          subst (λ (r : Result Bool TokenFault). FaultHasCause (answered r new) flag failed) is (feeds.flag (read.going e)) ∙ read.flag e;
       going = λ e. subst (λ (r : Result Bool TokenFault). OnOk (answered r new) (stopped new ≡ None)) is feeds.goes_on;
       bound = bound_then;
       ends = ends_then;
@@ -125,7 +126,7 @@ opens_envelope envelope.TooManyMessages given h = h
 opens_envelope envelope.CharacterSet given h = h
 opens_envelope envelope.Memory given h = tt
 
-pub fault_opens : (known : Option (List ℕ)) (old new : Lender) (fault : OpenFault) → Reads known old (Err fault) new
+pub fault_opens : (known : Option (List ℕ)) (old new : Lender) (fault : OpenFault) → ReadsOpening known old (Err fault) new
     → (all : List ℕ) → Fed known all [] old → Opens (Err fault) (opened all)
 fault_opens known old new (Token fault) h all fed = opens_token fault all (h all fed)
 fault_opens known old new (Envelope fault) h all fed =

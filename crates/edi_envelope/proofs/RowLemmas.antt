@@ -162,8 +162,8 @@ plain_more body s none h =
     list_any-append is_frame body (s ∷ []) ∙ or_from (list_any is_frame body) _ none (or_from (is_frame s) false h refl)
 
 -- a message that is begun, and what follows
-abbrev Begun : List Segment → Type 0
-Begun xs = (u : Segment) (body : List Segment) → is_unh u ≡ true → list_any is_frame body ≡ false
+abbrev BegunFollows : List Segment → Type 0
+BegunFollows xs = (u : Segment) (body : List Segment) → is_unh u ≡ true → list_any is_frame body ≡ false
     → (is_block (u ∷ body ++ before_message xs) && list_all is_block (blocks xs)) ≡ follows true xs
 
 -- a message that has ended, and what follows
@@ -171,13 +171,13 @@ abbrev Done : List Segment → Type 0
 Done xs = (u : Segment) (body : List Segment) (t : Segment) → is_unh u ≡ true → list_any is_frame body ≡ false → is_unt t ≡ true
     → (is_block (u ∷ body ++ t ∷ before_message xs) && list_all is_block (blocks xs)) ≡ follows false xs
 
-begun_end : Begun []
+begun_end : BegunFollows []
 begun_end u body is none = ap (λ l. is_block (u ∷ l) && true) (append-nil body) ∙ ap (λ b. b && true) (no_unt u body is none)
 
 done_end : Done []
 done_end u body t is none h = rw (whole_block u body t is none h) refl
 
-begun_more : (s : Segment) (xs : List Segment) → Begun xs → Done xs → Begun (s ∷ xs)
+begun_more : (s : Segment) (xs : List Segment) → BegunFollows xs → Done xs → BegunFollows (s ∷ xs)
 begun_more s xs more done u body is none =
     elim (cases_Bool (is_unh s)) [
       | inl unh ↦
@@ -199,14 +199,14 @@ begun_more s xs more done u body is none =
       ]
     ]
 
-done_more : (s : Segment) (xs : List Segment) → Begun xs → Done (s ∷ xs)
+done_more : (s : Segment) (xs : List Segment) → BegunFollows xs → Done (s ∷ xs)
 done_more s xs more u body t is none h =
     elim (cases_Bool (is_unh s)) [
       | inl unh ↦ rw (unh, whole_block u body t is none h) (more s [] unh refl)
       | inr not_h ↦ rw (not_h, unt_inside u body t s (before_message xs) h) refl
     ]
 
-rows : (xs : List Segment) → Begun xs × Done xs
+rows : (xs : List Segment) → BegunFollows xs × Done xs
 rows [] = (begun_end, done_end)
 rows (s ∷ xs) = let rest = rows xs in (begun_more s xs rest.0 rest.1, done_more s xs rest.0)
 

@@ -15,7 +15,7 @@ use Rattle.edi_envelope.specs.declared.header.HeaderMarks.{HeaderMarks}
 use Rattle.edi_envelope.specs.declared.tally.Headers.{Headers}
 use Rattle.edi_envelope.specs.declared.tally.Trailers.{Trailers}
 use Rattle.edi_envelope.specs.declared.tally.Begun.{Begun}
-use Rattle.edi_envelope.specs.declared.check.Marks.{Marks}
+use Rattle.edi_envelope.specs.declared.check.EnvelopeConditions.{EnvelopeConditions}
 use Rattle.edi_envelope.specs.declared.check.Place.{Place}
 use Rattle.edi_envelope.specs.declared.check.Place.TheVariants as place
 use Rattle.edi_envelope.specs.declared.check.Stage.{Stage}
@@ -193,7 +193,7 @@ pub record Steps (old : EnvelopeCheck) (stands : Place) (segment : Segment) (new
   pub falls : is_fine new ≡ true → is_fine old ≡ true
 
 -- which conditions hold where UNZ comes between messages
-abbrev pub marks_at : EnvelopeCheck → Segment → Marks
+abbrev pub marks_at : EnvelopeCheck → Segment → EnvelopeConditions
 marks_at check unz = record {
   interchange_header = not check.header.taken;
   message_header = not (check.headers.identified && check.trailers.within);
@@ -212,7 +212,7 @@ abbrev pub lost_fault : HeaderMarks → EnvelopeFault
 lost_fault header = if header.taken then MessageFrame else InterchangeHeader
 
 -- the fault with the lowest number, of those that are marked
-abbrev pub lowest_of : Marks → Option EnvelopeFault
+abbrev pub lowest_of : EnvelopeConditions → Option EnvelopeFault
 lowest_of marks =
     if marks.interchange_header then Some InterchangeHeader
     else (if marks.message_header then Some MessageHeader

@@ -34,7 +34,7 @@ IsLast before [] = before ≡ []
 IsLast before (unh ∷ rest) = (is_unh unh ≡ true) × (list_any is_unh rest ≡ false)
 
 -- the head, the messages before the last UNH, and the segments from it on
-pub record Keeps (lent : List Segment) (gathered : Gathered) : Type 0 where
+pub record KeepsMessages (lent : List Segment) (gathered : Gathered) : Type 0 where
   pub head : gathered.head ≡ head_in lent
   pub before : List Segment
   pub split : drop 1 lent ≡ before ++ gathered.last.items
@@ -42,29 +42,29 @@ pub record Keeps (lent : List Segment) (gathered : Gathered) : Type 0 where
   pub messages : gathered.messages.items ≡ map message_of (blocks before)
 
 -- the head and all messages
-pub record Whole (lent : List Segment) (gathered : Gathered) : Type 0 where
+pub record HasAllMessages (lent : List Segment) (gathered : Gathered) : Type 0 where
   pub head : gathered.head ≡ head_in lent
   pub last : gathered.last.items ≡ []
   pub messages : gathered.messages.items ≡ map message_of (blocks (drop 1 lent))
 
 -- the messages before UNZ, which is the last segment
-pub record Ends (lent : List Segment) (gathered : Gathered) : Type 0 where
+pub record EndsMessages (lent : List Segment) (gathered : Gathered) : Type 0 where
   pub head : gathered.head ≡ head_in lent
   pub messages : gathered.messages.items ≡ map message_of (messages_in lent)
 
 -- what is kept of segments, of which at most the last is UNZ
 pub record Gathers (lent : List Segment) (gathered : Gathered) : Type 0 where
-  pub going : is_unz (last_segment lent) ≡ false → Keeps lent gathered
-  pub ended : is_unz (last_segment lent) ≡ true → Ends lent gathered
+  pub going : is_unz (last_segment lent) ≡ false → KeepsMessages lent gathered
+  pub ended : is_unz (last_segment lent) ≡ true → EndsMessages lent gathered
 
 -- the interchange of what is kept
-pub record IsOf (gathered : Gathered) (decimal : ℕ) (interchange : Interchange) : Type 0 where
+pub record IsInterchangeOf (gathered : Gathered) (decimal : ℕ) (interchange : Interchange) : Type 0 where
   pub decimal_is : interchange.decimal ≡ decimal
   pub head : gathered.head ≡ Some interchange.head
   pub messages : interchange.messages ≡ gathered.messages.items
 
 -- the check of segments, and what is kept of them as long as no fault is certain
-pub record Stands (lent : List Segment) (opening : Opening) : Type 0 where
+pub record OpeningStands (lent : List Segment) (opening : Opening) : Type 0 where
   pub checked : Checked lent opening.check
   pub kept : is_fine opening.check ≡ true → Gathers lent opening.gathered
 
@@ -74,29 +74,30 @@ IsChecked (Ok interchange) given = given ≡ Ok interchange
 IsChecked (Err fault) given = given ≡ Err fault
 
 -- all segments of a text are opened, or its token fault is reported, or a read failed, or memory ran out
-abbrev pub Reads : Option (List ℕ) → Lender → Result Opening OpenFault → Lender → Type 0
-Reads known old (Ok opening) new =
-    (lent : List Segment) × Stands lent opening × ((all : List ℕ) → Fed known all [] old → tokens_of all ≡ Ok (tokens_at lent new.machine))
-Reads known old (Err (Token fault)) new = (all : List ℕ) → Fed known all [] old → fault ≢ token.Read → tokens_of all ≡ Err fault
-Reads known old (Err (Envelope fault)) new = fault ≡ envelope.Memory
+abbrev pub ReadsOpening : Option (List ℕ) → Lender → Result Opening OpenFault → Lender → Type 0
+ReadsOpening known old (Ok opening) new =
+    (lent : List Segment) × OpeningStands lent opening
+    × ((all : List ℕ) → Fed known all [] old → tokens_of all ≡ Ok (tokens_at lent new.machine))
+ReadsOpening known old (Err (Token fault)) new = (all : List ℕ) → Fed known all [] old → fault ≢ token.Read → tokens_of all ≡ Err fault
+ReadsOpening known old (Err (Envelope fault)) new = fault ≡ envelope.Memory
 
 -- for some text, if no bytes of the reader are known
 abbrev pub ReadsSome : Lender → Result Opening OpenFault → Lender → Type 0
 ReadsSome old (Ok opening) new =
-    Came [] old → (lent : List Segment) × Stands lent opening × ((all : List ℕ) × (tokens_of all ≡ Ok (tokens_at lent new.machine)))
+    Came [] old → (lent : List Segment) × OpeningStands lent opening × ((all : List ℕ) × (tokens_of all ≡ Ok (tokens_at lent new.machine)))
 ReadsSome old (Err (Token fault)) new = Came [] old → fault ≢ token.Read → (all : List ℕ) × (tokens_of all ≡ Err fault)
 ReadsSome old (Err (Envelope fault)) new = fault ≡ envelope.Memory
 
 -- a failed read is reported if the reader's flag is up, and otherwise the flag stays; no token fault is out of memory
-abbrev pub Flagged : {X : Type 0} → Result X OpenFault → Bool → Bool → Type 0
-Flagged (Ok x) old new = new ≡ old
-Flagged (Err (Token fault)) old new = HasCause fault old new
-Flagged (Err (Envelope fault)) old new = new ≡ old
+abbrev pub OpenFaultHasCause : {X : Type 0} → Result X OpenFault → Bool → Bool → Type 0
+OpenFaultHasCause (Ok x) old new = new ≡ old
+OpenFaultHasCause (Err (Token fault)) old new = HasCause fault old new
+OpenFaultHasCause (Err (Envelope fault)) old new = new ≡ old
 
 -- how far a text has been read, and its segments are opened
 pub record HasRead (before after : Option (List ℕ)) (was failed : Bool) (old : Lender) (opening : Opening) (new : Lender) : Type 0 where
   pub lent : List Segment
-  pub stands : Stands lent opening
+  pub stands : OpeningStands lent opening
   pub fed : (all : List ℕ) → Fed before all [] old → Fed after all lent new
   pub some : Came [] old → Came lent new
   pub flag : stopped old ≡ None → failed ≡ was

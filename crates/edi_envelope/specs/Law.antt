@@ -13,13 +13,13 @@ use Rattle.edi_envelope.specs.Fault.{number}
 use Rattle.edi_envelope.specs.Interchange.{holds}
 
 -- the condition holds, and none with a lower number does
-pub record IsLowest (fault : EnvelopeFault) (segments : List Segment) : Type 0 where
+pub record IsLowestEnvelopeFault (fault : EnvelopeFault) (segments : List Segment) : Type 0 where
   pub here : holds fault segments ≡ true
   pub lower : (other : EnvelopeFault) → number other < number fault → holds other segments ≡ false
 
 -- no condition holds
-abbrev pub IsFaultless : List Segment → Type 0
-IsFaultless segments = (fault : EnvelopeFault) → holds fault segments ≡ false
+abbrev pub HasNoEnvelopeFault : List Segment → Type 0
+HasNoEnvelopeFault segments = (fault : EnvelopeFault) → holds fault segments ≡ false
 
 -- a message is UNH, segments, UNT, and what UNH says of it
 pub record IsMessage (message : RawMessage) : Type 0 where

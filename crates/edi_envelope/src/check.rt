@@ -59,7 +59,7 @@ pub(crate) enum Stage {
 
 /// Which conditions hold if UNB, messages and UNZ come in their order: E07 and E11 to E19.
 #[derive(Clone, Copy)]
-pub(crate) struct Marks {
+pub(crate) struct EnvelopeConditions {
     interchange_header: bool,
     message_header: bool,
     segment_count: bool,
@@ -119,7 +119,7 @@ fn has_tag(segment: &SegmentRef<'_>, tag: &[u8; 3]) -> bool
 }
 
 // Returns the fault with the lowest number, of those that are marked.
-fn lowest(marks: Marks) -> Option<EnvelopeFault>
+fn lowest(marks: EnvelopeConditions) -> Option<EnvelopeFault>
     ensures { result ≡ lowest_of marks }
 {
     if marks.interchange_header {
@@ -185,10 +185,10 @@ impl EnvelopeCheck {
     }
 
     // Returns which conditions hold once UNZ comes after a message.
-    fn marks(&self, unz: &SegmentRef<'_>) -> Marks
+    fn marks(&self, unz: &SegmentRef<'_>) -> EnvelopeConditions
         ensures { result ≡ marks_at self.now (segment_in unz.now) }
     {
-        Marks {
+        EnvelopeConditions {
             interchange_header: !self.header.taken,
             message_header: !(self.headers.identified && self.trailers.within),
             segment_count: !self.trailers.counted,

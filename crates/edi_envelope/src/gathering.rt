@@ -4,7 +4,7 @@ ghost use Rattle.std.specs.Prelude.{◌≡◌, ◌≢◌, ◌∷◌, ◌++◌, L
 ghost use Rattle.edi_segments.specs.declared.segment.Segment.{Segment};
 ghost use Rattle.edi_envelope.specs.Header.{is_valid_header};
 ghost use Rattle.edi_envelope.specs.Check.{Placed};
-ghost use Rattle.edi_envelope.specs.Gathered.{Keeps, Whole, Gathers, IsOf};
+ghost use Rattle.edi_envelope.specs.Gathered.{KeepsMessages, HasAllMessages, Gathers, IsInterchangeOf};
 
 use crate::check::Place;
 use crate::header::head_of;
@@ -38,7 +38,7 @@ impl Gathered {
 
     // Makes a message of the segments from the last UNH on.
     fn close(&mut self, alloc: Global) -> Result<(), MemoryFault>
-        ensures { (lent : List Segment) → Keeps lent self.old → OnOk result (Whole lent self.new) }
+        ensures { (lent : List Segment) → KeepsMessages lent self.old → OnOk result (HasAllMessages lent self.new) }
     {
         if self.last.is_empty() {
             return Ok(());
@@ -85,7 +85,7 @@ impl Gathered {
 
     /// Returns the interchange, if UNB has come.
     pub(crate) fn interchange(self, decimal: u8) -> Option<Interchange>
-        ensures { MatchOption result (self.head ≡ None) (IsOf self decimal) }
+        ensures { MatchOption result (self.head ≡ None) (IsInterchangeOf self decimal) }
     {
         let Gathered {
             head,

@@ -5,7 +5,7 @@ ghost use Rattle.edi_moment.specs.Moment.{date_text, time_text};
 ghost use Rattle.edi_envelope.specs.Mail.{unb_from, unz_of, with_one, renumbered, mail_segments, mail_interchange, last_number};
 
 use crate::interchange::RawMessage;
-use edi_base::copied;
+use edi_base::copy_bytes;
 use edi_moment::{Moment, date_digits, time_digits};
 use edi_tokens::{Elements, Items, MemoryFault, Segment, append_segments};
 use std::alloc::Global;
@@ -19,7 +19,7 @@ fn copied_element(alloc: Global, components: &[Items<u8>]) -> Result<Items<Items
 {
     let mut copy = Items::new(alloc);
     for component in components {
-        copy.push(copied(alloc, component.as_slice())?)?;
+        copy.push(copy_bytes(alloc, component.as_slice())?)?;
     }
     Ok(copy)
 }
@@ -43,8 +43,8 @@ fn push_pair(
     ensures { OnOk result (elements.new ≡ elements.old ++ (first.now ∷ second.now ∷ []) ∷ []) }
 {
     let mut element = Items::new(alloc);
-    element.push(copied(alloc, first)?)?;
-    element.push(copied(alloc, second)?)?;
+    element.push(copy_bytes(alloc, first)?)?;
+    element.push(copy_bytes(alloc, second)?)?;
     elements.push(element)?;
     Ok(())
 }
@@ -53,7 +53,7 @@ fn push_single(alloc: Global, elements: &mut Elements, only: &[u8]) -> Result<()
     ensures { OnOk result (elements.new ≡ elements.old ++ (only.now ∷ []) ∷ []) }
 {
     let mut element = Items::new(alloc);
-    element.push(copied(alloc, only)?)?;
+    element.push(copy_bytes(alloc, only)?)?;
     elements.push(element)?;
     Ok(())
 }
@@ -109,7 +109,7 @@ fn numbered_elements(
     if place < elements.len() {
         let mut element = copied_element(alloc, elements[place].as_slice())?.into_vec();
         if !element.is_empty() {
-            element[0] = copied(alloc, b"1")?;
+            element[0] = copy_bytes(alloc, b"1")?;
         }
         elements[place] = Items::from_vec(element);
     }

@@ -6,7 +6,7 @@ ghost use Rattle.edi_envelope.specs.Check.{has_identity};
 
 use crate::interchange::RawMessage;
 use crate::limits;
-use edi_base::copied;
+use edi_base::copy_bytes;
 use edi_tokens::{Items, MemoryFault, Segment, SegmentRef};
 use std::alloc::Global;
 
@@ -36,7 +36,7 @@ fn copied_component(
 ) -> Result<Items<u8>, MemoryFault>
     ensures { IfOk result (λ copy. copy ≡ component (first_segment block.now) element place) }
 {
-    copied(alloc, first_component(block.as_slice(), element, place))
+    copy_bytes(alloc, first_component(block.as_slice(), element, place))
 }
 
 /// Whether UNH's reference and message identifier are within their limits.

@@ -7,7 +7,7 @@ ghost use Rattle.edi_segments.specs.SegmentRef.{segment_in};
 ghost use Rattle.edi_tokens.specs.Lender.{AtEnd, Came, Fed, TakesOf, room_of, stopped};
 ghost use Rattle.edi_tokens.specs.Stops.{Stops};
 ghost use Rattle.edi_envelope.specs.Interchange as spec;
-ghost use Rattle.edi_envelope.specs.Gathered.{Stands, IsChecked, Reads, ReadsSome, Flagged};
+ghost use Rattle.edi_envelope.specs.Gathered.{OpeningStands, IsChecked, ReadsOpening, ReadsSome, OpenFaultHasCause};
 ghost use Rattle.edi_envelope.specs.Opened.{opened, Opens, token_told};
 
 use crate::check::{EnvelopeCheck, Place};
@@ -26,7 +26,7 @@ pub(crate) struct Opening {
 
 impl Opening {
     fn new(alloc: Global) -> Self
-        ensures { Stands [] result }
+        ensures { OpeningStands [] result }
     {
         Opening {
             check: EnvelopeCheck::new(alloc),
@@ -36,8 +36,8 @@ impl Opening {
 
     // Takes the next segment, which is moved.
     fn take(&mut self, alloc: Global, segment: Segment) -> Result<(), MemoryFault>
-        ensures { (lent : List Segment) → Stands lent self.old →
-            OnOk result (Stands (lent ++ segment ∷ []) self.new) }
+        ensures { (lent : List Segment) → OpeningStands lent self.old →
+            OnOk result (OpeningStands (lent ++ segment ∷ []) self.new) }
     {
         let place = self.check.next(&SegmentRef::of(&segment))?;
         self.gathered.keep(alloc, place, segment)
@@ -45,8 +45,8 @@ impl Opening {
 
     // Takes the next segment, which is copied if it is kept.
     fn copy(&mut self, alloc: Global, segment: &SegmentRef<'_>) -> Result<(), MemoryFault>
-        ensures { (lent : List Segment) → Stands lent self.old →
-            OnOk result (Stands (lent ++ segment_in segment.now ∷ []) self.new) }
+        ensures { (lent : List Segment) → OpeningStands lent self.old →
+            OnOk result (OpeningStands (lent ++ segment_in segment.now ∷ []) self.new) }
     {
         let place = self.check.next(segment)?;
         match place {
@@ -61,7 +61,7 @@ impl Opening {
 
     // Returns the interchange, or its fault.
     fn finish(self, decimal: u8) -> Result<Interchange, EnvelopeFault>
-        ensures { (tokens : Tokens) → Stands tokens.segments self → tokens.service.decimal ≡ decimal →
+        ensures { (tokens : Tokens) → OpeningStands tokens.segments self → tokens.service.decimal ≡ decimal →
             IsChecked result (spec.interchange_of tokens) }
     {
         if let Some(fault) = self.check.fault() {
@@ -92,9 +92,9 @@ pub fn open(alloc: Global, tokens: Tokens) -> Result<Interchange, EnvelopeFault>
 
 // Reads to the end of the text.
 fn read<R: Source>(alloc: Global, lender: &mut Lender, reader: &mut R) -> Result<Opening, OpenFault>
-    ensures told { Reads (R.remaining reader.old) lender.old result lender.new }
+    ensures told { ReadsOpening (R.remaining reader.old) lender.old result lender.new }
     ensures some { ReadsSome lender.old result lender.new }
-    ensures flag { stopped lender.old ≡ None → Flagged result (R.failed reader.old) (R.failed reader.new) }
+    ensures flag { stopped lender.old ≡ None → OpenFaultHasCause result (R.failed reader.old) (R.failed reader.new) }
     ensures bound { TakesOf (R.remaining reader.old) (R.remaining reader.new)
         (room_of lender.old) (room_of lender.new) }
     ensures ends { AtEnd (R.remaining reader.old) lender.old → AtEnd (R.remaining reader.new) lender.new }
@@ -123,7 +123,7 @@ pub fn open_lent<R: Source>(
     ensures some { Came [] lender.old → (all : List ℕ) × Opens result (opened all) }
     ensures few { IfOk result (λ interchange. length interchange.messages ≤ 999) }
     // A failed read is reported only if the reader failed. Otherwise its flag stays.
-    ensures flag { stopped lender.old ≡ None → Flagged result (R.failed reader.old) (R.failed reader.new) }
+    ensures flag { stopped lender.old ≡ None → OpenFaultHasCause result (R.failed reader.old) (R.failed reader.new) }
     ensures bound { TakesOf (R.remaining reader.old) (R.remaining reader.new)
         (room_of lender.old) (room_of lender.new) }
     ensures ends { AtEnd (R.remaining reader.old) lender.old → AtEnd (R.remaining reader.new) lender.new }
@@ -143,7 +143,7 @@ pub fn open_feed<R: Source>(alloc: Global, feeder: &mut Feeder<R>) -> Result<Int
     ensures some { Came [] feeder.old.lender → (all : List ℕ) × Opens result (opened all) }
     ensures few { IfOk result (λ interchange. length interchange.messages ≤ 999) }
     ensures flag { stopped feeder.old.lender ≡ None →
-        Flagged result (R.failed feeder.old.reader) (R.failed feeder.new.reader) }
+        OpenFaultHasCause result (R.failed feeder.old.reader) (R.failed feeder.new.reader) }
     ensures bound { TakesOf (R.remaining feeder.old.reader) (R.remaining feeder.new.reader)
         (room_of feeder.old.lender) (room_of feeder.new.lender) }
     ensures ends { AtEnd (R.remaining feeder.old.reader) feeder.old.lender →

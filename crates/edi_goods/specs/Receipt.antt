@@ -15,8 +15,8 @@ use Rattle.edi_messages.specs.declared.fault.MessageFault.TheVariants as fault
 use Rattle.edi_goods.specs.Parties.{has_parties, buyer}
 use Rattle.edi_goods.specs.Units.{read_units, has_lines, has_units, sscc_or_none}
 use Rattle.edi_goods.specs.Sums.{sums_within}
-use Rattle.edi_goods.specs.declared.kind.Kind.{Kind}
-use Rattle.edi_goods.specs.declared.kind.Kind.TheVariants.{Accepted, Returned, Destroyed}
+use Rattle.edi_goods.specs.declared.kind.ReceivedKind.{ReceivedKind}
+use Rattle.edi_goods.specs.declared.kind.ReceivedKind.TheVariants.{Accepted, Returned, Destroyed}
 use Rattle.edi_goods.specs.declared.receipt.Receipt.{Receipt}
 use Rattle.edi_goods.specs.declared.receipt.ReceiptLine.{ReceiptLine}
 use Rattle.edi_goods.specs.declared.receipt.ReceiptUnit.{ReceiptUnit}
@@ -54,12 +54,12 @@ abbrev pub lines_in_unit : List Segment → List ReceiptLine
 lines_in_unit unit = map line_of (line_groups unit)
 
 -- what a line says of one kind
-abbrev pub of_kind : Kind → ReceiptLine → ℕ
+abbrev pub of_kind : ReceivedKind → ReceiptLine → ℕ
 of_kind Accepted line = line.accepted
 of_kind Returned line = line.returned
 of_kind Destroyed line = line.destroyed
 
-abbrev pub amounts : Kind → List ReceiptLine → List Amount
+abbrev pub amounts : ReceivedKind → List ReceiptLine → List Amount
 amounts kind lines = map (λ line. record { gtin = line.gtin; quantity = of_kind kind line }) lines
 
 -- no kind's sum over the lines of one article is above 999,999,999

@@ -6,7 +6,7 @@ ghost use Rattle.edi_goods.specs.Despatch as spec;
 
 use crate::despatch::DespatchLine;
 use crate::units::ItemUnit;
-use edi_base::{Items, copied};
+use edi_base::{Items, copy_bytes};
 use edi_messages::lines::{LineItem, quantity_of};
 use edi_messages::references::{NamedOrder, has_reference, read_reference, reference};
 use edi_messages::{MessageFault, Segment};
@@ -235,7 +235,7 @@ fn line_of(
         None => header_order,
     };
     Ok(DespatchLine {
-        order: copied(alloc, order)?,
+        order: copy_bytes(alloc, order)?,
         order_line: line.order_line,
         gtin: line.item.gtin(),
         quantity: line.quantity,

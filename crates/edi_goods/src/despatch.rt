@@ -8,9 +8,9 @@ ghost use Rattle.edi_goods.specs.Parties.{buyer};
 ghost use Rattle.edi_goods.specs.Units.{has_units, read_units, sscc_or_none};
 
 use crate::announced::{DespatchUnit, ReferredUnit, despatch_units, lines_in_unit, referred_units};
-use crate::parties::{Parties, read_parties};
+use crate::parties::{HeaderParties, read_parties};
 use crate::units::{ItemUnit, item_units, ssccs};
-use edi_base::{Items, copied};
+use edi_base::{Items, copy_bytes};
 use edi_messages::header::{begins_as, document_number, function, has_date, is_type};
 use edi_messages::parts::header;
 use edi_messages::references::{has_reference, order};
@@ -95,7 +95,7 @@ fn units_of(
 }
 
 // Returns the parties, or the lowest fault of what comes before the lines.
-fn read_heading(message: &RawMessage) -> Result<Parties, MessageFault>
+fn read_heading(message: &RawMessage) -> Result<HeaderParties, MessageFault>
     ensures said { IfOk result (λ parties. (parties.buyer ≡ buyer message.now.segments)
         × (party (codes "SU") message.now.segments ≡ Some parties.supplier)) }
     ensures ok { IfOk result (λ _.
@@ -179,7 +179,7 @@ impl Despatch {
     {
         let parties = read_heading(message)?;
         let units = read_announced(alloc, message)?;
-        let number = copied(alloc, document_number(message.segments.as_slice()))?;
+        let number = copy_bytes(alloc, document_number(message.segments.as_slice()))?;
         Ok(Despatch {
             number,
             buyer: parties.buyer,

@@ -10,7 +10,7 @@ use gs1_ids::Gln;
 
 /// The buyer (NAD BY) and the supplier (NAD SU) that the header names.
 #[derive(Drop)]
-pub(crate) struct Parties {
+pub(crate) struct HeaderParties {
     /// The buyer, if there is one.
     pub(crate) buyer: Option<Gln>,
     pub(crate) supplier: Gln,
@@ -36,7 +36,7 @@ fn buyer(message: &[Segment]) -> Result<Option<Gln>, MessageFault>
 }
 
 /// Returns the parties of a message. It is the fault `Parties` if one of them is not valid.
-pub(crate) fn read_parties(message: &[Segment]) -> Result<Parties, MessageFault>
+pub(crate) fn read_parties(message: &[Segment]) -> Result<HeaderParties, MessageFault>
     ensures ok { IfOk result (λ parties. (parties.buyer ≡ spec.buyer message.now)
         × (party (codes "SU") message.now ≡ Some parties.supplier) × (spec.has_parties message.now ≡ true)) }
     ensures err { IfErr result (λ fault.
@@ -44,5 +44,5 @@ pub(crate) fn read_parties(message: &[Segment]) -> Result<Parties, MessageFault>
 {
     let buyer = buyer(message)?;
     let supplier = party(b"SU", message).ok_or(MessageFault::Parties)?;
-    Ok(Parties { buyer, supplier })
+    Ok(HeaderParties { buyer, supplier })
 }

@@ -8,10 +8,10 @@ ghost use Rattle.edi_goods.specs.Parties.{buyer};
 ghost use Rattle.edi_goods.specs.Receipt as spec;
 ghost use Rattle.edi_goods.specs.Units.{has_units, read_units, sscc_or_none};
 
-use crate::parties::{Parties, read_parties};
+use crate::parties::{HeaderParties, read_parties};
 use crate::received::{ReceivedUnit, received_units};
 use crate::units::{ItemUnit, item_units, ssccs};
-use edi_base::{Items, copied};
+use edi_base::{Items, copy_bytes};
 use edi_messages::header::{begins_as, document_number, function, has_date, is_type};
 use edi_messages::summary::{is_controlled, line_count};
 use edi_messages::{MessageFault, RawMessage, Segment};
@@ -92,7 +92,7 @@ fn has_function(message: &[Segment]) -> bool
 }
 
 // Returns the parties, or the lowest fault of what comes before the lines.
-fn read_heading(message: &RawMessage) -> Result<Parties, MessageFault>
+fn read_heading(message: &RawMessage) -> Result<HeaderParties, MessageFault>
     ensures said { IfOk result (λ parties. (parties.buyer ≡ buyer message.now.segments)
         × (party (codes "SU") message.now.segments ≡ Some parties.supplier)) }
     ensures ok { IfOk result (λ _.
@@ -173,7 +173,7 @@ impl Receipt {
     {
         let parties = read_heading(message)?;
         let units = read_received(alloc, message)?;
-        let number = copied(alloc, document_number(message.segments.as_slice()))?;
+        let number = copy_bytes(alloc, document_number(message.segments.as_slice()))?;
         Ok(Receipt {
             number,
             buyer: parties.buyer,

@@ -4,7 +4,7 @@ ghost use Rattle.std.specs.List.{list_all};
 ghost use Rattle.edi_messages.specs.Lines.{quantity_of};
 ghost use Rattle.edi_goods.specs.Receipt as spec;
 
-use crate::kind::Kind;
+use crate::kind::ReceivedKind;
 use crate::receipt::ReceiptLine;
 use crate::sums::{Amount, sums_within};
 use crate::units::ItemUnit;
@@ -43,7 +43,7 @@ impl<'a, 'b> ReceivedUnit<'a, 'b> {
 }
 
 /// Returns the quantity of a kind, if there is one. It is the fault `Quantity` if it comes twice or is not valid.
-pub fn received(kind: &[u8], group: &[Segment]) -> Result<Option<u32>, MessageFault>
+pub fn received_quantity(kind: &[u8], group: &[Segment]) -> Result<Option<u32>, MessageFault>
     ensures ok { IfOk result (λ quantity. (quantity ≡ quantity_of kind.now 0 group.now)
         × (spec.is_once_or_none kind.now group.now ≡ true)) }
     ensures err { IfErr result (λ fault.
@@ -73,9 +73,9 @@ fn receipt_line(item: &LineItem<'_>) -> Result<ReceiptLine, MessageFault>
     ensures err { IfErr result (λ fault.
         (fault ≡ MessageFault.Quantity) × (spec.is_received item.now ≡ false)) }
 {
-    let accepted = received(b"194", item.group())?;
-    let returned = received(b"195", item.group())?;
-    let destroyed = received(b"196", item.group())?;
+    let accepted = received_quantity(b"194", item.group())?;
+    let returned = received_quantity(b"195", item.group())?;
+    let destroyed = received_quantity(b"196", item.group())?;
     if !is_any(accepted, returned, destroyed) {
         return Err(MessageFault::Quantity);
     }
@@ -102,18 +102,22 @@ fn receipt_lines(alloc: Global, items: &[LineItem<'_>]) -> Result<Vec<ReceiptLin
 }
 
 // Returns what a line says about one kind.
-fn of_kind(kind: Kind, line: &ReceiptLine) -> u32
+fn of_kind(kind: ReceivedKind, line: &ReceiptLine) -> u32
     ensures { result ≡ spec.of_kind kind line.now }
 {
     match kind {
-        Kind::Accepted => line.accepted,
-        Kind::Returned => line.returned,
-        Kind::Destroyed => line.destroyed,
+        ReceivedKind::Accepted => line.accepted,
+        ReceivedKind::Returned => line.returned,
+        ReceivedKind::Destroyed => line.destroyed,
     }
 }
 
 // Returns what was received on each line, of one kind.
-fn amounts(alloc: Global, kind: Kind, lines: &[ReceiptLine]) -> Result<Vec<Amount>, MessageFault>
+fn amounts(
+    alloc: Global,
+    kind: ReceivedKind,
+    lines: &[ReceiptLine],
+) -> Result<Vec<Amount>, MessageFault>
     ensures ok { IfOk result (λ amounts. amounts.items ≡ spec.amounts kind lines.now) }
     ensures err { IfErr result (λ fault. fault ≡ MessageFault.Memory) }
 {
@@ -132,9 +136,9 @@ fn has_sums(alloc: Global, lines: &[ReceiptLine]) -> Result<bool, MessageFault>
     ensures ok { IfOk result (λ within. within ≡ spec.has_sums lines.now) }
     ensures err { IfErr result (λ fault. fault ≡ MessageFault.Memory) }
 {
-    let accepted = amounts(alloc, Kind::Accepted, lines)?;
-    let returned = amounts(alloc, Kind::Returned, lines)?;
-    let destroyed = amounts(alloc, Kind::Destroyed, lines)?;
+    let accepted = amounts(alloc, ReceivedKind::Accepted, lines)?;
+    let returned = amounts(alloc, ReceivedKind::Returned, lines)?;
+    let destroyed = amounts(alloc, ReceivedKind::Destroyed, lines)?;
     Ok(
         sums_within(alloc, accepted.as_slice())?
             && sums_within(alloc, returned.as_slice())?

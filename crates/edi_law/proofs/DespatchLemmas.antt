@@ -22,7 +22,7 @@ use Rattle.edi_goods.specs.Units.{read_units}
 use Rattle.edi_goods.specs.declared.despatch.Despatch.{Despatch}
 use Rattle.edi_goods.specs.declared.despatch.DespatchLine.{DespatchLine}
 use Rattle.edi_goods.specs.declared.despatch.Unit.{Unit as DespatchUnit}
-use Rattle.edi_law.specs.Despatch.{Inherits, IsOfOrder, HasReferenceOrInherits, IsRight}
+use Rattle.edi_law.specs.Despatch.{Inherits, IsOfOrder, HasReferenceOrInherits, IsRightDespatch}
 use Rattle.edi_law.specs.Despatch.{IsDespatchLine, IsDespatchUnit, IsDespatch}
 use Rattle.edi_law.specs.Header.{NamesParty}
 use Rattle.edi_law.specs.Lines.{IsLine, HasQuantity}
@@ -134,7 +134,7 @@ Decides-references message = (
 )
 
 -- each condition
-refutes : (m : RawMessage) (fault : MessageFault) → Refutes (holds fault m) (IsRight m fault)
+refutes : (m : RawMessage) (fault : MessageFault) → Refutes (holds fault m) (IsRightDespatch m fault)
 refutes m faults.MessageType = Refutes-not _ (Decides-type (codes "DESADV") m)
 refutes m faults.Beginning = Refutes-not _ (Decides-begins (codes "351") m.segments)
 refutes m faults.Function = Refutes-not _ (Decides-function m.segments (codes "9") (λ e. cc))
@@ -251,7 +251,7 @@ unit_is o unit one h =
     ∙ zip_is (line_by o) (IsDespatchLine o) (line_is o) given.groups one.lines given.are)
 
 -- what the advice says
-contents_there : (m : RawMessage) → IsFaultless (IsRight m) → IsDespatch m.segments (contents_of m.segments)
+contents_there : (m : RawMessage) → IsFaultless (IsRightDespatch m) → IsDespatch m.segments (contents_of m.segments)
 contents_there m right =
     let message = m.segments in
     let beginning = right faults.Beginning in
@@ -301,16 +301,16 @@ contents_are message despatch h =
     ∙ ap (λ s. despatch_from despatch.number despatch.buyer s units) (sym supplier)
     ∙ ap (λ us. despatch_from despatch.number despatch.buyer despatch.supplier us) (units_are message despatch h)
 
-pub fault_law : (m : RawMessage) (fault : MessageFault) → (despatch_of m ≡ Err fault) ↔ IsLowest (IsRight m) fault
+pub fault_law : (m : RawMessage) (fault : MessageFault) → (despatch_of m ≡ Err fault) ↔ IsLowest (IsRightDespatch m) fault
 unfolding despatch_of
-fault_law m fault = fault_is_lowest (λ f. holds f m) (IsRight m) (λ f lower. refutes m f) refl
+fault_law m fault = fault_is_lowest (λ f. holds f m) (IsRightDespatch m) (λ f lower. refutes m f) refl
     (contents_of m.segments) fault
 
 pub despatch_law : (m : RawMessage) (despatch : Despatch)
-    → (despatch_of m ≡ Ok despatch) ↔ (IsFaultless (IsRight m) × IsDespatch m.segments despatch)
+    → (despatch_of m ≡ Ok despatch) ↔ (IsFaultless (IsRightDespatch m) × IsDespatch m.segments despatch)
 unfolding despatch_of
 despatch_law m despatch =
-    let law = content_is_faultless (λ f. holds f m) (IsRight m) (λ f lower. refutes m f) refl
+    let law = content_is_faultless (λ f. holds f m) (IsRightDespatch m) (λ f lower. refutes m f) refl
     (contents_of m.segments) despatch in (
       (λ h. let both = law.0 h in (both.0, subst (IsDespatch m.segments) both.1 (contents_there m both.0))),
       (λ h. law.1 (h.0, contents_are m.segments despatch h.1)),

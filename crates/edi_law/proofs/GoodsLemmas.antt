@@ -4,7 +4,7 @@ use Rattle.std.specs.Prelude.{codes, Decides}
 use Rattle.std.specs.List.{AllZip}
 use Rattle.std.proofs.lemmas.Bool.Decides.{Decides-and}
 use Rattle.edi_segments.specs.declared.segment.Segment.{Segment}
-use Rattle.edi_messages.specs.Header.{named_by}
+use Rattle.edi_messages.specs.Header.{party_gln}
 use Rattle.edi_messages.specs.Parts.{header}
 use Rattle.edi_goods.specs.Parties.{has_parties, has_buyer_or_none, buyer}
 use Rattle.edi_law.specs.Header.{NamesParty, NamesBuyer, IsNamed}
@@ -18,7 +18,7 @@ names_buyer = says (codes "NAD") (codes "BY")
 
 pub buyer-from_NamesBuyer : (message : List Segment) (o : Option (List ℕ)) → NamesBuyer message o → buyer message ≡ o
 buyer-from_NamesBuyer message o h =
-    found-from_OneOrNone names_buyer named_by IsNamed Says-named (header message) o
+    found-from_OneOrNone names_buyer party_gln IsNamed Says-named (header message) o
     (at_header (λ part. OneOrNone names_buyer IsNamed part o) message h)
 
 pub NamesBuyer-buyer : (message : List Segment) (o : Option (List ℕ)) → NamesBuyer message o → NamesBuyer message (buyer message)
@@ -26,7 +26,7 @@ NamesBuyer-buyer message o h = subst (NamesBuyer message) (sym (buyer-from_Names
 
 Decides-buyer : (message : List Segment) → Decides (has_buyer_or_none message) ((o : Option (List ℕ)) × NamesBuyer message o)
 Decides-buyer message =
-    let d = Decides-one_or_none names_buyer named_by IsNamed Says-named (header message) in (
+    let d = Decides-one_or_none names_buyer party_gln IsNamed Says-named (header message) in (
       (λ e. let h = d.0 e in (h.0, record { header = header message; is_header = IsHeader-header message; is = h.1 })),
       (λ h. d.1 (h.0, at_header (λ part. OneOrNone names_buyer IsNamed part h.0) message h.1)),
     )

@@ -13,7 +13,7 @@ use Rattle.edi_segments.specs.declared.segment.Segment.{Segment}
 use Rattle.edi_envelope.specs.Segments.{has_tag, component}
 use Rattle.edi_envelope.specs.declared.interchange.RawMessage.{RawMessage}
 use Rattle.edi_messages.specs.Parts.{only, qualified}
-use Rattle.edi_messages.specs.Header.{is_type, begins_as, document_number, function, is_dated, has_date, named_by, party}
+use Rattle.edi_messages.specs.Header.{is_type, begins_as, document_number, function, is_dated, has_date, party_gln, party}
 use Rattle.edi_law.specs.Header.{IsOfType, HasBeginning, HasFunction, IsDated, IsNamed, NamesParty}
 use Rattle.edi_law.specs.Parts.{HasNone, OfOnly}
 use Rattle.edi_law.specs.Segments.{says}
@@ -144,11 +144,11 @@ Decides-dated =
     refl (λ dtm. Decides-date (component dtm 0 2) (component dtm 0 1)))
 
 -- the parties
-pub Says-named : (nad : Segment) → Says (named_by nad) (λ gln. IsNamed gln nad)
+pub Says-named : (nad : Segment) → Says (party_gln nad) (λ gln. IsNamed gln nad)
 Says-named nad =
     let right = Decides-and (is_gln (component nad 1 0)) (bytes_eq (component nad 1 2) (codes "9"))
     (Decides-is_key 13 (component nad 1 0)) (bytes_eq-Decides (component nad 1 2) (codes "9")) in
-    Says-like (named_by nad)
+    Says-like (party_gln nad)
     (λ gln. (IsGln (component nad 1 0) × (component nad 1 2 ≡ codes "9")) × (component nad 1 0 ≡ gln))
     (λ gln. IsNamed gln nad)
     (λ gln h. record { gln_is = h.1; right = subst IsGln h.1 h.0.0; agency = h.0.1 })
@@ -158,7 +158,7 @@ Says-named nad =
 pub Says-party : (role : List ℕ) (message : List Segment) → Says (party role message) (NamesParty role message)
 Says-party role message =
     Says-header _ (λ gln header. OfOnly (says (codes "NAD") role) header (IsNamed gln))
-    (Says-of_only (says (codes "NAD") role) named_by IsNamed Says-named) message
+    (Says-of_only (says (codes "NAD") role) party_gln IsNamed Says-named) message
 
 pub Decides-party : (role : List ℕ) (message : List Segment)
     → Decides (is_some (party role message)) ((gln : List ℕ) × NamesParty role message gln)

@@ -18,7 +18,7 @@ use Rattle.edi_orders.specs.declared.order.OrderLine.{OrderLine}
 use Rattle.edi_law.specs.Header.{NamesParty}
 use Rattle.edi_law.specs.Lines.{IsLine, HasQuantity, NoneTwice}
 use Rattle.edi_law.specs.Lowest.{IsLowest, IsFaultless}
-use Rattle.edi_law.specs.Order.{AreNumbered, IsRight, IsOrderLine, IsOrder}
+use Rattle.edi_law.specs.Order.{AreNumbered, IsRightOrder, IsOrderLine, IsOrder}
 use Rattle.edi_law.specs.Parts.{OfLines}
 use Rattle.edi_law.proofs.Deciding.{Refutes, or_refuted, Refutes-not, Refutes-false, Decides-all, Decides-is_some, said_of, unwrap_of}
 use Rattle.edi_law.proofs.HeaderLemmas.{Decides-party, Decides-type, Decides-begins, Decides-function, Decides-dated}
@@ -68,7 +68,7 @@ Decides-ordered : (group : List Segment) → Decides (is_some (ordered group)) (
 Decides-ordered group = Decides-is_some (ordered group) (HasQuantity (codes "21") 1 group) (Says-quantity_of (codes "21") 1 group)
 
 -- each condition
-refutes : (m : RawMessage) (fault : MessageFault) → Refutes (holds fault m) (IsRight m fault)
+refutes : (m : RawMessage) (fault : MessageFault) → Refutes (holds fault m) (IsRightOrder m fault)
 refutes m faults.MessageType = Refutes-not _ (Decides-type (codes "ORDERS") m)
 refutes m faults.Beginning = Refutes-not _ (Decides-begins (codes "220") m.segments)
 refutes m faults.Function = Refutes-not _ (Decides-function m.segments (codes "9") (λ e. cc))
@@ -124,7 +124,7 @@ list_is : (message : List Segment) (lines : List OrderLine)
     → map line_of (line_groups message) ≡ lines
 list_is message lines h = ap (map line_of) (line_groups-from_AreLineGroups h.groups message h.are_groups) ∙ lines_are h.groups lines h.are
 
-contents_there : (m : RawMessage) → IsFaultless (IsRight m) → IsOrder m.segments (contents_of m.segments)
+contents_there : (m : RawMessage) → IsFaultless (IsRightOrder m) → IsOrder m.segments (contents_of m.segments)
 contents_there m right =
     let message = m.segments in
     let parties = right faults.Parties in
@@ -164,15 +164,15 @@ contents_are message order h =
     ∙ ap (λ s. order_from order.number order.buyer s lines) (sym supplier)
     ∙ ap (λ ls. order_from order.number order.buyer order.supplier ls) (list_is message order.lines h.lines_are)
 
-pub fault_law : (m : RawMessage) (fault : MessageFault) → (order_of m ≡ Err fault) ↔ IsLowest (IsRight m) fault
+pub fault_law : (m : RawMessage) (fault : MessageFault) → (order_of m ≡ Err fault) ↔ IsLowest (IsRightOrder m) fault
 unfolding order_of
-fault_law m fault = fault_is_lowest (λ f. holds f m) (IsRight m) (λ f lower. refutes m f) refl
+fault_law m fault = fault_is_lowest (λ f. holds f m) (IsRightOrder m) (λ f lower. refutes m f) refl
     (contents_of m.segments) fault
 
-pub order_law : (m : RawMessage) (order : Order) → (order_of m ≡ Ok order) ↔ (IsFaultless (IsRight m) × IsOrder m.segments order)
+pub order_law : (m : RawMessage) (order : Order) → (order_of m ≡ Ok order) ↔ (IsFaultless (IsRightOrder m) × IsOrder m.segments order)
 unfolding order_of
 order_law m order =
-    let law = content_is_faultless (λ f. holds f m) (IsRight m) (λ f lower. refutes m f) refl
+    let law = content_is_faultless (λ f. holds f m) (IsRightOrder m) (λ f lower. refutes m f) refl
     (contents_of m.segments) order in (
       (λ h. let both = law.0 h in (both.0, subst (IsOrder m.segments) both.1 (contents_there m both.0))),
       (λ h. law.1 (h.0, contents_are m.segments order h.1)),

@@ -23,9 +23,9 @@ module _ {X : Type 0} where
   behind kind [] = []
   behind kind (x ∷ xs) = cond (kind x) (x ∷ xs) (behind kind xs)
 
-  abbrev pub Stops : (X → Bool) → List X → Type 0
-  Stops kind [] = Unit {0}
-  Stops kind (x ∷ xs) = kind x ≡ true
+  abbrev pub StartsWith : (X → Bool) → List X → Type 0
+  StartsWith kind [] = Unit {0}
+  StartsWith kind (x ∷ xs) = kind x ≡ true
 
   taken_one : (pass here : Bool) (x : X) (xs : List X) → pass ≡ not here → cond pass (x ∷ xs) [] ≡ cond here [] (x ∷ xs)
   taken_one pass true x xs e = rw e refl
@@ -54,7 +54,7 @@ module _ {X : Type 0} where
         | inr not_ ↦ rw not_ (not_, front_within kind xs)
       ]
 
-  pub behind_stops : (kind : X → Bool) (xs : List X) → Stops kind (behind kind xs)
+  pub behind_stops : (kind : X → Bool) (xs : List X) → StartsWith kind (behind kind xs)
   behind_stops kind [] = tt
   behind_stops kind (x ∷ xs) =
       elim (cases_Bool (kind x)) [
@@ -64,17 +64,17 @@ module _ {X : Type 0} where
 
   pub front_is : (kind : X → Bool) (part rest : List X)
       → AllByRecursion (λ x. kind x ≡ false) part
-      → Stops kind rest
+      → StartsWith kind rest
       → front kind (part ++ rest) ≡ part
   front_is kind [] [] h ends = refl
   front_is kind [] (x ∷ rest) h ends = rw ends refl
   front_is kind (x ∷ part) rest h ends = rw h.0 (ap (λ ys. x ∷ ys) (front_is kind part rest h.1 ends))
 
-BeginsWith-stops : (kind : Segment → Bool) (rest : List Segment) → Stops kind rest → BeginsWith kind rest
+BeginsWith-stops : (kind : Segment → Bool) (rest : List Segment) → StartsWith kind rest → BeginsWith kind rest
 BeginsWith-stops kind [] h = tt
 BeginsWith-stops kind (segment ∷ rest) h = h
 
-stops-BeginsWith : (kind : Segment → Bool) (rest : List Segment) → BeginsWith kind rest → Stops kind rest
+stops-BeginsWith : (kind : Segment → Bool) (rest : List Segment) → BeginsWith kind rest → StartsWith kind rest
 stops-BeginsWith kind [] h = tt
 stops-BeginsWith kind (segment ∷ rest) h = h
 
@@ -300,15 +300,15 @@ module _ (begins ends : Segment → Bool) (apart : (s : Segment) → ends s ≡ 
         | inr e ↦ absurd (true≢false (sym is ∙ apart s e))
       ]
 
-  abbrev Reads : List Segment → Type 0
-  Reads segments =
+  abbrev ReadsParts : List Segment → Type 0
+  ReadsParts segments =
       ((before : List Segment) → HasNone begins before → AreParts begins ends (before ++ segments) (cut segments))
       × AreParts begins ends (behind ends segments) (cut segments)
 
   one_read : (s : Segment) (segments before : List Segment)
       → begins s ≡ true
       → HasNone begins before
-      → Reads segments
+      → ReadsParts segments
       → AreParts begins ends (before ++ s ∷ segments) ((s ∷ front ends segments) ∷ cut segments)
   one_read s segments before is none h = (
     behind ends segments,
@@ -326,7 +326,7 @@ module _ (begins ends : Segment → Bool) (apart : (s : Segment) → ends s ≡ 
     h.1,
   )
 
-  reads_first : (s : Segment) (segments : List Segment) → begins s ≡ true → Reads segments → Reads (s ∷ segments)
+  reads_first : (s : Segment) (segments : List Segment) → begins s ≡ true → ReadsParts segments → ReadsParts (s ∷ segments)
   reads_first s segments is h =
       let ended : ends s ≡ true = ends_too s is in
       rw (is, ended) ((λ before none. one_read s segments before is none h), one_read s segments [] is tt h)
@@ -334,20 +334,20 @@ module _ (begins ends : Segment → Bool) (apart : (s : Segment) → ends s ≡ 
   over : (s : Segment) (segments before : List Segment)
       → begins s ≡ false
       → HasNone begins before
-      → Reads segments
+      → ReadsParts segments
       → AreParts begins ends (before ++ s ∷ segments) (cut segments)
   over s segments before not_ none h =
       subst (λ whole. AreParts begins ends whole (cut segments)) (append_assoc before (s ∷ []) segments)
       (h.0 (before ++ s ∷ []) (none_more before s none not_))
 
-  reads_over : (s : Segment) (segments : List Segment) → begins s ≡ false → Reads segments → Reads (s ∷ segments)
+  reads_over : (s : Segment) (segments : List Segment) → begins s ≡ false → ReadsParts segments → ReadsParts (s ∷ segments)
   reads_over s segments not_ h =
       elim (cases_Bool (ends s)) [
         | inl ended ↦ rw (not_, ended) ((λ before none. over s segments before not_ none h), over s segments [] not_ tt h)
         | inr on ↦ rw (not_, on) ((λ before none. over s segments before not_ none h), h.1)
       ]
 
-  reads : (segments : List Segment) → Reads segments
+  reads : (segments : List Segment) → ReadsParts segments
   reads [] = ((λ before none. subst (HasNone begins) (sym (append-nil before)) none), tt)
   reads (s ∷ segments) =
       elim (cases_Bool (begins s)) [

@@ -26,7 +26,7 @@ use Rattle.edi_law.specs.Lines.{IsLine, IsAmount}
 use Rattle.edi_law.specs.Lowest.{IsLowest, IsFaultless}
 use Rattle.edi_law.specs.Parts.{OfLines}
 use Rattle.edi_law.specs.Receipt.{HasFunctionOf, HasKind, HasReceived, IsReceiptLine}
-use Rattle.edi_law.specs.Receipt.{AreWithin, AreReceived, IsRight, IsReceiptUnit, IsReceipt}
+use Rattle.edi_law.specs.Receipt.{AreWithin, AreReceived, IsRightReceipt, IsReceiptUnit, IsReceipt}
 use Rattle.edi_law.specs.Segments.{says}
 use Rattle.edi_law.specs.Units.{OfUnits, AreLines, HasSscc, IsUnit, AreMarked}
 use Rattle.edi_law.proofs.Deciding.{Refutes, Refutes-not, Refutes-false, said_of, unwrap_of}
@@ -196,8 +196,8 @@ Decides-quantities message line =
 
 -- each condition, if what the lower numbers check is valid
 refutes : (m : RawMessage) (fault : MessageFault)
-    → ((other : MessageFault) → number other < number fault → IsRight m other)
-    → Refutes (holds fault m) (IsRight m fault)
+    → ((other : MessageFault) → number other < number fault → IsRightReceipt m other)
+    → Refutes (holds fault m) (IsRightReceipt m fault)
 refutes m faults.MessageType lower = Refutes-not _ (Decides-type (codes "RECADV") m)
 refutes m faults.Beginning lower = Refutes-not _ (Decides-begins (codes "632") m.segments)
 refutes m faults.Function lower = Refutes-not _ (Decides-has_function m.segments)
@@ -250,7 +250,7 @@ unit_is unit one h =
     ∙ zip_is line_of IsReceiptLine line_is given.groups one.lines given.are)
 
 -- what the advice says
-contents_there : (m : RawMessage) → IsFaultless (IsRight m) → IsReceipt m.segments (contents_of m.segments)
+contents_there : (m : RawMessage) → IsFaultless (IsRightReceipt m) → IsReceipt m.segments (contents_of m.segments)
 contents_there m right =
     let message = m.segments in
     let beginning = right faults.Beginning in
@@ -293,15 +293,15 @@ contents_are message receipt h =
     (ap (map unit_from) (read_units-from_AreReadUnits given.units message given.are_units)
     ∙ zip_is unit_from IsReceiptUnit unit_is given.units receipt.units given.are)
 
-pub fault_law : (m : RawMessage) (fault : MessageFault) → (receipt_of m ≡ Err fault) ↔ IsLowest (IsRight m) fault
+pub fault_law : (m : RawMessage) (fault : MessageFault) → (receipt_of m ≡ Err fault) ↔ IsLowest (IsRightReceipt m) fault
 unfolding receipt_of
-fault_law m fault = fault_is_lowest (λ f. holds f m) (IsRight m) (refutes m) refl (contents_of m.segments) fault
+fault_law m fault = fault_is_lowest (λ f. holds f m) (IsRightReceipt m) (refutes m) refl (contents_of m.segments) fault
 
 pub receipt_law : (m : RawMessage) (receipt : Receipt)
-    → (receipt_of m ≡ Ok receipt) ↔ (IsFaultless (IsRight m) × IsReceipt m.segments receipt)
+    → (receipt_of m ≡ Ok receipt) ↔ (IsFaultless (IsRightReceipt m) × IsReceipt m.segments receipt)
 unfolding receipt_of
 receipt_law m receipt =
-    let law = content_is_faultless (λ f. holds f m) (IsRight m) (refutes m) refl (contents_of m.segments) receipt in (
+    let law = content_is_faultless (λ f. holds f m) (IsRightReceipt m) (refutes m) refl (contents_of m.segments) receipt in (
       (λ h. let both = law.0 h in (both.0, subst (IsReceipt m.segments) both.1 (contents_there m both.0))),
       (λ h. law.1 (h.0, contents_are m.segments receipt h.1)),
     )

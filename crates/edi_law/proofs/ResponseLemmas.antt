@@ -18,7 +18,7 @@ use Rattle.edi_messages.specs.Values.{is_document_number}
 use Rattle.edi_messages.specs.declared.fault.MessageFault.{MessageFault}
 use Rattle.edi_messages.specs.declared.fault.MessageFault.TheVariants as faults
 use Rattle.edi_orders.specs.Response as spec
-use Rattle.edi_orders.specs.Response.{read_groups, changed, answer_by, line_answer, is_of_order}
+use Rattle.edi_orders.specs.Response.{read_groups, changed_quantity, answer_by, line_answer, is_of_order}
 use Rattle.edi_orders.specs.Response.{has_no_reference_or_one_to, is_reference_to, holds, line_of, answer_of, contents_of, response_of}
 use Rattle.edi_orders.specs.declared.response.Answer.{Answer}
 use Rattle.edi_orders.specs.declared.response.Answer.TheVariants as answers
@@ -34,7 +34,7 @@ use Rattle.edi_law.specs.References.{is_rff_on, NamesOrder, NamesLineOrNone, Hea
 use Rattle.edi_law.specs.Response.{Extent, EachLine, NoneOfAll, AllOfAll, Action, Accept, Refuse, Change, HasExtent}
 use Rattle.edi_law.specs.Response.{OfReadLines, IsAction, HasAction, AreAnswered, HasChange, IsChangeRight}
 use Rattle.edi_law.specs.Response.{HasNoReferenceOrOneTo}
-use Rattle.edi_law.specs.Response.{IsRight, HasAnswer, IsAnswerLine, HasAnswers, IsResponse}
+use Rattle.edi_law.specs.Response.{IsRightResponse, HasAnswer, IsAnswerLine, HasAnswers, IsResponse}
 use Rattle.edi_law.specs.Segments.{says}
 use Rattle.edi_law.specs.Values.{IsDocumentNumber}
 use Rattle.edi_law.proofs.Deciding.{Says, Refutes, Refutes-not, Refutes-and, Refutes-false, Decides-all, Decides-is_some}
@@ -145,7 +145,7 @@ action group = action_of (component (line group) 1 0)
 abbrev answer_to_line : Option Action → List Segment → Option LineAnswer
 answer_to_line (Some Accept) group = Some line_answers.Accepted
 answer_to_line (Some Refuse) group = Some line_answers.Refused
-answer_to_line (Some Change) group = option_map line_answers.Changed (changed group)
+answer_to_line (Some Change) group = option_map line_answers.Changed (changed_quantity group)
 answer_to_line None group = Some line_answers.Accepted
 
 record IsSameAction (code : List ℕ) : Type 0 where
@@ -225,7 +225,7 @@ change_by group false e n = (
   ]),
 )
 
-Says-changed : (group : List Segment) → Says (changed group) (HasChange group)
+Says-changed : (group : List Segment) → Says (changed_quantity group) (HasChange group)
 Says-changed group = change_by group (list_any is_changed group) refl
 
 abbrev IsChangeFound : Option Action → List Segment → Type 0
@@ -240,8 +240,8 @@ Decides-answer_by None group = ((λ t e. absurd cc), (λ h. refl))
 Decides-answer_by (Some Accept) group = ((λ t e. absurd cc), (λ h. refl))
 Decides-answer_by (Some Refuse) group = ((λ t e. absurd cc), (λ h. refl))
 Decides-answer_by (Some Change) group =
-    let d = Decides-is_some (changed group) (HasChange group) (Says-changed group) in
-    ((λ t e. d.0 (sym (mapped (changed group)) ∙ t)), (λ h. mapped (changed group) ∙ d.1 (h refl)))
+    let d = Decides-is_some (changed_quantity group) (HasChange group) (Says-changed group) in
+    ((λ t e. d.0 (sym (mapped (changed_quantity group)) ∙ t)), (λ h. mapped (changed_quantity group) ∙ d.1 (h refl)))
 
 Decides-change : (group : List Segment) → Decides (is_some (line_answer group)) (IsChangeRight group)
 Decides-change group =
@@ -291,7 +291,7 @@ Decides-references message =
     (HasNoReferenceOrOneTo number) (Decides-has_no_reference_or_one_to number)) message)
 
 -- each condition
-refutes : (m : RawMessage) (fault : MessageFault) → Refutes (holds fault m) (IsRight m fault)
+refutes : (m : RawMessage) (fault : MessageFault) → Refutes (holds fault m) (IsRightResponse m fault)
 refutes m faults.MessageType = Refutes-not _ (Decides-type (codes "ORDRSP") m)
 refutes m faults.Beginning = Refutes-not _ (Decides-begins (codes "231") m.segments)
 refutes m faults.Function = Refutes-not _ (Decides-extent m.segments)
@@ -392,7 +392,7 @@ answered message e h =
     ∙ ap (λ o. answer_to o (read_lines message)) (extent_back message e h)
 
 each_answered : (m : RawMessage)
-    → IsFaultless (IsRight m)
+    → IsFaultless (IsRightResponse m)
     → HasExtent m.segments EachLine
     → OfLines (λ groups. AllZip IsAnswerLine groups (read_lines m.segments)) m.segments
 each_answered m right h =
@@ -410,7 +410,7 @@ each_answered m right h =
     }
 
 answers_there : (m : RawMessage) (e : Extent)
-    → IsFaultless (IsRight m)
+    → IsFaultless (IsRightResponse m)
     → HasExtent m.segments e
     → HasAnswers m.segments (answer_to (Some e) (read_lines m.segments))
 answers_there m EachLine right h = (h, each_answered m right h)
@@ -427,7 +427,7 @@ answers_are message (answers.Lines lines) h =
     let groups = groups_read message h.0 ∙ line_groups-from_AreLineGroups given.groups message given.are_groups in
     answered message EachLine h.0 ∙ ap answers.Lines (ap (map line_of) groups ∙ lines_are given.groups lines given.are)
 
-contents_there : (m : RawMessage) → IsFaultless (IsRight m) → IsResponse m.segments (contents_of m.segments)
+contents_there : (m : RawMessage) → IsFaultless (IsRightResponse m) → IsResponse m.segments (contents_of m.segments)
 contents_there m right =
     let message = m.segments in
     let parties = right faults.Parties in
@@ -471,16 +471,16 @@ contents_are message response h =
     ∙ ap (λ a. response_from response.number response.buyer response.supplier response.order a)
     (answers_are message response.answer h.answer_is)
 
-pub fault_law : (m : RawMessage) (fault : MessageFault) → (response_of m ≡ Err fault) ↔ IsLowest (IsRight m) fault
+pub fault_law : (m : RawMessage) (fault : MessageFault) → (response_of m ≡ Err fault) ↔ IsLowest (IsRightResponse m) fault
 unfolding response_of
-fault_law m fault = fault_is_lowest (λ f. holds f m) (IsRight m) (λ f lower. refutes m f) refl
+fault_law m fault = fault_is_lowest (λ f. holds f m) (IsRightResponse m) (λ f lower. refutes m f) refl
     (contents_of m.segments) fault
 
 pub response_law : (m : RawMessage) (response : Response)
-    → (response_of m ≡ Ok response) ↔ (IsFaultless (IsRight m) × IsResponse m.segments response)
+    → (response_of m ≡ Ok response) ↔ (IsFaultless (IsRightResponse m) × IsResponse m.segments response)
 unfolding response_of
 response_law m response =
-    let law = content_is_faultless (λ f. holds f m) (IsRight m) (λ f lower. refutes m f) refl
+    let law = content_is_faultless (λ f. holds f m) (IsRightResponse m) (λ f lower. refutes m f) refl
     (contents_of m.segments) response in (
       (λ h. let both = law.0 h in (both.0, subst (IsResponse m.segments) both.1 (contents_there m both.0))),
       (λ h. law.1 (h.0, contents_are m.segments response h.1)),

@@ -16,7 +16,7 @@ use Rattle.edi_messages.specs.Values.{is_date}
 use Rattle.edi_law.specs.Values.{IsDigit, IsDocumentNumber, IsCount, IsLineNumber, IsNoFraction, IsQuantity, IsInCalendar}
 use Rattle.edi_law.specs.Values.{IsDay, IsMinute, IsDayAndMinute, IsDate}
 use Rattle.edi_law.proofs.Deciding.{Says, Decides-leb, Decides-true, Decides-false, Decides-all, Says-like, Says-if, Says-when}
-use Rattle.edi_law.proofs.PartLemmas.{front, behind, Stops, taken, front_behind, front_within, front_is}
+use Rattle.edi_law.proofs.PartLemmas.{front, behind, StartsWith, taken, front_behind, front_within, front_is}
 
 Decides-digit : (byte : ℕ) → Decides (is_digit byte) (IsDigit byte)
 Decides-digit byte = Decides-and (nat_le 48 byte) (nat_le byte 57) (Decides-leb 48 byte) (Decides-leb byte 57)
@@ -126,7 +126,7 @@ mark_stops : (mark : ℕ) → (mark ≡ 46) ⊎ (mark ≡ 44) → not_digit mark
 mark_stops mark (inl e) = rw e refl
 mark_stops mark (inr e) = rw e refl
 
-fraction_stops : (bytes : List ℕ) → IsNoFraction bytes → Stops not_digit bytes
+fraction_stops : (bytes : List ℕ) → IsNoFraction bytes → StartsWith not_digit bytes
 fraction_stops [] h = tt
 fraction_stops (mark ∷ zeros) h = mark_stops mark h.0
 

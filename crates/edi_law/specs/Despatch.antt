@@ -31,22 +31,22 @@ HasReferenceOrInherits inherited group =
     OfOnly is_rff_on group (λ rff. ((order : List ℕ) × NamesOrder order rff) × NamesLineOrNone rff)
     ⊎ (HasNone is_rff_on group × ((order : List ℕ) × (inherited ≡ Some order)))
 
-abbrev pub IsRight : RawMessage → MessageFault → Type 0
-IsRight m fault.MessageType = IsOfType (codes "DESADV") m
-IsRight m fault.Beginning = (number : List ℕ) × HasBeginning (codes "351") m.segments number
-IsRight m fault.Function = HasFunction m.segments (codes "9")
-IsRight m fault.Date = IsDated m.segments
-IsRight m fault.Parties = ((buyer : Option (List ℕ)) × NamesBuyer m.segments buyer)
+abbrev pub IsRightDespatch : RawMessage → MessageFault → Type 0
+IsRightDespatch m fault.MessageType = IsOfType (codes "DESADV") m
+IsRightDespatch m fault.Beginning = (number : List ℕ) × HasBeginning (codes "351") m.segments number
+IsRightDespatch m fault.Function = HasFunction m.segments (codes "9")
+IsRightDespatch m fault.Date = IsDated m.segments
+IsRightDespatch m fault.Parties = ((buyer : Option (List ℕ)) × NamesBuyer m.segments buyer)
     × ((supplier : List ℕ) × NamesParty (codes "SU") m.segments supplier)
-IsRight m fault.Line = AreLines m.segments
-IsRight m fault.Quantity =
+IsRightDespatch m fault.Line = AreLines m.segments
+IsRightDespatch m fault.Quantity =
     OfUnitLines (AllByRecursion (λ group. (quantity : ℕ) × HasQuantity (codes "12") 1 group quantity)) m.segments
-IsRight m fault.Reference = (inherited : Option (List ℕ)) × Inherits m.segments inherited
+IsRightDespatch m fault.Reference = (inherited : Option (List ℕ)) × Inherits m.segments inherited
     × OfUnitLines (AllByRecursion (HasReferenceOrInherits inherited)) m.segments
-IsRight m fault.Unit = HasUnits m.segments
-IsRight m fault.Control = IsControlled m.segments
-IsRight m fault.WithoutLines = HasLine m.segments
-IsRight m other = ⊤
+IsRightDespatch m fault.Unit = HasUnits m.segments
+IsRightDespatch m fault.Control = IsControlled m.segments
+IsRightDespatch m fault.WithoutLines = HasLine m.segments
+IsRightDespatch m other = ⊤
 
 -- a line of the advice is what its group says
 pub record IsDespatchLine (inherited : Option (List ℕ)) (group : List Segment) (line : DespatchLine) : Type 0 where

@@ -18,20 +18,20 @@ pub record AreNumbered (groups : List (List Segment)) : Type 0 where
   pub lines : AllZip (λ group number. (gtin : List ℕ) × IsLine group number gtin) groups numbers
   pub apart : NoneTwice numbers
 
-abbrev pub IsRight : RawMessage → MessageFault → Type 0
-IsRight m fault.MessageType = IsOfType (codes "ORDERS") m
-IsRight m fault.Beginning = (number : List ℕ) × HasBeginning (codes "220") m.segments number
-IsRight m fault.Function = HasFunction m.segments (codes "9")
-IsRight m fault.Date = IsDated m.segments
-IsRight m fault.Parties = ((buyer : List ℕ) × NamesParty (codes "BY") m.segments buyer)
+abbrev pub IsRightOrder : RawMessage → MessageFault → Type 0
+IsRightOrder m fault.MessageType = IsOfType (codes "ORDERS") m
+IsRightOrder m fault.Beginning = (number : List ℕ) × HasBeginning (codes "220") m.segments number
+IsRightOrder m fault.Function = HasFunction m.segments (codes "9")
+IsRightOrder m fault.Date = IsDated m.segments
+IsRightOrder m fault.Parties = ((buyer : List ℕ) × NamesParty (codes "BY") m.segments buyer)
     × ((supplier : List ℕ) × NamesParty (codes "SU") m.segments supplier)
-IsRight m fault.Summary = IsClosed m.segments
-IsRight m fault.Line = OfLines AreNumbered m.segments
-IsRight m fault.Quantity =
+IsRightOrder m fault.Summary = IsClosed m.segments
+IsRightOrder m fault.Line = OfLines AreNumbered m.segments
+IsRightOrder m fault.Quantity =
     OfLines (AllByRecursion (λ group. (quantity : ℕ) × HasQuantity (codes "21") 1 group quantity)) m.segments
-IsRight m fault.Control = IsControlled m.segments
-IsRight m fault.WithoutLines = HasLine m.segments
-IsRight m other = ⊤
+IsRightOrder m fault.Control = IsControlled m.segments
+IsRightOrder m fault.WithoutLines = HasLine m.segments
+IsRightOrder m other = ⊤
 
 -- a line of the order is what its group says
 pub record IsOrderLine (group : List Segment) (line : OrderLine) : Type 0 where

@@ -61,19 +61,19 @@ abbrev pub HasFunctionOf : Bool → List Segment → Type 0
 HasFunctionOf false message = HasFunction message (codes "9")
 HasFunctionOf true message = HasFunction message (codes "5")
 
-abbrev pub IsRight : RawMessage → MessageFault → Type 0
-IsRight m fault.MessageType = IsOfType (codes "RECADV") m
-IsRight m fault.Beginning = (number : List ℕ) × HasBeginning (codes "632") m.segments number
-IsRight m fault.Function = (replaces : Bool) × HasFunctionOf replaces m.segments
-IsRight m fault.Date = IsDated m.segments
-IsRight m fault.Parties = ((buyer : Option (List ℕ)) × NamesBuyer m.segments buyer)
+abbrev pub IsRightReceipt : RawMessage → MessageFault → Type 0
+IsRightReceipt m fault.MessageType = IsOfType (codes "RECADV") m
+IsRightReceipt m fault.Beginning = (number : List ℕ) × HasBeginning (codes "632") m.segments number
+IsRightReceipt m fault.Function = (replaces : Bool) × HasFunctionOf replaces m.segments
+IsRightReceipt m fault.Date = IsDated m.segments
+IsRightReceipt m fault.Parties = ((buyer : Option (List ℕ)) × NamesBuyer m.segments buyer)
     × ((supplier : List ℕ) × NamesParty (codes "SU") m.segments supplier)
-IsRight m fault.Line = AreLines m.segments
-IsRight m fault.Quantity = OfUnits (AllByRecursion (OfLines AreReceived)) m.segments
-IsRight m fault.Unit = HasUnits m.segments
-IsRight m fault.Control = IsControlled m.segments
-IsRight m fault.WithoutLines = HasLine m.segments
-IsRight m other = ⊤
+IsRightReceipt m fault.Line = AreLines m.segments
+IsRightReceipt m fault.Quantity = OfUnits (AllByRecursion (OfLines AreReceived)) m.segments
+IsRightReceipt m fault.Unit = HasUnits m.segments
+IsRightReceipt m fault.Control = IsControlled m.segments
+IsRightReceipt m fault.WithoutLines = HasLine m.segments
+IsRightReceipt m other = ⊤
 
 -- a unit of the advice is what the unit of the message says
 pub record IsReceiptUnit (segments : List Segment) (unit : ReceiptUnit) : Type 0 where

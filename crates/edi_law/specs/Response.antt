@@ -72,21 +72,21 @@ abbrev pub HasNoReferenceOrOneTo : List ℕ → List Segment → Type 0
 HasNoReferenceOrOneTo order group = HasNone is_rff_on group
     ⊎ OfOnly is_rff_on group (λ rff. NamesOrder order rff × NamesLineOrNone rff)
 
-abbrev pub IsRight : RawMessage → MessageFault → Type 0
-IsRight m fault.MessageType = IsOfType (codes "ORDRSP") m
-IsRight m fault.Beginning = (number : List ℕ) × HasBeginning (codes "231") m.segments number
-IsRight m fault.Function = (extent : Extent) × HasExtent m.segments extent
-IsRight m fault.Date = IsDated m.segments
-IsRight m fault.Parties = ((buyer : List ℕ) × NamesParty (codes "BY") m.segments buyer)
+abbrev pub IsRightResponse : RawMessage → MessageFault → Type 0
+IsRightResponse m fault.MessageType = IsOfType (codes "ORDRSP") m
+IsRightResponse m fault.Beginning = (number : List ℕ) × HasBeginning (codes "231") m.segments number
+IsRightResponse m fault.Function = (extent : Extent) × HasExtent m.segments extent
+IsRightResponse m fault.Date = IsDated m.segments
+IsRightResponse m fault.Parties = ((buyer : List ℕ) × NamesParty (codes "BY") m.segments buyer)
     × ((supplier : List ℕ) × NamesParty (codes "SU") m.segments supplier)
-IsRight m fault.Summary = IsClosed m.segments
-IsRight m fault.Line = OfReadLines AreAnswered m.segments
-IsRight m fault.Quantity = OfReadLines (AllByRecursion IsChangeRight) m.segments
-IsRight m fault.Reference = (order : List ℕ) × HeaderNames m.segments order
+IsRightResponse m fault.Summary = IsClosed m.segments
+IsRightResponse m fault.Line = OfReadLines AreAnswered m.segments
+IsRightResponse m fault.Quantity = OfReadLines (AllByRecursion IsChangeRight) m.segments
+IsRightResponse m fault.Reference = (order : List ℕ) × HeaderNames m.segments order
     × OfReadLines (AllByRecursion (HasNoReferenceOrOneTo order)) m.segments
-IsRight m fault.Control = IsControlled m.segments
-IsRight m fault.WithoutLines = HasExtent m.segments EachLine → HasLine m.segments
-IsRight m other = ⊤
+IsRightResponse m fault.Control = IsControlled m.segments
+IsRightResponse m fault.WithoutLines = HasExtent m.segments EachLine → HasLine m.segments
+IsRightResponse m other = ⊤
 
 -- the answer to a line
 abbrev pub HasAnswer : List Segment → LineAnswer → Type 0

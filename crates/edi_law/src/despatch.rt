@@ -2,7 +2,7 @@ ghost use Rattle.std.specs.Prelude.{◌≡◌, ◌↔◌, Ok, Err};
 ghost use Rattle.edi_envelope.specs.declared.interchange.RawMessage.{RawMessage};
 ghost use Rattle.edi_goods.specs.Despatch.{despatch_of};
 ghost use Rattle.edi_goods.specs.declared.despatch.Despatch.{Despatch};
-ghost use Rattle.edi_law.specs.Despatch.{IsRight, IsDespatch};
+ghost use Rattle.edi_law.specs.Despatch.{IsRightDespatch, IsDespatch};
 ghost use Rattle.edi_law.specs.Lowest.{IsLowest, IsFaultless};
 ghost use Rattle.edi_messages.specs.declared.fault.MessageFault.{MessageFault};
 
@@ -11,8 +11,8 @@ ghost use Rattle.edi_messages.specs.declared.fault.MessageFault.{MessageFault};
 /// what the message says.
 pub fn despatch_law()
     ensures fault { (message : RawMessage) (fault : MessageFault) →
-        (despatch_of message ≡ Err fault) ↔ IsLowest (IsRight message) fault }
+        (despatch_of message ≡ Err fault) ↔ IsLowest (IsRightDespatch message) fault }
     ensures despatch { (message : RawMessage) (despatch : Despatch) →
         (despatch_of message ≡ Ok despatch) ↔
-        (IsFaultless (IsRight message) × IsDespatch message.segments despatch) }
+        (IsFaultless (IsRightDespatch message) × IsDespatch message.segments despatch) }
 {}

@@ -1,7 +1,7 @@
 ghost use Rattle.std.specs.Prelude.{◌≡◌, ◌↔◌, Ok, Err};
 ghost use Rattle.edi_envelope.specs.declared.interchange.RawMessage.{RawMessage};
 ghost use Rattle.edi_law.specs.Lowest.{IsLowest, IsFaultless};
-ghost use Rattle.edi_law.specs.Order.{IsRight, IsOrder};
+ghost use Rattle.edi_law.specs.Order.{IsRightOrder, IsOrder};
 ghost use Rattle.edi_messages.specs.declared.fault.MessageFault.{MessageFault};
 ghost use Rattle.edi_orders.specs.Order.{order_of};
 ghost use Rattle.edi_orders.specs.declared.order.Order.{Order};
@@ -11,7 +11,7 @@ ghost use Rattle.edi_orders.specs.declared.order.Order.{Order};
 /// message says.
 pub fn order_law()
     ensures fault { (message : RawMessage) (fault : MessageFault) →
-        (order_of message ≡ Err fault) ↔ IsLowest (IsRight message) fault }
+        (order_of message ≡ Err fault) ↔ IsLowest (IsRightOrder message) fault }
     ensures order { (message : RawMessage) (order : Order) →
-        (order_of message ≡ Ok order) ↔ (IsFaultless (IsRight message) × IsOrder message.segments order) }
+        (order_of message ≡ Ok order) ↔ (IsFaultless (IsRightOrder message) × IsOrder message.segments order) }
 {}

@@ -3,7 +3,7 @@ ghost use Rattle.edi_envelope.specs.declared.interchange.RawMessage.{RawMessage}
 ghost use Rattle.edi_goods.specs.Receipt.{receipt_of};
 ghost use Rattle.edi_goods.specs.declared.receipt.Receipt.{Receipt};
 ghost use Rattle.edi_law.specs.Lowest.{IsLowest, IsFaultless};
-ghost use Rattle.edi_law.specs.Receipt.{IsRight, IsReceipt};
+ghost use Rattle.edi_law.specs.Receipt.{IsRightReceipt, IsReceipt};
 ghost use Rattle.edi_messages.specs.declared.fault.MessageFault.{MessageFault};
 
 /// States when a message is read as a receiving advice. It has a fault exactly if what this fault checks is not valid,
@@ -11,8 +11,8 @@ ghost use Rattle.edi_messages.specs.declared.fault.MessageFault.{MessageFault};
 /// what the message says.
 pub fn receipt_law()
     ensures fault { (message : RawMessage) (fault : MessageFault) →
-        (receipt_of message ≡ Err fault) ↔ IsLowest (IsRight message) fault }
+        (receipt_of message ≡ Err fault) ↔ IsLowest (IsRightReceipt message) fault }
     ensures receipt { (message : RawMessage) (receipt : Receipt) →
         (receipt_of message ≡ Ok receipt) ↔
-        (IsFaultless (IsRight message) × IsReceipt message.segments receipt) }
+        (IsFaultless (IsRightReceipt message) × IsReceipt message.segments receipt) }
 {}

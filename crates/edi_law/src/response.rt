@@ -1,7 +1,7 @@
 ghost use Rattle.std.specs.Prelude.{◌≡◌, ◌↔◌, Ok, Err};
 ghost use Rattle.edi_envelope.specs.declared.interchange.RawMessage.{RawMessage};
 ghost use Rattle.edi_law.specs.Lowest.{IsLowest, IsFaultless};
-ghost use Rattle.edi_law.specs.Response.{IsRight, IsResponse};
+ghost use Rattle.edi_law.specs.Response.{IsRightResponse, IsResponse};
 ghost use Rattle.edi_messages.specs.declared.fault.MessageFault.{MessageFault};
 ghost use Rattle.edi_orders.specs.Response.{response_of};
 ghost use Rattle.edi_orders.specs.declared.response.Response.{Response};
@@ -11,8 +11,8 @@ ghost use Rattle.edi_orders.specs.declared.response.Response.{Response};
 /// is what the message says.
 pub fn response_law()
     ensures fault { (message : RawMessage) (fault : MessageFault) →
-        (response_of message ≡ Err fault) ↔ IsLowest (IsRight message) fault }
+        (response_of message ≡ Err fault) ↔ IsLowest (IsRightResponse message) fault }
     ensures response { (message : RawMessage) (response : Response) →
         (response_of message ≡ Ok response) ↔
-        (IsFaultless (IsRight message) × IsResponse message.segments response) }
+        (IsFaultless (IsRightResponse message) × IsResponse message.segments response) }
 {}

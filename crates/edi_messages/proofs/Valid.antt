@@ -2,13 +2,13 @@
 use Rattle.std.proofs.Common.{◌≡◌, ◌⊎◌, inl, inr, Bool, false, List, [], ◌∷◌, find, Option, Some, None, Ok, refl, sym, ap}
 use Rattle.std.proofs.Common.{◌==◌, ◌∙◌}
 use Rattle.std.proofs.lemmas.Bool.{cases_Bool}
-use Rattle.edi_base.proofs.Lowest.{Among, Above, Above-from_test, all_false}
+use Rattle.edi_base.proofs.Lowest.{Among, RiseAbove, RiseAbove-from_test, all_false}
 use Rattle.edi_messages.specs.Fault.{number, faults, unless, unless_any}
 use Rattle.edi_messages.specs.declared.fault.MessageFault.{MessageFault}
 use Rattle.edi_messages.specs.declared.fault.MessageFault.TheVariants as fault
 
-pub rising : Above number 0 faults
-rising = Above-from_test number 0 faults refl
+pub rising : RiseAbove number 0 faults
+rising = RiseAbove-from_test number 0 faults refl
 
 found_among : (p : MessageFault → Bool) (among : List MessageFault) (f : MessageFault) → find p among ≡ Some f → Among f among
 found_among p [] f h = absurd cc

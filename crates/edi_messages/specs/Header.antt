@@ -46,13 +46,13 @@ abbrev pub has_date : List Segment → Bool
 has_date message = is_dated (only_qualified (codes "DTM") (codes "137") (header message))
 
 -- the GLN of a party (3039), if it is valid, and 3055 says by 9 that it is one
-abbrev pub named_by : Segment → Option (List ℕ)
-named_by party = if is_gln (component party 1 0) && bytes_eq (component party 1 2) (codes "9")
+abbrev pub party_gln : Segment → Option (List ℕ)
+party_gln party = if is_gln (component party 1 0) && bytes_eq (component party 1 2) (codes "9")
     then Some (component party 1 0) else None
 
 -- the party that the one NAD of a role (3035) in the header names: BY is the buyer, SU the supplier
 abbrev pub party : List ℕ → List Segment → Option (List ℕ)
-party role message = option_and_then named_by (only_qualified (codes "NAD") role (header message))
+party role message = option_and_then party_gln (only_qualified (codes "NAD") role (header message))
 
 abbrev pub supplier_of : List Segment → Option (List ℕ)
 supplier_of = party (codes "SU")

@@ -81,8 +81,8 @@ pub fn has_date(message: &[Segment]) -> bool
 }
 
 // Returns the GLN of a party, if it is valid and 3055 says that it is one.
-fn named_by(party: &Segment) -> Option<Gln>
-    ensures { result ≡ spec.named_by party.now }
+fn party_gln(party: &Segment) -> Option<Gln>
+    ensures { result ≡ spec.party_gln party.now }
 {
     let gln = Gln::parse(party.component(1, 0))?;
     if party.component(1, 2) == b"9".as_slice() {
@@ -97,7 +97,7 @@ fn named_by(party: &Segment) -> Option<Gln>
 pub fn party(role: &[u8], message: &[Segment]) -> Option<Gln>
     ensures { result ≡ spec.party role.now message.now }
 {
-    named_by(only_qualified(b"NAD", role, header(message))?)
+    party_gln(only_qualified(b"NAD", role, header(message))?)
 }
 
 /// Returns the supplier that the header of a message names: there is exactly one NAD with 3035 SU, and it has a valid

@@ -42,7 +42,7 @@ abbrev pub time_text : ℕ → List ℕ
 time_text moment = two_digits (moment % 86_400 / 3_600) ++ two_digits (moment % 3_600 / 60)
 
 -- the clock shows the date, hour and minute of this moment in UTC
-pub record Shows (clock : DateTime) (moment : ℕ) : Type 0 where
+pub record ClockShows (clock : DateTime) (moment : ℕ) : Type 0 where
   pub year : clock.date.year ≡ pos (day_of moment).year
   pub month : clock.date.month ≡ (day_of moment).month
   pub day : clock.date.day ≡ (day_of moment).day

@@ -1,5 +1,5 @@
 ghost use Rattle.std.specs.Prelude.{◌≡◌, ◌≤◌, ◌↔◌, IsSome, IfSome};
-ghost use Rattle.edi_moment.specs.Moment.{last_moment, date_text, time_text, Shows, two_digits as decimals};
+ghost use Rattle.edi_moment.specs.Moment.{last_moment, date_text, time_text, ClockShows, two_digits as decimals};
 
 use jiff::Timestamp;
 use jiff::civil::DateTime;
@@ -52,7 +52,7 @@ impl Moment {
 
 // Returns what a clock in UTC shows.
 fn utc(moment: Moment) -> DateTime
-    ensures { Shows result moment }
+    ensures { ClockShows result moment }
 {
     let instant = Timestamp::from_second(moment.seconds() as i64).unwrap();
     Offset::UTC.to_datetime(instant)

@@ -58,15 +58,15 @@ abbrev pub action : List Segment → Option Action
 action group = action_of (component (line group) 1 0)
 
 -- the quantity to be delivered (QTY with 6063 113), or else the quantity ordered (21)
-abbrev pub changed : List Segment → Option ℕ
-changed group = if has_qualified (codes "QTY") (codes "113") group then quantity_of (codes "113") 0 group
+abbrev pub changed_quantity : List Segment → Option ℕ
+changed_quantity group = if has_qualified (codes "QTY") (codes "113") group then quantity_of (codes "113") 0 group
     else quantity_of (codes "21") 0 group
 
 -- the answer to a line; only a change has a quantity. A missing action is a fault of the line and not of its quantity.
 abbrev pub answer_by : Option Action → List Segment → Option LineAnswer
 answer_by (Some actions.Accept) group = Some line_answers.Accepted
 answer_by (Some actions.Refuse) group = Some line_answers.Refused
-answer_by (Some actions.Change) group = option_map line_answers.Changed (changed group)
+answer_by (Some actions.Change) group = option_map line_answers.Changed (changed_quantity group)
 answer_by None group = Some line_answers.Accepted
 
 abbrev pub line_answer : List Segment → Option LineAnswer

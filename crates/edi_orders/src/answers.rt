@@ -80,8 +80,8 @@ pub(crate) fn action_items<'a, 'b>(
     Ok(lines)
 }
 
-fn changed(group: &[Segment]) -> Option<u32>
-    ensures { result ≡ spec.changed group.now }
+fn changed_quantity(group: &[Segment]) -> Option<u32>
+    ensures { result ≡ spec.changed_quantity group.now }
 {
     if has_qualified(b"QTY", b"113", group) {
         quantity_of(b"113", 0, group)
@@ -97,7 +97,7 @@ pub fn answer_by(action: Action, group: &[Segment]) -> Option<LineAnswer>
     match action {
         Action::Accept => Some(LineAnswer::Accepted),
         Action::Refuse => Some(LineAnswer::Refused),
-        Action::Change => Some(LineAnswer::Changed(changed(group)?)),
+        Action::Change => Some(LineAnswer::Changed(changed_quantity(group)?)),
     }
 }
 

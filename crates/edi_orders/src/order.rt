@@ -8,7 +8,7 @@ ghost use Rattle.edi_messages.specs.Lines.{number_or_zero};
 ghost use Rattle.edi_messages.specs.Parts.{line_groups};
 ghost use Rattle.edi_orders.specs.Order as spec;
 
-use edi_base::{Items, copied};
+use edi_base::{Items, copy_bytes};
 use edi_messages::header::{begins_as, document_number, function, has_date, is_type, party};
 use edi_messages::lines::{LineItem, has_number_twice, line_items, quantity_of};
 use edi_messages::summary::{has_summary, is_controlled, line_count};
@@ -62,13 +62,13 @@ fn order_lines(alloc: Global, items: &[LineItem<'_>]) -> Result<Items<OrderLine>
 
 // The parties of an order.
 #[derive(Drop)]
-struct Heading {
+struct OrderHeading {
     buyer: Gln,
     supplier: Gln,
 }
 
 // Returns what comes before the lines, or its lowest fault.
-fn read_heading(message: &RawMessage) -> Result<Heading, MessageFault>
+fn read_heading(message: &RawMessage) -> Result<OrderHeading, MessageFault>
     ensures said { IfOk result (λ heading. (party (codes "BY") message.now.segments ≡ Some heading.buyer)
         × (party (codes "SU") message.now.segments ≡ Some heading.supplier)) }
     ensures ok { IfOk result (λ _.
@@ -93,7 +93,7 @@ fn read_heading(message: &RawMessage) -> Result<Heading, MessageFault>
     if !has_summary(segments) {
         return Err(MessageFault::Summary);
     }
-    Ok(Heading { buyer, supplier })
+    Ok(OrderHeading { buyer, supplier })
 }
 
 // Returns the lines, or their lowest fault.
@@ -123,7 +123,7 @@ impl Order {
         ensures err { IfErr result (λ fault.
             fault ≢ MessageFault.Memory → spec.order_of message.now ≡ Err fault) }
     {
-        let Heading { buyer, supplier } = read_heading(message)?;
+        let OrderHeading { buyer, supplier } = read_heading(message)?;
         let lines = read_lines(alloc, message)?;
         let segments = message.segments.as_slice();
         if !is_controlled(segments) {
@@ -133,7 +133,7 @@ impl Order {
             return Err(MessageFault::WithoutLines);
         }
         Ok(Order {
-            number: copied(alloc, document_number(segments))?,
+            number: copy_bytes(alloc, document_number(segments))?,
             buyer,
             supplier,
             lines,

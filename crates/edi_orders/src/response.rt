@@ -9,7 +9,7 @@ ghost use Rattle.edi_orders.specs.Response as spec;
 
 use crate::answers::{action_items, answer_lines, answered_items};
 use crate::extent::{Extent, extent_of};
-use edi_base::{Items, copied};
+use edi_base::{Items, copy_bytes};
 use edi_messages::header::{begins_as, document_number, function, has_date, is_type, party};
 use edi_messages::lines::{LineItem, line_items};
 use edi_messages::references::order;
@@ -97,7 +97,7 @@ fn answer_of(extent: Extent, lines: Items<AnswerLine>) -> Answer
 
 /// What comes before the lines.
 #[derive(Drop)]
-struct Heading {
+struct ResponseHeading {
     extent: Extent,
     buyer: Gln,
     supplier: Gln,
@@ -111,7 +111,7 @@ struct Answers<'a> {
 }
 
 // Returns what comes before the lines, or its lowest fault.
-fn read_heading(message: &RawMessage) -> Result<Heading, MessageFault>
+fn read_heading(message: &RawMessage) -> Result<ResponseHeading, MessageFault>
     ensures said { IfOk result (λ heading. (spec.extent message.now.segments ≡ Some heading.extent)
         × (party (codes "BY") message.now.segments ≡ Some heading.buyer)
         × (party (codes "SU") message.now.segments ≡ Some heading.supplier)) }
@@ -135,7 +135,7 @@ fn read_heading(message: &RawMessage) -> Result<Heading, MessageFault>
     if !has_summary(segments) {
         return Err(MessageFault::Summary);
     }
-    Ok(Heading {
+    Ok(ResponseHeading {
         extent,
         buyer,
         supplier,
@@ -177,7 +177,7 @@ impl Response {
             fault ≢ MessageFault.Memory → spec.response_of message.now ≡ Err fault) }
     {
         let heading = read_heading(message)?;
-        let Heading {
+        let ResponseHeading {
             extent,
             buyer,
             supplier,
@@ -191,10 +191,10 @@ impl Response {
             return Err(MessageFault::WithoutLines);
         }
         Ok(Response {
-            number: copied(alloc, document_number(segments))?,
+            number: copy_bytes(alloc, document_number(segments))?,
             buyer,
             supplier,
-            order: copied(alloc, answers.order)?,
+            order: copy_bytes(alloc, answers.order)?,
             answer: answer_of(extent, answers.lines),
         })
     }

@@ -14,7 +14,7 @@ use Rattle.edi_places.specs.Text.{unless_fault, front, reached, line_feeds, plac
 use Rattle.edi_places.specs.declared.text.TextPlace.{TextPlace}
 
 -- what the machine has done of the bytes before a place, and what is left
-pub record StandsAt (bytes : List ℕ) (machine : Machine) (offset line segment : ℕ) : Type 0 where
+pub record HasReachedPlace (bytes : List ℕ) (machine : Machine) (offset line segment : ℕ) : Type 0 where
   pub lent : List Segment
   pub counted : segment ≡ length lent + 1
   pub front_is : offset + length (front (reading_of lent machine) (drop offset bytes)) ≡ length (front start bytes)
@@ -23,7 +23,7 @@ pub record StandsAt (bytes : List ℕ) (machine : Machine) (offset line segment 
   pub few_lines : line ≤ offset + 1
   pub few_segments : segment ≤ offset + 1
 
-pub begins : (bytes : List ℕ) (machine : Machine) → reading_of [] machine ≡ start → StandsAt bytes machine 0 1 1
+pub begins : (bytes : List ℕ) (machine : Machine) → reading_of [] machine ≡ start → HasReachedPlace bytes machine 0 1 1
 begins bytes machine is = record {
   lent = [];
   counted = refl;
@@ -60,7 +60,7 @@ bit_small false = omega arith
 
 -- one more byte
 module _ (bytes : List ℕ) (machine next : Machine) (offset line segment : ℕ) (within : offset < length bytes)
-    (s : StandsAt bytes machine offset line segment) where
+    (s : HasReachedPlace bytes machine offset line segment) where
   byte : ℕ
   byte = get_or bytes offset 0
 
@@ -70,7 +70,7 @@ module _ (bytes : List ℕ) (machine next : Machine) (offset line segment : ℕ)
   -- the segments that ended are these
   goes : (lent : List Segment) (ended : Bool) → step (reading_of s.lent machine) (get_or bytes offset 0) ≡ Ok (reading_of lent next)
       → length lent ≡ length s.lent + bit ended
-      → StandsAt bytes next (offset + 1) (line + bit (nat_eq (get_or bytes offset 0) 10)) (segment + bit ended)
+      → HasReachedPlace bytes next (offset + 1) (line + bit (nat_eq (get_or bytes offset 0) 10)) (segment + bit ended)
   goes lent ended e count =
       let split = drop_more bytes offset 0 within in
       let front_now = ap (front (reading_of s.lent machine)) split
@@ -90,7 +90,7 @@ module _ (bytes : List ℕ) (machine next : Machine) (offset line segment : ℕ)
       }
 
   pub more : (ended : Bool) → run (reading_of [] machine) (get_or bytes offset 0 ∷ []) ≡ Ok (after [] ended next)
-      → StandsAt bytes next (offset + 1) (line + bit (nat_eq (get_or bytes offset 0) 10)) (segment + bit ended)
+      → HasReachedPlace bytes next (offset + 1) (line + bit (nat_eq (get_or bytes offset 0) 10)) (segment + bit ended)
   more true e =
       goes (s.lent ++ segment_of next.open ∷ []) true
       (one_step _ _ (run_lent s.lent machine next true (get_or bytes offset 0 ∷ []) e)) (length-append s.lent (segment_of next.open ∷ []))
@@ -130,7 +130,7 @@ same_place : (o p l m s t : ℕ) → o ≡ p → l ≡ m → s ≡ t
 same_place o p l m s t a b c = rw (a, b, c) refl
 
 -- nothing more is taken
-stands : (bytes : List ℕ) (machine : Machine) (offset line segment : ℕ) (s : StandsAt bytes machine offset line segment)
+stands : (bytes : List ℕ) (machine : Machine) (offset line segment : ℕ) (s : HasReachedPlace bytes machine offset line segment)
     → front (reading_of s.lent machine) (drop offset bytes) ≡ []
     → reached (reading_of s.lent machine) (drop offset bytes) ≡ reading_of s.lent machine
     → ◌≡◌ {A = TextPlace} (record { offset = offset; line = line; segment = segment })
@@ -144,7 +144,7 @@ stands bytes machine offset line segment s none there =
 
 -- the byte that shows the fault
 pub stops : (bytes : List ℕ) (machine : Machine) (offset line segment : ℕ) (fault : TokenFault) → offset < length bytes
-    → StandsAt bytes machine offset line segment
+    → HasReachedPlace bytes machine offset line segment
     → run (reading_of [] machine) (take (offset + 1 - offset) (drop offset bytes)) ≡ Err fault
     → ◌≡◌ {A = TextPlace} (record { offset = offset; line = line; segment = segment })
     (place_behind (front start bytes) (reached start bytes))
@@ -160,7 +160,7 @@ stops bytes machine offset line segment fault within s e =
 
 -- the end of the bytes
 pub ends : (bytes : List ℕ) (machine : Machine) (offset end line segment : ℕ) → offset ≡ end → length bytes ≤ offset
-    → StandsAt bytes machine offset line segment
+    → HasReachedPlace bytes machine offset line segment
     → ◌≡◌ {A = TextPlace} (record { offset = end; line = line; segment = segment })
     (place_behind (front start bytes) (reached start bytes))
 ends bytes machine offset end line segment same within s =

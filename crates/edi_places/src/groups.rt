@@ -7,7 +7,7 @@ ghost use Rattle.edi_places.specs.Groups as spec;
 
 use crate::counting::once_place;
 use edi_goods::announced::group_reference;
-use edi_goods::received::received;
+use edi_goods::received::received_quantity;
 use edi_messages::lines::{line_item, quantity_of};
 use edi_messages::parts::{group_of, has_qualified, is_lin};
 use edi_orders::answers::{action, answer_by, order_line};
@@ -55,9 +55,9 @@ fn is_received(group: &[Segment]) -> bool
     ensures { result ≡ receipt.is_received group.now }
 {
     match (
-        received(b"194", group),
-        received(b"195", group),
-        received(b"196", group),
+        received_quantity(b"194", group),
+        received_quantity(b"195", group),
+        received_quantity(b"196", group),
     ) {
         (Ok(accepted), Ok(returned), Ok(destroyed)) => {
             accepted.is_some() || returned.is_some() || destroyed.is_some()
@@ -107,9 +107,9 @@ fn received_place(group: &[Segment]) -> usize
     ensures within { result ≤ length group.now + 1 }
     ensures value { result ≡ spec.received_place group.now }
 {
-    if received(b"194", group).is_err() {
+    if received_quantity(b"194", group).is_err() {
         quantity_place(b"194", group)
-    } else if received(b"195", group).is_err() {
+    } else if received_quantity(b"195", group).is_err() {
         quantity_place(b"195", group)
     } else {
         quantity_place(b"196", group)

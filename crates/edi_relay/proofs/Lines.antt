@@ -5,7 +5,7 @@ use Rattle.std.proofs.lemmas.Bool.{true≢false, false≢true}
 use Rattle.std.specs.Io.KnownBytes.{Appends}
 use Rattle.std.proofs.KnownBytes.{Appends-trans}
 use Rattle.edi_base.specs.Buffer.{AppendsFront}
-use Rattle.edi_relay.specs.ErrorLines.{Tells}
+use Rattle.edi_relay.specs.ErrorLines.{WritesLine}
 
 -- a fact where a call failed, or did not
 pub on_err : {T E P : Type 0} (r : Result T E) → P → OnErr r P
@@ -42,7 +42,7 @@ pub tells : {E : Type 0} (old new : Option (List ℕ)) (failed : Bool) (line : L
     → OnOk written (Appends old new line)
     → OnErr written (AppendsFront old new line)
     → OnErr written (failed ≡ true)
-    → Tells old new failed line
+    → WritesLine old new failed line
 tells old new failed line (Ok done) whole front up = record {
   front = (line, [], sym (append-nil line), whole);
   whole = λ _. whole;

@@ -10,7 +10,7 @@ use Rattle.edi_segments.specs.declared.segment.Tokens.{Tokens}
 use Rattle.edi_segments.specs.declared.fault.TokenFault.{TokenFault}
 use Rattle.edi_segments.specs.declared.fault.TokenFault.TheVariants.{TooLong, ServiceString, Byte, Cut, Tag, LongSegment, Read, Memory}
 use Rattle.edi_segments.specs.Reading.{tokens_of}
-use Rattle.edi_tokens.specs.Lender.{AtEnd, Fed, Told, Feeds, Flags, TakesOf, answered, decimal_of, lent_by, room_of, stopped}
+use Rattle.edi_tokens.specs.Lender.{AtEnd, Fed, TellsNext, Feeds, FaultHasCause, TakesOf, answered, decimal_of, lent_by, room_of, stopped}
 use Rattle.edi_tokens.specs.Stops.{StaysStopped, Stops}
 use Rattle.edi_tokens.proofs.Lending.{takes_none, takes_then}
 use Rattle.edi_tokens.proofs.Stopping.{stops_by_fault, stops_by_memory}
@@ -24,27 +24,27 @@ use Rattle.edi_envelope.specs.declared.check.Place.TheVariants as place
 use Rattle.edi_envelope.specs.Interchange.{is_framed, fault_of, contents_of, interchange_of, checked}
 use Rattle.edi_envelope.specs.Check.{Checked, Placed, is_fine}
 use Rattle.edi_envelope.proofs.FrameLemmas.{framed_unz}
-use Rattle.edi_envelope.proofs.LawLemmas.{IsFaultless-from_none}
+use Rattle.edi_envelope.proofs.LawLemmas.{HasNoEnvelopeFault-from_none}
 use Rattle.edi_relay.specs.declared.relay.RelayWords.{RelayWords}
 use Rattle.edi_relay.specs.declared.relay.RelayFault.{RelayFault}
 use Rattle.edi_relay.specs.declared.relay.RelayFault.TheVariants as relay
 use Rattle.edi_relay.specs.declared.mails.Mails.{Mails}
 use Rattle.edi_relay.specs.declared.relaying.Relaying.{Relaying}
 use Rattle.edi_relay.specs.Relay.{mail_texts, mailed, tokens_mailed, relayed, of_token, of_envelope, Relays, RelaysRead, without_read}
-use Rattle.edi_relay.specs.Mails.{Writes}
-use Rattle.edi_relay.specs.Relaying.{Stands, Reads, HasRead, stopped_after}
+use Rattle.edi_relay.specs.Mails.{WritesMails}
+use Rattle.edi_relay.specs.Relaying.{RelayingStands, ReadsRelaying, HasRelayed, stopped_after}
 use Rattle.edi_relay.proofs.Written.{push_some}
 
 -- one more segment
 module _ (words : RelayWords) (mark : ℕ) (lent : List Segment) (s : Segment) (o : Relaying) (check : EnvelopeCheck) (stands : Place)
-    (before : Stands words mark lent o)
+    (before : RelayingStands words mark lent o)
     (checked_next : Checked (lent ++ s ∷ []) check) (placed : Placed stands lent s)
     (refused : (stands ≡ place.Refused) → is_fine check ≡ false)
     (for_good : is_fine check ≡ true → is_fine o.check ≡ true) where
   pub more_stands : {E A : Type 0} (r : Result A E) (mails : Mails)
-      → (Writes words mark lent o.mails → stands ≢ place.Refused → Placed stands lent s
-      → OnOk r (Writes words mark (lent ++ s ∷ []) mails))
-      → OnOk r (Stands words mark (lent ++ s ∷ []) (record { check = check; mails = mails }))
+      → (WritesMails words mark lent o.mails → stands ≢ place.Refused → Placed stands lent s
+      → OnOk r (WritesMails words mark (lent ++ s ∷ []) mails))
+      → OnOk r (RelayingStands words mark (lent ++ s ∷ []) (record { check = check; mails = mails }))
   more_stands (Ok a) mails kept = record {
     checked = checked_next;
     kept = λ fine. kept (before.kept (for_good fine)) (λ e. true≢false (sym fine ∙ refused e)) placed;
@@ -53,10 +53,10 @@ module _ (words : RelayWords) (mark : ℕ) (lent : List Segment) (s : Segment) (
 
 -- ---- the end
 
-module _ (words : RelayWords) (tokens : Tokens) (o : Relaying) (stands : Stands words tokens.service.decimal tokens.segments o)
+module _ (words : RelayWords) (tokens : Tokens) (o : Relaying) (stands : RelayingStands words tokens.service.decimal tokens.segments o)
     (none : fault_of tokens.segments ≡ None) (fine : is_fine o.check ≡ true) where
   framed : is_framed tokens.segments ≡ true
-  framed = not-false _ (IsFaultless-from_none tokens.segments none envelope.InterchangeFrame)
+  framed = not-false _ (HasNoEnvelopeFault-from_none tokens.segments none envelope.InterchangeFrame)
 
   contents : interchange_of tokens ≡ Ok (contents_of tokens)
   unfolding interchange_of
@@ -73,8 +73,8 @@ module _ (words : RelayWords) (tokens : Tokens) (o : Relaying) (stands : Stands 
 -- ---- reading on
 
 module _ (words : RelayWords) (before : Option (List ℕ)) (was : Bool) (old : Lender) where
-  pub nothing_read : (relaying : Relaying) → ((mark : ℕ) → Stands words mark [] relaying)
-      → HasRead words before before was was old relaying old
+  pub nothing_read : (relaying : Relaying) → ((mark : ℕ) → RelayingStands words mark [] relaying)
+      → HasRelayed words before before was was old relaying old
   nothing_read relaying stands = record {
     lent = [];
     stands = λ all tokens fed read. stands tokens.service.decimal;
@@ -86,12 +86,12 @@ module _ (words : RelayWords) (before : Option (List ℕ)) (was : Bool) (old : L
   }
 
   module _ (between after : Option (List ℕ)) (flag failed : Bool) (now new : Lender) (relaying : Relaying)
-      (result : Result Bool TokenFault) (read : HasRead words before between was flag old relaying now)
+      (result : Result Bool TokenFault) (read : HasRelayed words before between was flag old relaying now)
       (feeds : Feeds between after flag failed now (answered result new) new) where
     told_as : (given : Result Bool TokenFault) → result ≡ given
-        → (all : List ℕ) → Fed before all [] old → Told after all read.lent (answered given new) new
+        → (all : List ℕ) → Fed before all [] old → TellsNext after all read.lent (answered given new) new
     told_as given is all fed =
-        subst (λ (r : Result Bool TokenFault). Told after all read.lent (answered r new) new) is
+        subst (λ (r : Result Bool TokenFault). TellsNext after all read.lent (answered r new) new) is
         (feeds.told all read.lent (read.fed all fed))
 
     pub bound_then : TakesOf before after (room_of old) (room_of new)
@@ -100,12 +100,12 @@ module _ (words : RelayWords) (before : Option (List ℕ)) (was : Bool) (old : L
     pub ends_then : AtEnd before old → AtEnd after new
     ends_then end = feeds.ends (read.ends end)
 
-    pub flag_then : (given : Result Bool TokenFault) → result ≡ given → stopped old ≡ None → Flags (answered given new) was failed
+    pub flag_then : (given : Result Bool TokenFault) → result ≡ given → stopped old ≡ None → FaultHasCause (answered given new) was failed
     flag_then given is e =
-        subst (λ (r : Result Bool TokenFault). Flags (answered r new) was failed) is
-        (subst (λ (b : Bool). Flags (answered result new) b failed) (read.flag e) (feeds.flag (read.going e)))
+        subst (λ (r : Result Bool TokenFault). FaultHasCause (answered r new) was failed) is
+        (subst (λ (b : Bool). FaultHasCause (answered result new) b failed) (read.flag e) (feeds.flag (read.going e)))
 
-    pub fault_told : (fault : TokenFault) → result ≡ Err fault → Reads words before old (Err (of_token fault)) new
+    pub fault_told : (fault : TokenFault) → result ≡ Err fault → ReadsRelaying words before old (Err (of_token fault)) new
     fault_told TooLong is = λ all fed known. ap (tokens_mailed words) (told_as (Err TooLong) is all fed (λ e. false≢true cc))
     fault_told ServiceString is = λ all fed known. ap (tokens_mailed words) (told_as (Err ServiceString) is all fed (λ e. false≢true cc))
     fault_told Byte is = λ all fed known. ap (tokens_mailed words) (told_as (Err Byte) is all fed (λ e. false≢true cc))
@@ -115,7 +115,7 @@ module _ (words : RelayWords) (before : Option (List ℕ)) (was : Bool) (old : L
     fault_told Read is = λ all fed known. absurd (known refl)
     fault_told Memory is = tt
 
-    pub end_told : result ≡ Ok false → Reads words before old (Ok relaying) new
+    pub end_told : result ≡ Ok false → ReadsRelaying words before old (Ok relaying) new
     end_told is = (read.lent, read.stands, λ all fed. (told_as (Ok false) is all fed).1)
 
     settled : result ≡ Ok true → (all : List ℕ) (tokens : Tokens) → Fed before all [] old → tokens_of all ≡ Ok tokens
@@ -126,18 +126,18 @@ module _ (words : RelayWords) (before : Option (List ℕ)) (was : Bool) (old : L
         (push_some read.lent (lent_by new)) tokens spelled)
 
     pub more_read : (next : Relaying) → result ≡ Ok true
-        → ((lent : List Segment) → Stands words (decimal_of new) lent relaying
-        → Stands words (decimal_of new) (lent ++ lent_by new ∷ []) next)
-        → HasRead words before after was failed old next new
+        → ((lent : List Segment) → RelayingStands words (decimal_of new) lent relaying
+        → RelayingStands words (decimal_of new) (lent ++ lent_by new ∷ []) next)
+        → HasRelayed words before after was failed old next new
     more_read next is stands = record {
       lent = read.lent ++ lent_by new ∷ [];
       stands = λ all tokens fed spelled.
           let mark = settled is all tokens fed spelled in
-          subst (λ (m : ℕ). Stands words m (read.lent ++ lent_by new ∷ []) next) (sym mark)
-          (stands read.lent (subst (λ (m : ℕ). Stands words m read.lent relaying) mark (read.stands all tokens fed spelled)));
+          subst (λ (m : ℕ). RelayingStands words m (read.lent ++ lent_by new ∷ []) next) (sym mark)
+          (stands read.lent (subst (λ (m : ℕ). RelayingStands words m read.lent relaying) mark (read.stands all tokens fed spelled)));
       fed = λ all fed. told_as (Ok true) is all fed;
       flag = λ e.
-          subst (λ (r : Result Bool TokenFault). Flags (answered r new) flag failed) is (feeds.flag (read.going e)) ∙ read.flag e;
+          subst (λ (r : Result Bool TokenFault). FaultHasCause (answered r new) flag failed) is (feeds.flag (read.going e)) ∙ read.flag e;
       going = λ e. subst (λ (r : Result Bool TokenFault). OnOk (answered r new) (stopped new ≡ None)) is feeds.goes_on;
       bound = bound_then;
       ends = ends_then;
@@ -179,7 +179,7 @@ relays_token Read given view h = tt
 relays_token Memory given view h = h (λ e. false≢true cc)
 
 pub fault_relays : (words : RelayWords) (known : Option (List ℕ)) (old new : Lender) (fault : RelayFault) {X : Type 0} (view : X → List ℕ)
-    → Reads words known old (Err fault) new
+    → ReadsRelaying words known old (Err fault) new
     → (all : List ℕ) → Fed known all [] old → RelaysRead view (Err fault) (relayed all words)
 fault_relays words known old new (relay.Token fault) view h all fed = relays_token fault (relayed all words) view (h all fed)
 fault_relays words known old new (relay.Envelope fault) view h all fed = absurd h

@@ -15,13 +15,13 @@ use Rattle.edi_segments.specs.declared.fault.TokenFault.TheVariants as token
 use Rattle.edi_segments.specs.declared.fault.TokenFault.TheVariants.{TooLong, ServiceString, Byte, Cut, Tag, LongSegment, Read}
 use Rattle.edi_segments.specs.Reading.{run, start, finish, tokens_of, ◌>>=◌}
 use Rattle.edi_segments.proofs.Runs.{take-take_le}
-use Rattle.edi_tokens.specs.Lender.{AtEnd, Fed, IsBegun, TakesOf, room_of, stopped}
+use Rattle.edi_tokens.specs.Lender.{AtEnd, Fed, HasReadNothing, TakesOf, room_of, stopped}
 use Rattle.edi_tokens.proofs.Lending.{takes_then}
 use Rattle.edi_relay.specs.declared.relay.RelayWords.{RelayWords}
 use Rattle.edi_relay.specs.declared.relay.RelayFault.{RelayFault}
 use Rattle.edi_relay.specs.declared.relay.RelayFault.TheVariants.{Token, Envelope, Memory}
 use Rattle.edi_relay.specs.Relay.{relayed, tokens_mailed, Relays, RelaysRead, without_read}
-use Rattle.edi_relay.specs.Relaying.{Flagged}
+use Rattle.edi_relay.specs.Relaying.{RelayFaultHasCause}
 use Rattle.edi_relay.proofs.ReadOn.{never_read}
 use Rattle.edi_relay.specs.Run.{read_limit, Delivers, DeliversFront, IfToEnd, IsRefused, Ran}
 
@@ -105,10 +105,10 @@ module _ {X : Type 0} (view : X → List ℕ) (words : RelayWords) (before : Opt
     stands = tt;
   }
 
-  module _ (old new : Lender) (begun : IsBegun old (text_limit + 1)) (fed : (k : List ℕ) → Fed (Some k) k [] old)
+  module _ (old new : Lender) (begun : HasReadNothing old (text_limit + 1)) (fed : (k : List ℕ) → Fed (Some k) k [] old)
       (between : Option (List ℕ)) (flag : Bool) (r : Result X RelayFault)
       (told : (all : List ℕ) → Fed before all [] old → RelaysRead view r (relayed all words))
-      (flagged : stopped old ≡ None → Flagged r was flag)
+      (flagged : stopped old ≡ None → RelayFaultHasCause r was flag)
       (bound : TakesOf before between (room_of old) (room_of new))
       (ends : AtEnd before old → AtEnd between new) where
     relays : IfSome before (λ k. RelaysRead view r (relayed (take read_limit k) words))
@@ -135,7 +135,7 @@ module _ {X : Type 0} (view : X → List ℕ) (words : RelayWords) (before : Opt
           let all = takes_then before between after read_limit (room_of new) missing bound_at away.0 in
           record {
             relayed_as = relays;
-            flag = subst (λ (b : Bool). Flagged r was b) (sym kept) (flagged begun.going);
+            flag = subst (λ (b : Bool). RelayFaultHasCause r was b) (sym kept) (flagged begun.going);
             taken = taken_at_most before after missing all;
             stands = to_end r (stands_at before after missing all (away.1 (ends (begun.ends before))));
           }
@@ -198,7 +198,8 @@ was_to_end X Read h f = absurd (h refl)
 was_to_end X token.Memory h f = f
 
 -- no flag goes up but at a failed read
-pub same_flag : (X : Type 0) (fault : TokenFault) (old new : Bool) → fault ≢ Read → Flagged {X = X} (Err (Token fault)) old new → new ≡ old
+pub same_flag : (X : Type 0) (fault : TokenFault) (old new : Bool) → fault ≢ Read → RelayFaultHasCause {X = X} (Err (Token fault)) old new
+    → new ≡ old
 same_flag X TooLong old new h f = f
 same_flag X ServiceString old new h f = f
 same_flag X Byte old new h f = f

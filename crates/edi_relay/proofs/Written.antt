@@ -22,11 +22,12 @@ use Rattle.edi_envelope.proofs.FrameLemmas.{other_tag}
 use Rattle.edi_envelope.proofs.JoinLemmas.{between_of}
 use Rattle.edi_envelope.proofs.CheckLemmas.{last_at}
 use Rattle.edi_envelope.proofs.RowLemmas.{frame_tags}
-use Rattle.edi_envelope.proofs.GatherLemmas.{drop_one, joined, not_last, last_more, Goes}
+use Rattle.edi_envelope.proofs.GatherLemmas.{drop_one, joined, not_last, last_more, GoesOnInMessage}
 use Rattle.edi_relay.specs.declared.relay.RelayWords.{RelayWords}
 use Rattle.edi_relay.specs.declared.mails.Mails.{Mails}
 use Rattle.edi_relay.specs.Relay.{mail_texts}
-use Rattle.edi_relay.specs.Mails.{header_text, front_text, trailer_text, begun_text, IsOpen, Keeps, Whole, Ends, Writes}
+use Rattle.edi_relay.specs.Mails.{header_text, front_text, trailer_text, begun_text, IsOpen, KeepsMails, HasAllMails, EndsMails}
+use Rattle.edi_relay.specs.Mails.{WritesMails}
 
 -- ---- mail texts
 
@@ -95,8 +96,8 @@ renumbered_inside s h = let tags = frame_tags s h in rw (tags.0, tags.1) refl
 
 -- ---- the end of a message
 
-ended_at : (words : RelayWords) (mark : ℕ) (lent : List Segment) (g : Mails) (z : Segment) → Whole words mark lent g → 0 < length lent
-    → Ends words mark (lent ++ z ∷ []) g
+ended_at : (words : RelayWords) (mark : ℕ) (lent : List Segment) (g : Mails) (z : Segment) → HasAllMails words mark lent g → 0 < length lent
+    → EndsMails words mark (lent ++ z ∷ []) g
 ended_at words mark [] g z w some = absurd (omega arith)
 ended_at words mark (u ∷ m) g z w some =
     w.out ∙ ap (λ (l : List Segment). mail_texts words mark words.number (map message_of (blocks l))) (sym (between_of u m z))
@@ -114,7 +115,7 @@ some_open true last h some = refl
 some_open false last h some = absurd (some h)
 
 module _ (words : RelayWords) (mark : ℕ) (lent : List Segment) where
-  pub ended_none : (g : Mails) → Keeps words mark lent g → g.begun ≡ false → Whole words mark lent g
+  pub ended_none : (g : Mails) → KeepsMails words mark lent g → g.begun ≡ false → HasAllMails words mark lent g
   ended_none g k e =
       let none = open_none g.begun k.last k.begun e in
       let all : drop 1 lent ≡ k.before = k.split ∙ ap (λ (l : List Segment). k.before ++ l) none ∙ append-nil k.before in
@@ -133,12 +134,12 @@ module _ (words : RelayWords) (mark : ℕ) (lent : List Segment) where
   closing : (m f t z : List ℕ) → (m ++ (f ++ t)) ++ z ≡ m ++ (f ++ (t ++ z))
   closing m f t z = simp append_assoc
 
-  pub ended_more : (g new : Mails) → Keeps words mark lent g → g.begun ≡ true
+  pub ended_more : (g new : Mails) → KeepsMails words mark lent g → g.begun ≡ true
       → new.header.items ≡ g.header.items
       → new.begun ≡ false
       → new.number ≡ g.number + 1
       → new.out.items ≡ g.out.items ++ trailer_text g.number
-      → Whole words mark lent new
+      → HasAllMails words mark lent new
   ended_more g new k e header begun number out =
       let some = open_some g.begun k.last k.begun e in
       let all : blocks (drop 1 lent) ≡ blocks k.before ++ k.last ∷ [] = joined (drop 1 lent) k.before k.last k.split k.is_last some in
@@ -167,15 +168,16 @@ module _ (words : RelayWords) (mark : ℕ) (lent : List Segment) where
             ∙ closing mails front body (trailer_text g.number) ∙ sym mail;
       }
 
-  going_on : (s : Segment) (g : Mails) → is_unz s ≡ false → Keeps words mark (lent ++ s ∷ []) g → Writes words mark (lent ++ s ∷ []) g
+  going_on : (s : Segment) (g : Mails) → is_unz s ≡ false → KeepsMails words mark (lent ++ s ∷ []) g
+      → WritesMails words mark (lent ++ s ∷ []) g
   going_on s g z k = record { going = λ _. k; ended = λ e. absurd (true≢false (sym e ∙ not_last lent s z)) }
 
-  pub unh_written : (g new : Mails) (s : Segment) → Whole words mark lent g → Placed place.MessageHeader lent s
+  pub unh_written : (g new : Mails) (s : Segment) → HasAllMails words mark lent g → Placed place.MessageHeader lent s
       → new.header.items ≡ g.header.items
       → new.begun ≡ true
       → new.number ≡ g.number
       → new.out.items ≡ (g.out.items ++ front_text g.header.items mark g.number) ++ segment_text (with_component s 0 (codes "1"))
-      → Writes words mark (lent ++ s ∷ []) new
+      → WritesMails words mark (lent ++ s ∷ []) new
   unh_written g new s w at header begun number out =
       let mails = mail_texts words mark words.number (map message_of (blocks (drop 1 lent))) in
       let front = front_text (header_text words) mark new.number in
@@ -199,19 +201,19 @@ module _ (words : RelayWords) (mark : ℕ) (lent : List Segment) where
             ∙ ap (λ (t : List ℕ). (mails ++ front) ++ t) unh ∙ append_assoc mails front (text (map renumbered (s ∷ [])));
       })
 
-  last_some : (g : Mails) (s : Segment) (k : Keeps words mark lent g) → Goes lent s → k.last ≢ []
+  last_some : (g : Mails) (s : Segment) (k : KeepsMails words mark lent g) → GoesOnInMessage lent s → k.last ≢ []
   last_some g s k goes =
       λ none.
       let empty : k.before ≡ [] = subst (IsLast k.before) none k.is_last in
       let all : drop 1 lent ≡ [] = k.split ∙ ap (λ (l : List Segment). k.before ++ l) none ∙ append-nil k.before ∙ empty in
       false≢true (ap (list_any is_unh) (sym all) ∙ goes.begun.0)
 
-  pub more_written : (g new : Mails) (s : Segment) → Writes words mark lent g → Goes lent s
+  pub more_written : (g new : Mails) (s : Segment) → WritesMails words mark lent g → GoesOnInMessage lent s
       → new.header.items ≡ g.header.items
       → new.begun ≡ g.begun
       → new.number ≡ g.number
       → new.out.items ≡ g.out.items ++ segment_text (renumbered s)
-      → Writes words mark (lent ++ s ∷ []) new
+      → WritesMails words mark (lent ++ s ∷ []) new
   more_written g new s writes goes header begun number out =
       let k = writes.going goes.going.1 in
       let some = last_some g s k goes in
@@ -237,15 +239,15 @@ module _ (words : RelayWords) (mark : ℕ) (lent : List Segment) where
             ∙ ap (λ (n : ℕ). mails ++ begun_text (header_text words) mark n (k.last ++ s ∷ [])) (sym number);
       })
 
-  pub trailer_written : (g : Mails) (z : Segment) → Whole words mark lent g → Placed place.Trailer lent z
-      → Writes words mark (lent ++ z ∷ []) g
+  pub trailer_written : (g : Mails) (z : Segment) → HasAllMails words mark lent g → Placed place.Trailer lent z
+      → WritesMails words mark (lent ++ z ∷ []) g
   trailer_written g z w at =
       let last : is_unz (last_segment (lent ++ z ∷ [])) ≡ true = ap is_unz (last_at lent z) ∙ at.1 in
       record { going = λ e. absurd (true≢false (sym last ∙ e)); ended = λ _. ended_at words mark lent g z w at.0.0 }
 
 -- ---- the beginning
 
-kept_first : (words : RelayWords) (mark : ℕ) (s : Segment) (g : Mails) → Keeps words mark [] g → Keeps words mark (s ∷ []) g
+kept_first : (words : RelayWords) (mark : ℕ) (s : Segment) (g : Mails) → KeepsMails words mark [] g → KeepsMails words mark (s ∷ []) g
 kept_first words mark s g k = record {
   header = k.header;
   before = k.before;
@@ -258,10 +260,10 @@ kept_first words mark s g k = record {
 }
 
 pub header_written : (words : RelayWords) (mark : ℕ) (lent : List Segment) (g : Mails) (s : Segment)
-    → Writes words mark lent g → Placed place.Header lent s → Writes words mark (lent ++ s ∷ []) g
+    → WritesMails words mark lent g → Placed place.Header lent s → WritesMails words mark (lent ++ s ∷ []) g
 header_written words mark lent g s writes at =
-    let k = subst (λ (l : List Segment). Keeps words mark l g) at.0 (writes.going (ap (λ l. is_unz (last_segment l)) at.0)) in
-    subst (λ (l : List Segment). Writes words mark (l ++ s ∷ []) g) (sym at.0)
+    let k = subst (λ (l : List Segment). KeepsMails words mark l g) at.0 (writes.going (ap (λ l. is_unz (last_segment l)) at.0)) in
+    subst (λ (l : List Segment). WritesMails words mark (l ++ s ∷ []) g) (sym at.0)
     (going_on words mark [] s g (other_tag s.tag (codes "UNB") (codes "UNZ") refl at.1) (kept_first words mark s g k))
 
 pub nothing_written : (words : RelayWords) (mark : ℕ) (g : Mails)
@@ -269,7 +271,7 @@ pub nothing_written : (words : RelayWords) (mark : ℕ) (g : Mails)
     → g.begun ≡ false
     → g.number ≡ words.number
     → g.out.items ≡ []
-    → Writes words mark [] g
+    → WritesMails words mark [] g
 nothing_written words mark g header begun number out = record {
   going =
       λ _.

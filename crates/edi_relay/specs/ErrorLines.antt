@@ -4,11 +4,11 @@ use Rattle.std.specs.Io.KnownBytes.{Appends}
 use Rattle.edi_base.specs.Buffer.{AppendsFront}
 
 -- a line was written, or a prefix of it if the writer failed
-pub record Tells (old new : Option (List ℕ)) (failed : Bool) (line : List ℕ) : Type 0 where
+pub record WritesLine (old new : Option (List ℕ)) (failed : Bool) (line : List ℕ) : Type 0 where
   pub front : AppendsFront old new line
   pub whole : failed ≡ false → Appends old new line
 
 -- a flag stays, or the status is 3 and the line `file` reports it
 abbrev pub StaysOrTellsFile : Bool → Bool → ℕ → Option (List ℕ) → Option (List ℕ) → Bool → Type 0
 StaysOrTellsFile before after status old new failed =
-    (after ≡ before) ⊎ ((status ≡ 3) × Tells old new failed (codes "file\n"))
+    (after ≡ before) ⊎ ((status ≡ 3) × WritesLine old new failed (codes "file\n"))

@@ -38,7 +38,7 @@ IsOpen true last = last ≢ []
 IsOpen false last = last ≡ []
 
 -- the mail texts of the messages before the last UNH, and the prefix of that of the message from there on
-pub record Keeps (words : RelayWords) (mark : ℕ) (lent : List Segment) (mails : Mails) : Type 0 where
+pub record KeepsMails (words : RelayWords) (mark : ℕ) (lent : List Segment) (mails : Mails) : Type 0 where
   pub header : mails.header.items ≡ header_text words
   pub before : List Segment
   pub last : List Segment
@@ -50,17 +50,17 @@ pub record Keeps (words : RelayWords) (mark : ℕ) (lent : List Segment) (mails 
       ≡ mail_texts words mark words.number (map message_of (blocks before)) ++ begun_text (header_text words) mark mails.number last
 
 -- the mail texts of all messages
-pub record Whole (words : RelayWords) (mark : ℕ) (lent : List Segment) (mails : Mails) : Type 0 where
+pub record HasAllMails (words : RelayWords) (mark : ℕ) (lent : List Segment) (mails : Mails) : Type 0 where
   pub header : mails.header.items ≡ header_text words
   pub begun : mails.begun ≡ false
   pub number : mails.number ≡ words.number + length (blocks (drop 1 lent))
   pub out : mails.out.items ≡ mail_texts words mark words.number (map message_of (blocks (drop 1 lent)))
 
 -- the mail texts of all messages, if UNZ is the last segment
-abbrev pub Ends : RelayWords → ℕ → List Segment → Mails → Type 0
-Ends words mark lent mails = mails.out.items ≡ mail_texts words mark words.number (map message_of (messages_in lent))
+abbrev pub EndsMails : RelayWords → ℕ → List Segment → Mails → Type 0
+EndsMails words mark lent mails = mails.out.items ≡ mail_texts words mark words.number (map message_of (messages_in lent))
 
 -- what is written of segments, of which at most the last is UNZ
-pub record Writes (words : RelayWords) (mark : ℕ) (lent : List Segment) (mails : Mails) : Type 0 where
-  pub going : is_unz (last_segment lent) ≡ false → Keeps words mark lent mails
-  pub ended : is_unz (last_segment lent) ≡ true → Ends words mark lent mails
+pub record WritesMails (words : RelayWords) (mark : ℕ) (lent : List Segment) (mails : Mails) : Type 0 where
+  pub going : is_unz (last_segment lent) ≡ false → KeepsMails words mark lent mails
+  pub ended : is_unz (last_segment lent) ≡ true → EndsMails words mark lent mails

@@ -74,19 +74,19 @@ code_of (Envelope fault) = envelope_code fault
 code_of Memory = codes "memory"
 
 -- What a call answered is this, unless memory ran out.
-abbrev pub Fails : {Y : Type 0} → RelayFault → Result Y RelayFault → Type 0
-Fails Memory given = Unit {0}
-Fails fault given = given ≡ Err fault
+abbrev pub RelayFails : {Y : Type 0} → RelayFault → Result Y RelayFault → Type 0
+RelayFails Memory given = Unit {0}
+RelayFails fault given = given ≡ Err fault
 
 abbrev pub Relays : {X : Type 0} → (X → List ℕ) → Result X RelayFault → Result (List ℕ) RelayFault → Type 0
 Relays view (Ok x) given = given ≡ Ok (view x)
-Relays view (Err fault) given = Fails fault given
+Relays view (Err fault) given = RelayFails fault given
 
 -- what was relayed, unless a read failed
 abbrev pub RelaysRead : {X : Type 0} → (X → List ℕ) → Result X RelayFault → Result (List ℕ) RelayFault → Type 0
 RelaysRead view (Ok x) given = given ≡ Ok (view x)
 RelaysRead view (Err (Token token.Read)) given = Unit {0}
-RelaysRead view (Err fault) given = Fails fault given
+RelaysRead view (Err fault) given = RelayFails fault given
 
 -- a text that is at hand is read without a fault
 abbrev pub without_read : RelayFault → RelayFault

@@ -16,12 +16,12 @@ use Rattle.edi_relay.specs.declared.relay.RelayFault.{RelayFault}
 use Rattle.edi_relay.specs.declared.relay.RelayFault.TheVariants.{Token, Envelope, Memory}
 use Rattle.edi_relay.specs.declared.relaying.Relaying.{Relaying}
 use Rattle.edi_relay.specs.Relay.{mail_texts, relayed}
-use Rattle.edi_relay.specs.Mails.{Writes}
+use Rattle.edi_relay.specs.Mails.{WritesMails}
 
 -- the check of segments, and what is written of them as long as no fault is certain
-pub record Stands (words : RelayWords) (mark : ℕ) (lent : List Segment) (relaying : Relaying) : Type 0 where
+pub record RelayingStands (words : RelayWords) (mark : ℕ) (lent : List Segment) (relaying : Relaying) : Type 0 where
   pub checked : Checked lent relaying.check
-  pub kept : is_fine relaying.check ≡ true → Writes words mark lent relaying.mails
+  pub kept : is_fine relaying.check ≡ true → WritesMails words mark lent relaying.mails
 
 -- what was answered of an interchange with this decimal mark is this
 abbrev pub IsMailed : {X : Type 0} → RelayWords → (X → List ℕ) → Result X EnvelopeFault → Result Interchange EnvelopeFault → Type 0
@@ -33,27 +33,27 @@ IsMailed words view (Err fault) given = given ≡ Err fault
 abbrev pub StandsBy : RelayWords → Option (List ℕ) → Lender → List Segment → Relaying → Type 0
 StandsBy words known old lent relaying =
     (all : List ℕ) (tokens : Tokens) → Fed known all [] old → tokens_of all ≡ Ok tokens
-    → Stands words tokens.service.decimal lent relaying
+    → RelayingStands words tokens.service.decimal lent relaying
 
 -- all segments of a text are relayed, or its token fault is reported, or a read failed, or memory ran out
-abbrev pub Reads : RelayWords → Option (List ℕ) → Lender → Result Relaying RelayFault → Lender → Type 0
-Reads words known old (Ok relaying) new =
+abbrev pub ReadsRelaying : RelayWords → Option (List ℕ) → Lender → Result Relaying RelayFault → Lender → Type 0
+ReadsRelaying words known old (Ok relaying) new =
     (lent : List Segment) × StandsBy words known old lent relaying
     × ((all : List ℕ) → Fed known all [] old → tokens_of all ≡ Ok (tokens_at lent new.machine))
-Reads words known old (Err (Token fault)) new =
+ReadsRelaying words known old (Err (Token fault)) new =
     (all : List ℕ) → Fed known all [] old → fault ≢ token.Read → relayed all words ≡ Err (Token fault)
-Reads words known old (Err (Envelope fault)) new = ⊥
-Reads words known old (Err Memory) new = Unit {0}
+ReadsRelaying words known old (Err (Envelope fault)) new = ⊥
+ReadsRelaying words known old (Err Memory) new = Unit {0}
 
 -- a failed read is reported if the reader's flag is up, and otherwise the flag stays
-abbrev pub Flagged : {X : Type 0} → Result X RelayFault → Bool → Bool → Type 0
-Flagged (Ok x) old new = new ≡ old
-Flagged (Err (Token fault)) old new = HasCause fault old new
-Flagged (Err (Envelope fault)) old new = new ≡ old
-Flagged (Err Memory) old new = new ≡ old
+abbrev pub RelayFaultHasCause : {X : Type 0} → Result X RelayFault → Bool → Bool → Type 0
+RelayFaultHasCause (Ok x) old new = new ≡ old
+RelayFaultHasCause (Err (Token fault)) old new = HasCause fault old new
+RelayFaultHasCause (Err (Envelope fault)) old new = new ≡ old
+RelayFaultHasCause (Err Memory) old new = new ≡ old
 
 -- how far a text has been read
-pub record HasRead (words : RelayWords) (before after : Option (List ℕ)) (was failed : Bool) (old : Lender)
+pub record HasRelayed (words : RelayWords) (before after : Option (List ℕ)) (was failed : Bool) (old : Lender)
     (relaying : Relaying) (new : Lender) : Type 0 where
   pub lent : List Segment
   pub stands : StandsBy words before old lent relaying

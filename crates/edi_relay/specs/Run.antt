@@ -9,7 +9,7 @@ use Rattle.edi_relay.specs.declared.relay.RelayFault.{RelayFault}
 use Rattle.edi_segments.specs.declared.fault.TokenFault.TheVariants as token
 use Rattle.edi_relay.specs.declared.relay.RelayFault.TheVariants.{Token, Envelope, Memory}
 use Rattle.edi_relay.specs.Relay.{relayed, code_of, RelaysRead}
-use Rattle.edi_relay.specs.Relaying.{Flagged}
+use Rattle.edi_relay.specs.Relaying.{RelayFaultHasCause}
 
 -- one byte more than the longest text is read, so that a longer one shows
 abbrev pub read_limit : ℕ
@@ -46,6 +46,6 @@ IfToEnd (Err Memory) fact = Unit {0}
 pub record Ran {X : Type 0} (view : X → List ℕ) (words : RelayWords) (before after : Option (List ℕ)) (was failed : Bool)
     (result : Result X RelayFault) : Type 0 where
   pub relayed_as : IfSome before (λ known. RelaysRead view result (relayed (take read_limit known) words))
-  pub flag : Flagged result was failed
+  pub flag : RelayFaultHasCause result was failed
   pub taken : TakesAtMost before after read_limit
   pub stands : IfToEnd result (IfSome before (λ known. Consumes before after (take read_limit known)))

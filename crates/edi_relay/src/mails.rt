@@ -6,7 +6,7 @@ ghost use Rattle.edi_segments.specs.declared.segment.Segment.{Segment};
 ghost use Rattle.edi_segments.specs.SegmentRef.{segment_in};
 ghost use Rattle.edi_tokens.specs.Text.{una};
 ghost use Rattle.edi_envelope.specs.Check.{Placed};
-ghost use Rattle.edi_relay.specs.Mails.{Keeps, Whole, Writes, header_text, front_text, trailer_text};
+ghost use Rattle.edi_relay.specs.Mails.{KeepsMails, HasAllMails, WritesMails, header_text, front_text, trailer_text};
 
 use crate::relay::RelayWords;
 use edi_envelope::{Place, date_digits, time_digits};
@@ -94,7 +94,7 @@ impl Mails {
 
     /// Nothing has come.
     pub(crate) fn new(alloc: Global, words: &RelayWords) -> Result<Self, MemoryFault>
-        ensures { IfOk result (λ mails. (mark : ℕ) → Writes words.now mark [] mails) }
+        ensures { IfOk result (λ mails. (mark : ℕ) → WritesMails words.now mark [] mails) }
     {
         Ok(Mails {
             header: header_text(alloc, words)?,
@@ -125,8 +125,8 @@ impl Mails {
 
     // Ends the mail text that is begun, with UNZ.
     fn end(&mut self, alloc: Global) -> Result<(), MemoryFault>
-        ensures { (words : RelayWords) (mark : ℕ) (lent : List Segment) → Keeps words mark lent self.old →
-            OnOk result (Whole words mark lent self.new) }
+        ensures { (words : RelayWords) (mark : ℕ) (lent : List Segment) → KeepsMails words mark lent self.old →
+            OnOk result (HasAllMails words mark lent self.new) }
     {
         if !self.begun {
             return Ok(());
@@ -146,9 +146,9 @@ impl Mails {
         segment: &SegmentRef<'_>,
         mark: u8,
     ) -> Result<(), MemoryFault>
-        ensures { (words : RelayWords) (lent : List Segment) → Writes words mark lent self.old →
+        ensures { (words : RelayWords) (lent : List Segment) → WritesMails words mark lent self.old →
             place ≢ Place.Refused → Placed place lent (segment_in segment.now) →
-            OnOk result (Writes words mark (lent ++ segment_in segment.now ∷ []) self.new) }
+            OnOk result (WritesMails words mark (lent ++ segment_in segment.now ∷ []) self.new) }
     {
         match place {
             Place::Header => {}

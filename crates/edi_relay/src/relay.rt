@@ -158,7 +158,7 @@ impl From<AllocError> for RelayFault {
 ghost use Rattle.std.specs.List.{list_all};
 ghost use Rattle.std.specs.Option.{SomeIff};
 ghost use Rattle.edi_relay.specs.Relay.{AreRelayWords, Relays, RelaysRead, relayed, are_gln_digits, relay_words_of, without_read};
-ghost use Rattle.edi_relay.specs.Relaying.{Reads, Flagged, stopped_after};
+ghost use Rattle.edi_relay.specs.Relaying.{ReadsRelaying, RelayFaultHasCause, stopped_after};
 
 // Reads to the end of the text.
 fn read<R: Source>(
@@ -167,8 +167,8 @@ fn read<R: Source>(
     reader: &mut R,
     words: &RelayWords,
 ) -> Result<Relaying, RelayFault>
-    ensures told { Reads words.now (R.remaining reader.old) lender.old result lender.new }
-    ensures flag { stopped lender.old ≡ None → Flagged result (R.failed reader.old) (R.failed reader.new) }
+    ensures told { ReadsRelaying words.now (R.remaining reader.old) lender.old result lender.new }
+    ensures flag { stopped lender.old ≡ None → RelayFaultHasCause result (R.failed reader.old) (R.failed reader.new) }
     ensures bound { TakesOf (R.remaining reader.old) (R.remaining reader.new)
         (room_of lender.old) (room_of lender.new) }
     ensures ends { AtEnd (R.remaining reader.old) lender.old → AtEnd (R.remaining reader.new) lender.new }
@@ -195,7 +195,7 @@ pub fn relay_lent<R: Source>(
     ensures relayed { (all : List ℕ) → Fed (R.remaining reader.old) all [] lender.old →
         RelaysRead (λ out. out.items) result (relayed all words.now) }
     // A failed read is reported only if the reader failed. Otherwise its flag stays.
-    ensures flag { stopped lender.old ≡ None → Flagged result (R.failed reader.old) (R.failed reader.new) }
+    ensures flag { stopped lender.old ≡ None → RelayFaultHasCause result (R.failed reader.old) (R.failed reader.new) }
     ensures bound { TakesOf (R.remaining reader.old) (R.remaining reader.new)
         (room_of lender.old) (room_of lender.new) }
     ensures ends { AtEnd (R.remaining reader.old) lender.old → AtEnd (R.remaining reader.new) lender.new }

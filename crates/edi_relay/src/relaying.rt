@@ -5,7 +5,7 @@ ghost use Rattle.edi_segments.specs.declared.segment.Segment.{Segment};
 ghost use Rattle.edi_segments.specs.declared.segment.Tokens.{Tokens};
 ghost use Rattle.edi_segments.specs.SegmentRef.{segment_in};
 ghost use Rattle.edi_envelope.specs.Interchange as spec;
-ghost use Rattle.edi_relay.specs.Relaying.{Stands, IsMailed};
+ghost use Rattle.edi_relay.specs.Relaying.{RelayingStands, IsMailed};
 
 use crate::mails::Mails;
 use crate::relay::RelayWords;
@@ -24,7 +24,7 @@ impl Relaying {
 
     /// Nothing has come.
     pub(crate) fn new(alloc: Global, words: &RelayWords) -> Result<Self, MemoryFault>
-        ensures { IfOk result (λ relaying. (mark : ℕ) → Stands words.now mark [] relaying) }
+        ensures { IfOk result (λ relaying. (mark : ℕ) → RelayingStands words.now mark [] relaying) }
     {
         Ok(Relaying {
             check: EnvelopeCheck::new(alloc),
@@ -39,8 +39,8 @@ impl Relaying {
         segment: &SegmentRef<'_>,
         mark: u8,
     ) -> Result<(), MemoryFault>
-        ensures { (words : RelayWords) (lent : List Segment) → Stands words mark lent self.old →
-            OnOk result (Stands words mark (lent ++ segment_in segment.now ∷ []) self.new) }
+        ensures { (words : RelayWords) (lent : List Segment) → RelayingStands words mark lent self.old →
+            OnOk result (RelayingStands words mark (lent ++ segment_in segment.now ∷ []) self.new) }
     {
         let place = self.check.next(segment)?;
         self.mails.take(alloc, place, segment, mark)
@@ -49,7 +49,7 @@ impl Relaying {
     /// Returns the mail texts, or the fault of the interchange.
     pub(crate) fn finish(self) -> Result<Vec<u8>, EnvelopeFault>
         ensures { (words : RelayWords) (tokens : Tokens) →
-            Stands words tokens.service.decimal tokens.segments self →
+            RelayingStands words tokens.service.decimal tokens.segments self →
             IsMailed words (λ out. out.items) result (spec.interchange_of tokens) }
     {
         if let Some(fault) = self.check.fault() {

@@ -6,7 +6,7 @@ ghost use Rattle.edi_base.specs.Buffer.{AppendsFront};
 ghost use Rattle.edi_base.specs.Source.{TakesAtMost};
 ghost use Rattle.edi_relay.specs.declared.relay.RelayFault.{RelayFault};
 ghost use Rattle.edi_relay.specs.Relay.{AreRelayWords};
-ghost use Rattle.edi_relay.specs.ErrorLines.{StaysOrTellsFile, Tells};
+ghost use Rattle.edi_relay.specs.ErrorLines.{StaysOrTellsFile, WritesLine};
 ghost use Rattle.edi_relay.specs.Run.{Delivers, DeliversFront, IsRefused, Ran, read_limit, refusal};
 
 use crate::error_lines::tell;
@@ -33,7 +33,7 @@ fn write_refusal<E: Sink>(fault: RelayFault, err: &mut E) -> Result<(), WriteFau
 
 // Prints the line of a refusal. If the writer fails, only the exit status says so.
 fn tell_refusal<E: Sink>(fault: RelayFault, err: &mut E)
-    ensures { Tells (E.contents err.old) (E.contents err.new) (E.failed err.new) (refusal fault) }
+    ensures { WritesLine (E.contents err.old) (E.contents err.new) (E.failed err.new) (refusal fault) }
 {
     let _ = write_refusal(fault, err);
 }
@@ -42,9 +42,9 @@ fn tell_refusal<E: Sink>(fault: RelayFault, err: &mut E)
 pub fn tell_read_fault<E: Sink>(fault: ReadFault, err: &mut E) -> u8
     ensures status { result ≡ 3 }
     ensures file { fault ≡ ReadFault.Read →
-        Tells (E.contents err.old) (E.contents err.new) (E.failed err.new) (codes "file\n") }
+        WritesLine (E.contents err.old) (E.contents err.new) (E.failed err.new) (codes "file\n") }
     ensures memory { fault ≡ ReadFault.Memory →
-        Tells (E.contents err.old) (E.contents err.new) (E.failed err.new) (codes "memory\n") }
+        WritesLine (E.contents err.old) (E.contents err.new) (E.failed err.new) (codes "memory\n") }
 {
     match fault {
         ReadFault::Read => tell(b"file\n", err),
@@ -109,13 +109,13 @@ pub fn relay_run<R: Source, W: Sink, E: Sink>(
     ensures refused { result ≡ 1 →
         Keeps (W.contents out.old) (W.contents out.new)
         × (fault : RelayFault) × IsRefused (R.remaining input.old) words.now fault
-        × Tells (E.contents err.old) (E.contents err.new) (E.failed err.new) (refusal fault) }
+        × WritesLine (E.contents err.old) (E.contents err.new) (E.failed err.new) (refusal fault) }
     ensures failed { result ≡ 3 →
-        (Tells (E.contents err.old) (E.contents err.new) (E.failed err.new) (codes "file\n")
+        (WritesLine (E.contents err.old) (E.contents err.new) (E.failed err.new) (codes "file\n")
         × (((R.failed input.new ≡ true) × Keeps (W.contents out.old) (W.contents out.new))
         ⊎ ((W.failed out.new ≡ true)
         × DeliversFront (R.remaining input.old) words.now (W.contents out.old) (W.contents out.new))))
-        ⊎ (Tells (E.contents err.old) (E.contents err.new) (E.failed err.new) (codes "memory\n")
+        ⊎ (WritesLine (E.contents err.old) (E.contents err.new) (E.failed err.new) (codes "memory\n")
         × Keeps (W.contents out.old) (W.contents out.new)) }
 {
     match relay_input(alloc, words, input) {

@@ -11,7 +11,7 @@ use Rattle.edi_segments.specs.declared.fault.TokenFault.{TokenFault}
 use Rattle.edi_segments.specs.declared.fault.TokenFault.TheVariants.{TooLong, ServiceString, Byte, Cut, Tag, LongSegment, Read, Memory}
 use Rattle.edi_segments.specs.Characters.{is_data, is_special}
 use Rattle.edi_segments.specs.Spelling.{text_limit, segment_limit}
-use Rattle.edi_segments.specs.Reading.{Open, Reading, InData, ◌>>=◌, start, step, with_byte, run, finish, tokens_of, Fails}
+use Rattle.edi_segments.specs.Reading.{Open, Reading, InData, ◌>>=◌, start, step, with_byte, run, finish, tokens_of, GivesFault}
 use Rattle.edi_segments.specs.OpenSegment.{with_bytes}
 use Rattle.edi_segments.specs.Plain.{is_plain, are_plain}
 
@@ -54,17 +54,17 @@ goes_on r next last byte count after total one some whole =
     sym then_drop ∙ sym (ap (λ (s : Result Reading TokenFault). s >>= λ next. run next after) one) ∙ whole
 
 -- what fails stays failed
-pub Fails-then : {A B : Type 0} (fault : TokenFault) (given : Result A TokenFault) (f : A → Result B TokenFault)
-    → Fails fault given
-    → Fails fault (given >>= f)
-Fails-then TooLong given f e = ap (λ r. r >>= f) e
-Fails-then ServiceString given f e = ap (λ r. r >>= f) e
-Fails-then Byte given f e = ap (λ r. r >>= f) e
-Fails-then Cut given f e = ap (λ r. r >>= f) e
-Fails-then Tag given f e = ap (λ r. r >>= f) e
-Fails-then LongSegment given f e = ap (λ r. r >>= f) e
-Fails-then Read given f e = ap (λ r. r >>= f) e
-Fails-then Memory given f e = tt
+pub GivesFault-then : {A B : Type 0} (fault : TokenFault) (given : Result A TokenFault) (f : A → Result B TokenFault)
+    → GivesFault fault given
+    → GivesFault fault (given >>= f)
+GivesFault-then TooLong given f e = ap (λ r. r >>= f) e
+GivesFault-then ServiceString given f e = ap (λ r. r >>= f) e
+GivesFault-then Byte given f e = ap (λ r. r >>= f) e
+GivesFault-then Cut given f e = ap (λ r. r >>= f) e
+GivesFault-then Tag given f e = ap (λ r. r >>= f) e
+GivesFault-then LongSegment given f e = ap (λ r. r >>= f) e
+GivesFault-then Read given f e = ap (λ r. r >>= f) e
+GivesFault-then Memory given f e = tt
 
 -- a byte of plain data
 step_plain : (service : Service) (segments : List Segment) (o : Open) (b : ℕ) → o.length < segment_limit → is_plain service b ≡ true
@@ -116,13 +116,13 @@ front_is text n limit e =
 pub tokens_of-fails : (fault : TokenFault) (text : List ℕ) (n : ℕ) (r : Reading)
     → r ≡ start
     → n ≡ min (length text) text_limit
-    → Fails fault (run r (take n text))
-    → Fails fault (tokens_of text)
+    → GivesFault fault (run r (take n text))
+    → GivesFault fault (tokens_of text)
 tokens_of-fails fault text n r begins e fails =
     let same : run r (take n text) ≡ run start (take text_limit text) =
     ap (λ (s : Reading). run s (take n text)) begins ∙ ap (run start) (front_is text n text_limit e) in
-    Fails-then fault (run start (take text_limit text))
-    (λ r. if nat_lt text_limit (length text) then Err TooLong else finish r) (subst (Fails fault) same fails)
+    GivesFault-then fault (run start (take text_limit text))
+    (λ r. if nat_lt text_limit (length text) then Err TooLong else finish r) (subst (GivesFault fault) same fails)
 
 tokens_of-is : (text : List ℕ) (n : ℕ) (r last : Reading) → r ≡ start → n ≡ min (length text) text_limit → run r (take n text) ≡ Ok last
     → tokens_of text ≡ (if nat_lt text_limit (length text) then Err TooLong else finish last)

@@ -50,7 +50,7 @@ flat_open tag bytes component_ends element_ends component_from element_from size
 }
 
 -- how much room there is, and how much of it is taken
-pub record HasRoom (bytes component_ends element_ends : ℕ) (filled components elements size : ℕ) : Type 0 where
+pub record HasFlatRoom (bytes component_ends element_ends : ℕ) (filled components elements size : ℕ) : Type 0 where
   pub bytes_long : bytes ≡ segment_limit
   pub component_ends_long : component_ends ≡ segment_limit
   pub element_ends_long : element_ends ≡ segment_limit

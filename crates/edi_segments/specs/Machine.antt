@@ -1,15 +1,15 @@
 -- What has come of a text, as a machine keeps it that keeps one segment.
 use Rattle.std.specs.Prelude.{◌≡◌, ℕ, Bool, true, false, List, [], ◌∷◌, ◌++◌, take, Result, Ok, Err}
 use Rattle.edi_segments.specs.declared.machine.Machine.{Machine}
-use Rattle.edi_segments.specs.declared.machine.Place as code
-use Rattle.edi_segments.specs.declared.machine.Place.TheVariants as at
+use Rattle.edi_segments.specs.declared.machine.BytePlace as code
+use Rattle.edi_segments.specs.declared.machine.BytePlace.TheVariants as at
 use Rattle.edi_segments.specs.declared.segment.Segment.{Segment}
 use Rattle.edi_segments.specs.declared.segment.Tokens.{Tokens}
 use Rattle.edi_segments.specs.declared.fault.TokenFault.{TokenFault}
-use Rattle.edi_segments.specs.Reading.{Open, Reading, Place, Outside, InService, InTag, InData, Released, run, step}
+use Rattle.edi_segments.specs.Reading.{Open, Reading, BytePlace, Outside, InService, InTag, InData, Released, run, step}
 use Rattle.edi_segments.specs.Spelling.{without_empty_end}
 
-abbrev pub place_of : code.Place → Machine → Place
+abbrev pub place_of : code.BytePlace → Machine → BytePlace
 place_of at.Outside m = Outside m.fresh
 place_of at.InService m = InService (take m.taken m.six)
 place_of at.InTag m = InTag m.fresh (take m.taken m.tag)

@@ -22,18 +22,18 @@ pub record Open : Type 0 where
 
 -- where the bytes so far end: outside of segments (and whether a service string may still come here), among the six
 -- characters of a service string, in a tag or right after it, in data, after a release character
-pub data Place : Type 0 where
-  Outside : (fresh : Bool) → Place
-  InService : (six : List ℕ) → Place
-  InTag : (fresh : Bool) → (tag : List ℕ) → Place
-  InData : (open_segment : Open) → Place
-  Released : (open_segment : Open) → Place
+pub data BytePlace : Type 0 where
+  Outside : (fresh : Bool) → BytePlace
+  InService : (six : List ℕ) → BytePlace
+  InTag : (fresh : Bool) → (tag : List ℕ) → BytePlace
+  InData : (open_segment : Open) → BytePlace
+  Released : (open_segment : Open) → BytePlace
 
 -- what has come of a text
 pub record Reading : Type 0 where
   pub service : Service
   pub segments : List Segment
-  pub place : Place
+  pub place : BytePlace
 
 abbrev pub start : Reading
 start = record { service = usual; segments = []; place = Outside true }
@@ -43,7 +43,7 @@ abbrev pub ◌>>=◌ : {A B : Type 0} → Result A TokenFault → (A → Result 
 (Ok x) >>= f = f x
 (Err e) >>= f = Err e
 
-abbrev pub at : Reading → Place → Reading
+abbrev pub at : Reading → BytePlace → Reading
 at r place = record { service = r.service; segments = r.segments; place = place }
 
 -- one more segment
@@ -110,7 +110,7 @@ abbrev pub is_una : List ℕ → Bool
 is_una (a ∷ b ∷ c ∷ []) = (a == 85 && b == 78) && c == 65
 is_una _ = false
 
-abbrev pub tag_or_service : Reading → Bool → List ℕ → Place
+abbrev pub tag_or_service : Reading → Bool → List ℕ → BytePlace
 tag_or_service r fresh tag = if fresh && is_una tag then InService [] else InTag fresh tag
 
 -- the next byte of a tag, or the byte after it
@@ -138,7 +138,7 @@ step_released r o b = if is_data b then Ok (at r (InData (with_byte o b))) else 
 abbrev pub within : Open → Result Reading TokenFault → Result Reading TokenFault
 within o next = if o.length == segment_limit then Err LongSegment else next
 
-abbrev pub step_at : Reading → Place → ℕ → Result Reading TokenFault
+abbrev pub step_at : Reading → BytePlace → ℕ → Result Reading TokenFault
 step_at r (Outside fresh) b = step_outside r fresh b
 step_at r (InService six) b = step_service r six b
 step_at r (InTag fresh tag) b = step_tag r fresh tag b
@@ -154,7 +154,7 @@ run r [] = Ok r
 run r (b ∷ bytes) = step r b >>= λ next. run next bytes
 
 -- what the text is if it ends here
-abbrev pub finish_at : Reading → Place → Result Tokens TokenFault
+abbrev pub finish_at : Reading → BytePlace → Result Tokens TokenFault
 finish_at r (Outside fresh) = Ok (record { service = r.service; segments = r.segments })
 finish_at r (InService six) = Err ServiceString
 finish_at r (InTag fresh tag) = Err Cut
@@ -170,10 +170,10 @@ tokens_of bytes = run start (take text_limit bytes) >>= λ r. if nat_lt text_lim
     else finish r
 
 -- What a call answered is what reading gives, unless memory ran out.
-abbrev pub Fails : {Y : Type 0} → TokenFault → Result Y TokenFault → Type 0
-Fails Memory given = Unit {0}
-Fails fault given = given ≡ Err fault
+abbrev pub GivesFault : {Y : Type 0} → TokenFault → Result Y TokenFault → Type 0
+GivesFault Memory given = Unit {0}
+GivesFault fault given = given ≡ Err fault
 
-abbrev pub Answers : {X Y : Type 0} → (X → Y) → Result X TokenFault → Result Y TokenFault → Type 0
-Answers view (Ok x) given = given ≡ Ok (view x)
-Answers view (Err fault) given = Fails fault given
+abbrev pub GivesValue : {X Y : Type 0} → (X → Y) → Result X TokenFault → Result Y TokenFault → Type 0
+GivesValue view (Ok x) given = given ≡ Ok (view x)
+GivesValue view (Err fault) given = GivesFault fault given

@@ -5,8 +5,8 @@ use Rattle.edi_segments.specs.declared.segment_text.SegmentText.{SegmentText}
 abbrev pub text_in : SegmentText → Option (List ℕ)
 text_in s = if s.kept then Some (take s.filled s.bytes.items) else None
 
-abbrev pub HasRoom : SegmentText → Type 0
-HasRoom s = s.filled ≤ vec_len s.bytes
+abbrev pub HasTextRoom : SegmentText → Type 0
+HasTextRoom s = s.filled ≤ vec_len s.bytes
 
 -- if it is kept, it is what was kept before, and these bytes
 abbrev pub GrowsBy : List ℕ → Option (List ℕ) → Option (List ℕ) → Type 0

@@ -16,5 +16,5 @@ are_run s bytes = list_all (stands_for_itself s) bytes
 abbrev pub service_in : Inside → Service
 service_in s = s.service
 
-abbrev pub IsSound : Inside → Type 0
-IsSound s = (b : ℕ) → b < 256 → slice_index_or s.stands_for_itself b false ≡ stands_for_itself s.service b
+abbrev pub IsSoundTable : Inside → Type 0
+IsSoundTable s = (b : ℕ) → b < 256 → slice_index_or s.stands_for_itself b false ≡ stands_for_itself s.service b

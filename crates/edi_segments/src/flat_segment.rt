@@ -70,11 +70,11 @@ impl Model for FlatSegment {
 
     ghost Value = { Open };
 
-    ghost use Rattle.edi_segments.specs.FlatSegment.{open_in, IsSound};
+    ghost use Rattle.edi_segments.specs.FlatSegment.{open_in, IsSoundFlatSegment};
 
     ghost view = { open_in };
 
-    ghost invariant = { IsSound };
+    ghost invariant = { IsSoundFlatSegment };
 }
 
 impl FlatSegment {

@@ -17,7 +17,7 @@ use std::alloc::Global;
 
 /// Where the bytes so far end.
 #[derive(Clone, Copy, Debug, PartialEq, Eq)]
-enum Place {
+enum BytePlace {
     /// Outside of segments.
     Outside,
     /// Among the six characters of a service string.
@@ -35,7 +35,7 @@ enum Place {
 pub struct Machine {
     /// The service characters, as far as they are known.
     pub service: ServiceTable,
-    place: Place,
+    place: BytePlace,
     /// Whether a service string may still come.
     pub fresh: bool,
     /// How many characters of a service string, or bytes of a tag, have come.
@@ -63,7 +63,7 @@ impl Machine {
     {
         Ok(Machine {
             service: ServiceTable::of(Service::usual()),
-            place: Place::Outside,
+            place: BytePlace::Outside,
             fresh: true,
             taken: 0,
             six: [0; 5],
@@ -78,16 +78,16 @@ impl Machine {
         ensures kept { OnErr result (self.new ≡ self.old) }
     {
         match self.place {
-            Place::Outside => self.push_outside(byte),
-            Place::InService => self.push_service(byte),
-            Place::InTag => self.push_tag(byte),
-            Place::InData => self.push_in_data(byte),
-            Place::Released => self.push_released(byte),
+            BytePlace::Outside => self.push_outside(byte),
+            BytePlace::InService => self.push_service(byte),
+            BytePlace::InTag => self.push_tag(byte),
+            BytePlace::InData => self.push_in_data(byte),
+            BytePlace::Released => self.push_released(byte),
         }
     }
 
     fn push_outside(&mut self, byte: u8) -> Result<bool, TokenFault>
-        requires { self.old.place ≡ Place.Outside }
+        requires { self.old.place ≡ BytePlace.Outside }
         ensures gives { Gives (λ ended. after [] ended self.new) result (step (reading_of [] self.old) byte) }
         ensures kept { OnErr result (self.new ≡ self.old) }
     {
@@ -97,14 +97,14 @@ impl Machine {
         if !is_capital(byte) {
             return Err(TokenFault::Tag);
         }
-        self.place = Place::InTag;
+        self.place = BytePlace::InTag;
         self.taken = 1;
         self.tag = [byte, 0, 0];
         Ok(false)
     }
 
     fn push_service(&mut self, byte: u8) -> Result<bool, TokenFault>
-        requires { self.old.place ≡ Place.InService }
+        requires { self.old.place ≡ BytePlace.InService }
         ensures gives { Gives (λ ended. after [] ended self.new) result (step (reading_of [] self.old) byte) }
         ensures kept { OnErr result (self.new ≡ self.old) }
     {
@@ -117,13 +117,13 @@ impl Machine {
         let six = [component, element, decimal, release, reserved, byte];
         let service = Service::of(&six).ok_or(TokenFault::ServiceString)?;
         self.service = ServiceTable::of(service);
-        self.place = Place::Outside;
+        self.place = BytePlace::Outside;
         self.fresh = false;
         Ok(false)
     }
 
     fn push_tag(&mut self, byte: u8) -> Result<bool, TokenFault>
-        requires { self.old.place ≡ Place.InTag }
+        requires { self.old.place ≡ BytePlace.InTag }
         ensures gives { Gives (λ ended. after [] ended self.new) result (step (reading_of [] self.old) byte) }
         ensures kept { OnErr result (self.new ≡ self.old) }
     {
@@ -136,14 +136,14 @@ impl Machine {
         self.tag[self.taken] = byte;
         self.taken += 1;
         if self.fresh && is_una(&self.tag[..self.taken]) {
-            self.place = Place::InService;
+            self.place = BytePlace::InService;
             self.taken = 0;
         }
         Ok(false)
     }
 
     fn push_after_tag(&mut self, byte: u8) -> Result<bool, TokenFault>
-        requires place { self.old.place ≡ Place.InTag }
+        requires place { self.old.place ≡ BytePlace.InTag }
         requires whole { 3 ≤ self.old.taken }
         ensures gives { Gives (λ ended. after [] ended self.new) result (step (reading_of [] self.old) byte) }
         ensures kept { OnErr result (self.new ≡ self.old) }
@@ -151,20 +151,20 @@ impl Machine {
         let service = self.service.get();
         if byte == service.element {
             self.open.begin(self.tag);
-            self.place = Place::InData;
+            self.place = BytePlace::InData;
             return Ok(false);
         }
         if byte != service.terminator {
             return Err(TokenFault::Tag);
         }
         self.open.begin(self.tag);
-        self.place = Place::Outside;
+        self.place = BytePlace::Outside;
         self.fresh = false;
         Ok(true)
     }
 
     fn push_in_data(&mut self, byte: u8) -> Result<bool, TokenFault>
-        requires { self.old.place ≡ Place.InData }
+        requires { self.old.place ≡ BytePlace.InData }
         ensures gives { Gives (λ ended. after [] ended self.new) result (step (reading_of [] self.old) byte) }
         ensures kept { OnErr result (self.new ≡ self.old) }
     {
@@ -178,12 +178,12 @@ impl Machine {
             self.open.end_element();
         } else if byte == service.terminator {
             self.open.end_element();
-            self.place = Place::Outside;
+            self.place = BytePlace::Outside;
             self.fresh = false;
             return Ok(true);
         } else if service.is_release(byte) {
             self.open.release();
-            self.place = Place::Released;
+            self.place = BytePlace::Released;
         } else if is_data(byte) {
             self.open.push(byte);
         } else {
@@ -193,7 +193,7 @@ impl Machine {
     }
 
     fn push_released(&mut self, byte: u8) -> Result<bool, TokenFault>
-        requires { self.old.place ≡ Place.Released }
+        requires { self.old.place ≡ BytePlace.Released }
         ensures gives { Gives (λ ended. after [] ended self.new) result (step (reading_of [] self.old) byte) }
         ensures kept { OnErr result (self.new ≡ self.old) }
     {
@@ -204,7 +204,7 @@ impl Machine {
             return Err(TokenFault::Byte);
         }
         self.open.push(byte);
-        self.place = Place::InData;
+        self.place = BytePlace::InData;
         Ok(false)
     }
 
@@ -214,7 +214,7 @@ impl Machine {
         ensures within { result ≤ length bytes.now }
         ensures taken { run (reading_of [] self.old) (take result bytes.now) ≡ Ok (reading_of [] self.new) }
     {
-        let Place::Outside = self.place else {
+        let BytePlace::Outside = self.place else {
             return 0;
         };
         if bytes.len() < 4 {
@@ -227,7 +227,7 @@ impl Machine {
         }
         self.tag = tag;
         self.open.begin(tag);
-        self.place = Place::InData;
+        self.place = BytePlace::InData;
         4
     }
 
@@ -238,7 +238,7 @@ impl Machine {
         ensures within { result ≤ length bytes.now }
         ensures taken { run (reading_of [] self.old) (take result bytes.now) ≡ Ok (reading_of [] self.new) }
     {
-        let Place::InData = self.place else {
+        let BytePlace::InData = self.place else {
             return 0;
         };
         self.open.take_plain(&self.service, bytes)
@@ -250,7 +250,7 @@ impl Machine {
         ensures within { result ≤ length bytes.now }
         ensures taken { run (reading_of [] self.old) (take result bytes.now) ≡ Ok (reading_of [] self.new) }
     {
-        if let Place::InData = self.place {
+        if let BytePlace::InData = self.place {
             return self.push_plain(bytes);
         }
         let tag = self.push_whole_tag(bytes);
@@ -292,9 +292,9 @@ impl Machine {
         ensures { (lent : List Segment) → Gives (λ _. tokens_at lent self.now) result (finish (reading_of lent self.now)) }
     {
         match self.place {
-            Place::Outside => Ok(()),
-            Place::InService => Err(TokenFault::ServiceString),
-            Place::InTag | Place::InData | Place::Released => Err(TokenFault::Cut),
+            BytePlace::Outside => Ok(()),
+            BytePlace::InService => Err(TokenFault::ServiceString),
+            BytePlace::InTag | BytePlace::InData | BytePlace::Released => Err(TokenFault::Cut),
         }
     }
 }

@@ -26,11 +26,11 @@ impl Model for OpenSegment {
 
     ghost Value = { Open };
 
-    ghost use Rattle.edi_segments.specs.OpenSegment.{open_in, IsSound};
+    ghost use Rattle.edi_segments.specs.OpenSegment.{open_in, IsSoundOpenSegment};
 
     ghost view = { open_in };
 
-    ghost invariant = { IsSound };
+    ghost invariant = { IsSoundOpenSegment };
 }
 
 impl OpenSegment {

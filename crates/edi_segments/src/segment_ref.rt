@@ -7,7 +7,7 @@ ghost use Rattle.edi_segments.specs.Text.{segment_text};
 
 use crate::open_segment::OpenSegment;
 use crate::segment::Segment;
-use edi_base::{Items, MemoryFault, copied};
+use edi_base::{Items, MemoryFault, copy_bytes};
 use std::alloc::Global;
 
 /// How a segment that is lent is kept.
@@ -99,7 +99,7 @@ impl<'a> SegmentRef<'a> {
     {
         let mut components = Vec::with_capacity(alloc, self.components(element))?;
         for place in 0..self.components(element) {
-            components.push(copied(alloc, self.component(element, place))?)?;
+            components.push(copy_bytes(alloc, self.component(element, place))?)?;
         }
         Ok(Items::from_vec(components))
     }

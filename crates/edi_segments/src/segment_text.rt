@@ -4,7 +4,7 @@
 ghost use Rattle.std.specs.Prelude.{◌≡◌, [], ◌∷◌, ◌++◌, Some, None, IfOk, IfSome, vec_len, ◌-◌};
 ghost use Rattle.edi_segments.specs.Service.{usual_element};
 ghost use Rattle.edi_segments.specs.Text.{byte_text};
-ghost use Rattle.edi_segments.specs.SegmentText.{GrowsBy, HasRoom, text_in};
+ghost use Rattle.edi_segments.specs.SegmentText.{GrowsBy, HasTextRoom, text_in};
 
 use crate::flat_segment::SEGMENT_LIMIT;
 use crate::service::{ELEMENT, RELEASE, is_usual};
@@ -26,7 +26,7 @@ pub(crate) struct SegmentText {
 impl SegmentText {
     /// None is kept.
     pub(crate) fn new(alloc: Global) -> Result<Self, MemoryFault>
-        ensures room { IfOk result HasRoom }
+        ensures room { IfOk result HasTextRoom }
         ensures none { IfOk result (λ made. text_in made ≡ None) }
     {
         Ok(SegmentText {
@@ -38,8 +38,8 @@ impl SegmentText {
 
     /// Begins a new text: a tag and an element separator.
     pub(crate) fn begin(&mut self, tag: [u8; 3])
-        requires { HasRoom self.old }
-        ensures room { HasRoom self.new }
+        requires { HasTextRoom self.old }
+        ensures room { HasTextRoom self.new }
         ensures begun { IfSome (text_in self.new) (λ text. text ≡ tag ++ usual_element ∷ []) }
     {
         let [first, second, third] = tag;
@@ -53,7 +53,7 @@ impl SegmentText {
 
     /// Returns how many bytes more there is room for.
     pub(crate) fn room(&self) -> usize
-        requires { HasRoom self.now }
+        requires { HasTextRoom self.now }
         ensures { result ≡ vec_len self.now.bytes - self.now.filled }
     {
         self.bytes.len() - self.filled
@@ -61,8 +61,8 @@ impl SegmentText {
 
     /// Takes a byte.
     pub(crate) fn push(&mut self, byte: u8)
-        requires { HasRoom self.old }
-        ensures room { HasRoom self.new }
+        requires { HasTextRoom self.old }
+        ensures room { HasTextRoom self.new }
         ensures grows { GrowsBy (byte ∷ []) (text_in self.old) (text_in self.new) }
     {
         if self.filled == self.bytes.len() {
@@ -75,8 +75,8 @@ impl SegmentText {
 
     /// Takes a byte of data, with a release character before it if it is one of the usual service characters.
     pub(crate) fn push_data(&mut self, byte: u8)
-        requires { HasRoom self.old }
-        ensures room { HasRoom self.new }
+        requires { HasTextRoom self.old }
+        ensures room { HasTextRoom self.new }
         ensures grows { GrowsBy (byte_text byte) (text_in self.old) (text_in self.new) }
     {
         if is_usual(byte) {
@@ -87,8 +87,8 @@ impl SegmentText {
 
     /// The text is not kept any more.
     pub(crate) fn leave(&mut self)
-        requires { HasRoom self.old }
-        ensures room { HasRoom self.new }
+        requires { HasTextRoom self.old }
+        ensures room { HasTextRoom self.new }
         ensures none { text_in self.new ≡ None }
     {
         self.kept = false;
@@ -96,7 +96,7 @@ impl SegmentText {
 
     /// Returns the text, if it is kept.
     pub(crate) fn get(&self) -> Option<&[u8]>
-        requires { HasRoom self.now }
+        requires { HasTextRoom self.now }
         ensures { IfSome result (λ text. text_in self.now ≡ Some text.now) }
     {
         if !self.kept {

@@ -19,11 +19,11 @@ impl Model for ServiceTable {
 
     ghost Value = { Service };
 
-    ghost use Rattle.edi_segments.specs.ServiceTable.{service_in, IsSound};
+    ghost use Rattle.edi_segments.specs.ServiceTable.{service_in, IsSoundTable};
 
     ghost view = { service_in };
 
-    ghost invariant = { IsSound };
+    ghost invariant = { IsSoundTable };
 }
 
 impl ServiceTable {

@@ -2,7 +2,7 @@
 ghost use Rattle.std.specs.Prelude.{◌≡◌, ◌+◌, Some, IfOk};
 ghost use Rattle.edi_show.specs.Content as spec;
 
-use edi_base::copied;
+use edi_base::copy_bytes;
 use edi_documents::{Document, DocumentType};
 use edi_envelope::RawMessage;
 use edi_messages::MessageFault;
@@ -93,8 +93,8 @@ fn shown_message(
     ensures { IfOk result (λ shown. shown ≡ spec.shown_message before message.now) }
 {
     let content = content_of(alloc, before, message)?;
-    let reference = copied(alloc, message.reference.as_slice())?;
-    let kind = copied(alloc, message.kind.as_slice())?;
+    let reference = copy_bytes(alloc, message.reference.as_slice())?;
+    let kind = copy_bytes(alloc, message.kind.as_slice())?;
     Ok(ShownMessage {
         reference,
         kind,

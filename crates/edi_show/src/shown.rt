@@ -47,7 +47,11 @@ fn segments_of(alloc: Global, text: &[u8]) -> Result<Items<Segment>, MemoryFault
 }
 
 // Returns the fault of an interchange, with the segment of its text that shows it.
-fn refused(alloc: Global, text: &[u8], fault: EnvelopeFault) -> Result<Shown, MemoryFault>
+fn refused_interchange(
+    alloc: Global,
+    text: &[u8],
+    fault: EnvelopeFault,
+) -> Result<Shown, MemoryFault>
     ensures { IfOk result (λ shown. shown ≡ Shown.Refused (WholeFault.Envelope fault
         (envelope_place fault (spec.segments_in (tokens_of text.now))))) }
 {
@@ -65,7 +69,7 @@ fn shown_tokens(alloc: Global, text: &[u8], tokens: Tokens) -> Result<Shown, Mem
     let interchange = match open(alloc, tokens) {
         Ok(interchange) => interchange,
         Err(EnvelopeFault::Memory) => return Err(AllocError),
-        Err(fault) => return refused(alloc, text, fault),
+        Err(fault) => return refused_interchange(alloc, text, fault),
     };
     let messages = shown_messages(alloc, interchange.messages.as_slice())?;
     Ok(Shown::Interchange(ShownInterchange {

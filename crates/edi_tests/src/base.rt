@@ -29,7 +29,7 @@ fn has_two_bytes(items: &Items<u8>) -> bool {
 }
 
 fn is_copied(alloc: Global, bytes: &[u8]) -> Result<bool, AllocError> {
-    Ok(copied(alloc, bytes)?.as_slice() == bytes)
+    Ok(copy_bytes(alloc, bytes)?.as_slice() == bytes)
 }
 
 // Whether the two bytes are kept, and given back.
@@ -154,7 +154,7 @@ fn is_front_read(alloc: Global, long: &[u8], row: &Limit) -> Result<bool, ReadFa
     let known = long.get(..given).unwrap_or_default();
     let mut source = OfRead::new(known);
     let read = read_front(alloc, &mut source, limit)?;
-    let is_front = !source.failed() && known.get(..size) == Some(read.as_slice());
+    let is_front = !source.has_failed() && known.get(..size) == Some(read.as_slice());
     Ok(is_front && known.get(size..) == Some(source.into_inner()))
 }
 
@@ -183,7 +183,7 @@ fn read_two(alloc: Global, source: &mut OfRead<Drip>) -> Result<Vec<u8>, ReadFau
 
 // Whether two bytes are read, and the source has not failed.
 fn are_two_read(alloc: Global, source: &mut OfRead<Drip>) -> Result<bool, ReadFault> {
-    Ok(read_two(alloc, source)?.as_slice() == b"aa".as_slice() && !source.failed())
+    Ok(read_two(alloc, source)?.as_slice() == b"aa".as_slice() && !source.has_failed())
 }
 
 fn fault_of_two(alloc: Global, source: &mut OfRead<Drip>) -> Option<ReadFault> {
@@ -199,7 +199,7 @@ fn a_failed_read_is_answered(rt: HostRuntime) -> Result<(), ReadFault> {
         fault_of_two(rt.alloc(), &mut source),
         Some(ReadFault::Read)
     );
-    assert!(rt; source.failed());
+    assert!(rt; source.has_failed());
     Ok(())
 }
 

@@ -45,7 +45,7 @@ pub(crate) fn sink_with_room(alloc: Global, room: usize, fails: bool) -> OfWrite
 
 /// Returns the outcome of a write: whether it succeeded, whether the sink has failed, and what it accepted.
 fn outcome(wrote: Result<(), WriteFault>, sink: OfWrite<Dribble>) -> (bool, bool, Vec<u8>) {
-    let failed = sink.failed();
+    let failed = sink.has_failed();
     let Dribble { written, .. } = sink.into_inner();
     (wrote.is_ok(), failed, written)
 }

@@ -47,7 +47,7 @@ fn fed(alloc: Global, pieces: Pieces) -> Result<(usize, &'static str, bool), All
         return Err(AllocError);
     };
     let (messages, code) = opened(alloc, &mut feeder);
-    Ok((messages, code, feeder.into_reader().failed()))
+    Ok((messages, code, feeder.into_reader().has_failed()))
 }
 
 // Whether a text in pieces has this many messages or this fault, and its reader has failed exactly if the fault is

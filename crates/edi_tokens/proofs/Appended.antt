@@ -5,15 +5,15 @@ use Rattle.std.proofs.lemmas.List.{append-nil, length-set, take_at, get_or-set_s
 use Rattle.std.proofs.Math.Seq.{drop-cons}
 use Rattle.std.specs.List.{flat_map}
 use Rattle.edi_segments.specs.Segment.{element_at}
-use Rattle.edi_tokens.specs.Appending.{Keeps, with_first, elements_with}
+use Rattle.edi_tokens.specs.Appending.{KeepsFront, with_first, elements_with}
 use Rattle.edi_tokens.proofs.Canonical.{flat_map-drop_all}
 use Rattle.edi_tokens.proofs.Kept.{keeps}
 
 -- what is kept through one addition after another
-pub kept_through : (was so_far new : List ℕ) → Keeps was so_far → Keeps so_far new → Keeps was new
+pub kept_through : (was so_far new : List ℕ) → KeepsFront was so_far → KeepsFront so_far new → KeepsFront was new
 kept_through was so_far new first second = grind (arith, keeps)
 
-pub kept_by : (was more new : List ℕ) → new ≡ was ++ more → Keeps was new
+pub kept_by : (was more new : List ℕ) → new ≡ was ++ more → KeepsFront was new
 kept_by was more new is = ap (take (length was)) is ∙ take_at was more (length was) refl
 
 -- one more part
@@ -57,16 +57,16 @@ ended f xs i out old text le so_far = sym (ap (λ l. out ++ l) (flat_map-drop_al
 pub ended_by : (out old text last new : List ℕ) → out ≡ old ++ text → new ≡ out ++ last → new ≡ old ++ (text ++ last)
 ended_by out old text last new is more = more ∙ ap (λ l. l ++ last) is ∙ append_assoc old text last
 
-pub kept_as : (was new : List ℕ) → new ≡ was → Keeps was new
+pub kept_as : (was new : List ℕ) → new ≡ was → KeepsFront was new
 kept_as was new is = kept_by was [] new (is ∙ sym (append-nil was))
 
 -- what was kept so far is kept by one more addition, or if nothing is added
-pub kept_more : (was so_far more new : List ℕ) → Keeps was so_far → new ≡ so_far ++ more → Keeps was new
+pub kept_more : (was so_far more new : List ℕ) → KeepsFront was so_far → new ≡ so_far ++ more → KeepsFront was new
 kept_more was so_far more new kept is = kept_through was so_far new kept (kept_by so_far more new is)
 
-pub kept_still : (was so_far new : List ℕ) → Keeps was so_far → new ≡ so_far → Keeps was new
+pub kept_still : (was so_far new : List ℕ) → KeepsFront was so_far → new ≡ so_far → KeepsFront was new
 kept_still was so_far new kept is = kept_through was so_far new kept (kept_as so_far new is)
 
 -- what was kept after a first addition
-pub kept_after : (was more next new : List ℕ) → next ≡ was ++ more → Keeps next new → Keeps was new
+pub kept_after : (was more next new : List ℕ) → next ≡ was ++ more → KeepsFront next new → KeepsFront was new
 kept_after was more next new is kept = kept_through was next new (kept_by was more next is) kept

@@ -11,11 +11,11 @@ use Rattle.edi_segments.specs.declared.segment.Tokens.{Tokens}
 use Rattle.edi_segments.specs.declared.fault.TokenFault.{TokenFault}
 use Rattle.edi_segments.specs.declared.fault.TokenFault.TheVariants.{TooLong, ServiceString, Byte, Cut, Tag, LongSegment, Read, Memory}
 use Rattle.edi_segments.specs.Spelling.{text_limit, Spells}
-use Rattle.edi_segments.specs.Reading.{Place, Outside, InService, InTag, InData, Released, Reading, start, step, run, ◌>>=◌}
-use Rattle.edi_segments.specs.Reading.{finish, finish_at, tokens_of, Fails, Answers}
-use Rattle.edi_tokens.specs.Fault.{Ends, shown_at, shown_by_end, ByteShows, EndShows, Shows, is_fresh}
+use Rattle.edi_segments.specs.Reading.{BytePlace, Outside, InService, InTag, InData, Released, Reading, start, step, run, ◌>>=◌}
+use Rattle.edi_segments.specs.Reading.{finish, finish_at, tokens_of, GivesFault, GivesValue}
+use Rattle.edi_tokens.specs.Fault.{EndsIn, shown_at, shown_by_end, ByteShows, EndShows, Shows, is_fresh}
 use Rattle.edi_tokens.proofs.Steps.{shown_is, fault_of}
-use Rattle.edi_tokens.proofs.Sound.{IsRead, is_read}
+use Rattle.edi_tokens.proofs.Sound.{SpellsOrShows, is_read}
 use Rattle.edi_tokens.proofs.Whole.{whole_runs, front_runs}
 
 -- ---- what is spelled is read, and what is shown is the fault
@@ -52,7 +52,7 @@ fault_is : (x : Result Reading TokenFault) (fault : TokenFault) → fault_of x �
 fault_is (Ok n) fault e = absurd cc
 fault_is (Err f) fault e = let same : f ≡ fault = cc in ap (λ (y : TokenFault). Err y) same
 
-pub front_at : (front : List ℕ) (r : Reading) → Ends front r → run start front ≡ Ok r
+pub front_at : (front : List ℕ) (r : Reading) → EndsIn front r → run start front ≡ Ok r
 front_at front r e = (front_runs front r.service r.segments r.place e).is
 
 -- a byte that shows a fault within the longest text is not read
@@ -107,7 +107,7 @@ shown_at_end bytes fault e =
     ap (λ (x : Result Reading TokenFault). x >>= λ r. cond (ltb text_limit (length bytes)) (Err TooLong) (finish r)) runs
     ∙ rw (le-ltb text_limit (length bytes) e.is_short) (at_end e.reading e.reading.place e.shows)
   where
-    at_end : (r : Reading) (place : Place) → shown_by_end place ≡ Some fault → finish_at r place ≡ Err fault
+    at_end : (r : Reading) (place : BytePlace) → shown_by_end place ≡ Some fault → finish_at r place ≡ Err fault
     at_end r (Outside fresh) h = absurd cc
     at_end r (InService six) h = let same : ServiceString ≡ fault = cc in ap (λ (y : TokenFault). Err y) same
     at_end r (InTag fresh tag) h = let same : Cut ≡ fault = cc in ap (λ (y : TokenFault). Err y) same
@@ -146,7 +146,7 @@ pub shows_once : (bytes : List ℕ) (f g : TokenFault) → Shows bytes f → Sho
 shows_once bytes f g e h = let same : refused_as f ≡ refused_as g = sym (shown_is_fault bytes f e) ∙ shown_is_fault bytes g h in cc
 
 read_or_shown : (bytes : List ℕ) (x : Result Tokens TokenFault)
-    → IsRead bytes x
+    → SpellsOrShows bytes x
     → ((s : Service) × (xs : List Segment) × Spells bytes s xs) ⊎ ((fault : TokenFault) × Shows bytes fault)
 read_or_shown bytes (Ok tokens) e = inl (tokens.service, tokens.segments, e)
 read_or_shown bytes (Err fault) e = inr (fault, e)
@@ -157,20 +157,20 @@ spells_or_shows bytes = read_or_shown bytes (tokens_of bytes) (is_read bytes)
 
 pub spelled_iff_read : (bytes : List ℕ) (s : Service) (xs : List Segment)
     → Spells bytes s xs ↔ (tokens_of bytes ≡ Ok (record { service = s; segments = xs }))
-spelled_iff_read bytes s xs = (spelled_is_read bytes s xs, λ e. subst (IsRead bytes) e (is_read bytes))
+spelled_iff_read bytes s xs = (spelled_is_read bytes s xs, λ e. subst (SpellsOrShows bytes) e (is_read bytes))
 
 pub shown_iff_fault : (bytes : List ℕ) (fault : TokenFault) → Shows bytes fault ↔ (tokens_of bytes ≡ Err fault)
-shown_iff_fault bytes fault = (shown_is_fault bytes fault, λ e. subst (IsRead bytes) e (is_read bytes))
+shown_iff_fault bytes fault = (shown_is_fault bytes fault, λ e. subst (SpellsOrShows bytes) e (is_read bytes))
 
 -- ---- what a call answered that answers what reading gives
 
 pub is_spelled : (bytes : List ℕ) (r : Result Tokens TokenFault)
-    → Answers (λ tokens. tokens) r (tokens_of bytes)
+    → GivesValue (λ tokens. tokens) r (tokens_of bytes)
     → IfOk r (λ tokens. Spells bytes tokens.service tokens.segments)
-is_spelled bytes (Ok tokens) e = subst (IsRead bytes) e (is_read bytes)
+is_spelled bytes (Ok tokens) e = subst (SpellsOrShows bytes) e (is_read bytes)
 is_spelled bytes (Err fault) e = tt
 
-failed_as : (fault : TokenFault) (given : Result Tokens TokenFault) → fault ≢ Memory → Fails fault given → given ≡ Err fault
+failed_as : (fault : TokenFault) (given : Result Tokens TokenFault) → fault ≢ Memory → GivesFault fault given → given ≡ Err fault
 failed_as TooLong given other e = e
 failed_as ServiceString given other e = e
 failed_as Byte given other e = e
@@ -181,10 +181,10 @@ failed_as Read given other e = e
 failed_as Memory given other e = absurd (other refl)
 
 pub is_shown : (bytes : List ℕ) (r : Result Tokens TokenFault)
-    → Answers (λ tokens. tokens) r (tokens_of bytes)
+    → GivesValue (λ tokens. tokens) r (tokens_of bytes)
     → IfErr r (λ fault. fault ≢ Memory → Shows bytes fault)
 is_shown bytes (Ok tokens) e = tt
-is_shown bytes (Err fault) e = λ other. subst (IsRead bytes) (failed_as fault (tokens_of bytes) other e) (is_read bytes)
+is_shown bytes (Err fault) e = λ other. subst (SpellsOrShows bytes) (failed_as fault (tokens_of bytes) other e) (is_read bytes)
 
 -- ---- the byte that shows the fault is one
 

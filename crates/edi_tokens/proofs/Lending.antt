@@ -14,11 +14,12 @@ use Rattle.edi_segments.specs.declared.segment.Segment.{Segment}
 use Rattle.edi_segments.specs.declared.fault.TokenFault.{TokenFault}
 use Rattle.edi_segments.specs.declared.fault.TokenFault.TheVariants.{TooLong, ServiceString, Byte, Cut, Tag, LongSegment, Read, Memory}
 use Rattle.edi_segments.specs.Spelling.{text_limit}
-use Rattle.edi_segments.specs.Reading.{Reading, Place, Outside, InService, InTag, InData, Released}
+use Rattle.edi_segments.specs.Reading.{Reading, BytePlace, Outside, InService, InTag, InData, Released}
 use Rattle.edi_segments.specs.Reading.{start, run, finish, finish_at, tokens_of, ◌>>=◌}
 use Rattle.edi_segments.specs.Machine.{reading_of, after}
 use Rattle.edi_tokens.specs.Piece.{FillsWith}
-use Rattle.edi_tokens.specs.Lender.{Begins, Came, GoesOn, Fed, FitsSome, Took, Filled, FillsSome, MayRead, TakesOf, IsOfText, HasCause}
+use Rattle.edi_tokens.specs.Lender.{HasLeft, Came, GoesOn, Fed, FitsSome, Took, TellsRefill, FillsSome, MayRead, TakesOf, IsOfText}
+use Rattle.edi_tokens.specs.Lender.{HasCause}
 use Rattle.edi_segments.specs.declared.segment.Tokens.{Tokens}
 use Rattle.std.proofs.KnownBytes.{Consumes-nil, Consumes-trans}
 use Rattle.edi_segments.proofs.Runs.{run-append}
@@ -165,7 +166,8 @@ module _ (known : Option (List ℕ)) (all : List ℕ) (lent : List Segment) (f :
     }
 
     pub filled_end : count ≡ 0
-        → Filled after all lent (Ok false) (record { machine = f.machine; piece = piece; tail = End; room = f.room - count; ended = true })
+        → TellsRefill after all lent (Ok false)
+        (record { machine = f.machine; piece = piece; tail = End; room = f.room - count; ended = true })
     filled_end is =
         let end = at_end_known after behind.0 behind.1 (fills.ends is goes.2) in
         let empty : piece ≡ [] = nil_from_length piece (omega (arith, fills.count_is)) in
@@ -203,7 +205,7 @@ module _ (known : Option (List ℕ)) (all : List ℕ) (lent : List Segment) (f :
     goes_within =
         subst (λ (t : Tail). GoesOn t known fed.left f.room (length fed.taken + length f.piece)) tail fed.goes_on
 
-    begins : Begins known fed.left f.room
+    begins : HasLeft known fed.left f.room
     begins = goes_within.0
 
     after_them : (rest : List ℕ) × (after ≡ Some rest) × (begins.bytes ≡ piece ++ rest)
@@ -246,7 +248,8 @@ module _ (known : Option (List ℕ)) (all : List ℕ) (lent : List Segment) (f :
     }
 
     pub within_end : count ≡ 0
-        → Filled after all lent (Ok false) (record { machine = f.machine; piece = piece; tail = End; room = f.room - count; ended = true })
+        → TellsRefill after all lent (Ok false)
+        (record { machine = f.machine; piece = piece; tail = End; room = f.room - count; ended = true })
     within_end is =
         let end = at_end_known after after_them.0 after_them.1 (fills.ends is goes_within.2) in
         let empty : piece ≡ [] = nil_from_length piece (omega (arith, fills.count_is)) in
@@ -456,7 +459,7 @@ abbrev FinishText : Result Tokens TokenFault → Type 0
 FinishText (Ok t) = Unit {0}
 FinishText (Err fault) = IsOfText fault
 
-finish_at_text : (r : Reading) (p : Place) → FinishText (finish_at r p)
+finish_at_text : (r : Reading) (p : BytePlace) → FinishText (finish_at r p)
 finish_at_text r (Outside fresh) = tt
 finish_at_text r (InService six) = tt
 finish_at_text r (InTag fresh tag) = tt

@@ -10,7 +10,7 @@ use Rattle.edi_segments.specs.declared.fault.TokenFault.{TokenFault}
 use Rattle.edi_segments.specs.Characters.{is_line_end, is_capital, is_digit, is_data, is_special}
 use Rattle.edi_segments.specs.Service.{service_of}
 use Rattle.edi_segments.specs.Spelling.{segment_limit}
-use Rattle.edi_segments.specs.Reading.{Reading, Place, Outside, InService, InTag, InData, Released}
+use Rattle.edi_segments.specs.Reading.{Reading, BytePlace, Outside, InService, InTag, InData, Released}
 use Rattle.edi_segments.specs.Reading.{Open, adopt, step, step_at, step_data, step_released}
 use Rattle.edi_segments.specs.Reading.{run, ◌>>=◌}
 use Rattle.edi_segments.specs.Machine.{reading_of, after}
@@ -55,7 +55,7 @@ module _ (before : List Segment) where
   released_behind : (r : Reading) (o : Open) (b : ℕ) → step_released (behind before r) o b ≡ all_behind before (step_released r o b)
   released_behind r o b = either (is_data b) _ _ _ _ refl refl
 
-  step_behind : (r : Reading) (p : Place) (b : ℕ) → step_at (behind before r) p b ≡ all_behind before (step_at r p b)
+  step_behind : (r : Reading) (p : BytePlace) (b : ℕ) → step_at (behind before r) p b ≡ all_behind before (step_at r p b)
   step_behind r (Outside fresh) b = either (is_line_end b) _ _ _ _ refl (either (is_capital b) _ _ _ _ refl refl)
   step_behind r (InService six) b =
       either (nat_lt (length six) 5) _ _ _ _ refl (adopted r (service_of (six ++ b ∷ [])))
@@ -109,7 +109,7 @@ data_text r o b =
     (choice (b == r.service.component) _ _ tt (choice (b == r.service.element) _ _ tt (choice (b == r.service.terminator) _ _ tt tt)))
     (choice (is_data b) _ _ tt tt)
 
-step_text : (r : Reading) (p : Place) (b : ℕ) → FaultOfText (step_at r p b)
+step_text : (r : Reading) (p : BytePlace) (b : ℕ) → FaultOfText (step_at r p b)
 step_text r (Outside fresh) b = choice (is_line_end b) _ _ tt (choice (is_capital b) _ _ tt tt)
 step_text r (InService six) b = choice (nat_lt (length six) 5) _ _ tt (adopt_text r (service_of (six ++ b ∷ [])))
 step_text r (InTag fresh tag) b =

@@ -5,12 +5,12 @@ use Rattle.edi_segments.specs.declared.machine.Machine.{Machine}
 use Rattle.edi_segments.specs.declared.segment.Segment.{Segment}
 use Rattle.edi_segments.specs.declared.fault.TokenFault.{TokenFault}
 use Rattle.edi_segments.specs.declared.fault.TokenFault.TheVariants.{TooLong, ServiceString, Byte, Cut, Tag, LongSegment, Read, Memory}
-use Rattle.edi_segments.specs.Reading.{Reading, run, Fails}
+use Rattle.edi_segments.specs.Reading.{Reading, run, GivesFault}
 use Rattle.edi_segments.specs.Machine.{reading_of, after}
 use Rattle.edi_segments.proofs.Pieces.{run_on}
 use Rattle.edi_tokens.proofs.Lent.{run_lent, run_lent_fails}
 
-pub fails_is : {Y : Type 0} (fault : TokenFault) (given : Result Y TokenFault) → given ≡ Err fault → Fails fault given
+pub fails_is : {Y : Type 0} (fault : TokenFault) (given : Result Y TokenFault) → given ≡ Err fault → GivesFault fault given
 fails_is TooLong given e = e
 fails_is ServiceString given e = e
 fails_is Byte given e = e
@@ -22,7 +22,7 @@ fails_is Memory given e = tt
 
 module _ (lent : List Segment) (m next : Machine) (rest : List ℕ) (total : Result Reading TokenFault)
     (so_far : run (reading_of lent m) rest ≡ total) where
-  pub stops_in : (fault : TokenFault) → run (reading_of [] m) rest ≡ Err fault → Fails fault total
+  pub stops_in : (fault : TokenFault) → run (reading_of [] m) rest ≡ Err fault → GivesFault fault total
   stops_in fault fails = fails_is fault total (sym so_far ∙ run_lent_fails lent m rest fault fails)
 
   pub all_in : (count : ℕ) → count ≡ length rest → run (reading_of [] m) (take count rest) ≡ Ok (after [] false next)

@@ -12,7 +12,7 @@ use Rattle.edi_segments.specs.declared.fault.TokenFault.TheVariants.{TooLong}
 use Rattle.edi_segments.specs.Characters.{is_line_end, is_capital, is_digit, is_data, is_special}
 use Rattle.edi_segments.specs.Service.{service_of}
 use Rattle.edi_segments.specs.Spelling.{segment_limit, text_limit}
-use Rattle.edi_segments.specs.Reading.{Reading, Place, Outside, InService, InTag, InData}
+use Rattle.edi_segments.specs.Reading.{Reading, BytePlace, Outside, InService, InTag, InData}
 use Rattle.edi_segments.specs.Reading.{Released, Open, adopt, start, step, step_at, step_data}
 use Rattle.edi_segments.specs.Reading.{run, finish, finish_at, tokens_of, ◌>>=◌}
 use Rattle.edi_segments.specs.Machine.{reading_of}
@@ -21,7 +21,7 @@ use Rattle.edi_segments.proofs.Runs.{run-append}
 use Rattle.edi_tokens.proofs.Lending.{fits, front_within}
 
 -- no service string may stand there any more
-abbrev pub is_settled : Place → Bool
+abbrev pub is_settled : BytePlace → Bool
 is_settled (Outside fresh) = not fresh
 is_settled (InService six) = false
 is_settled (InTag fresh tag) = not fresh
@@ -29,16 +29,16 @@ is_settled (InData o) = true
 is_settled (Released o) = true
 
 -- the place is settled, with these characters
-abbrev Keeps : Service → Result Reading TokenFault → Type 0
-Keeps s (Ok r) = (is_settled r.place ≡ true) × (r.service ≡ s)
-Keeps s (Err fault) = Unit {0}
+abbrev KeepsService : Service → Result Reading TokenFault → Type 0
+KeepsService s (Ok r) = (is_settled r.place ≡ true) × (r.service ≡ s)
+KeepsService s (Err fault) = Unit {0}
 
 module _ (s : Service) where
-  choice : (t : Bool) (x y : Result Reading TokenFault) → Keeps s x → Keeps s y → Keeps s (if t then x else y)
+  choice : (t : Bool) (x y : Result Reading TokenFault) → KeepsService s x → KeepsService s y → KeepsService s (if t then x else y)
   choice true x y a b = a
   choice false x y a b = b
 
-data_keeps : (r : Reading) (o : Open) (b : ℕ) → Keeps r.service (step_data r o b)
+data_keeps : (r : Reading) (o : Open) (b : ℕ) → KeepsService r.service (step_data r o b)
 data_keeps r o b =
     choice r.service (is_special r.service b) _ _
     (choice r.service (b == r.service.component) _ _ (refl, refl)
@@ -46,7 +46,7 @@ data_keeps r o b =
     (choice r.service (b == r.service.terminator) _ _ (refl, refl) (refl, refl))))
     (choice r.service (is_data b) _ _ (refl, refl) tt)
 
-step_keeps : (r : Reading) (p : Place) (b : ℕ) → is_settled p ≡ true → Keeps r.service (step_at r p b)
+step_keeps : (r : Reading) (p : BytePlace) (b : ℕ) → is_settled p ≡ true → KeepsService r.service (step_at r p b)
 step_keeps r (Outside true) b e = absurd cc
 step_keeps r (Outside false) b e =
     choice r.service (is_line_end b) _ _ (refl, refl) (choice r.service (is_capital b) _ _ (refl, refl) tt)
@@ -59,11 +59,11 @@ step_keeps r (InData o) b e = choice r.service (o.length == segment_limit) _ _ t
 step_keeps r (Released o) b e =
     choice r.service (o.length == segment_limit) _ _ tt (choice r.service (is_data b) _ _ (refl, refl) tt)
 
-run_keeps : (r : Reading) (bytes : List ℕ) → is_settled r.place ≡ true → Keeps r.service (run r bytes)
+run_keeps : (r : Reading) (bytes : List ℕ) → is_settled r.place ≡ true → KeepsService r.service (run r bytes)
 run_keeps r [] e = (e, refl)
 run_keeps r (b ∷ bytes) e =
-    (elim (step r b) as (λ s. Keeps r.service s → Keeps r.service (s >>= λ next. run next bytes)) [
-      | Ok next ↦ λ k. subst (λ (s : Service). Keeps s (run next bytes)) k.1 (run_keeps next bytes k.0)
+    (elim (step r b) as (λ s. KeepsService r.service s → KeepsService r.service (s >>= λ next. run next bytes)) [
+      | Ok next ↦ λ k. subst (λ (s : Service). KeepsService s (run next bytes)) k.1 (run_keeps next bytes k.0)
       | Err fault ↦ λ k. k
     ]) (step_keeps r r.place b e)
 
@@ -76,7 +76,7 @@ pick : (t : Bool) (x y : Result Reading TokenFault) → IsLent x → IsLent y �
 pick true x y a b = a
 pick false x y a b = b
 
-of_keeps : (s : Service) (x : Result Reading TokenFault) → Keeps s x → IsLent x
+of_keeps : (s : Service) (x : Result Reading TokenFault) → KeepsService s x → IsLent x
 of_keeps s (Ok r) k = inr k.0
 of_keeps s (Err fault) k = tt
 
@@ -84,7 +84,7 @@ adopt_none : (r : Reading) (o : Option Service) → r.segments ≡ [] → IsLent
 adopt_none r None e = tt
 adopt_none r (Some s) e = inl e
 
-step_none : (r : Reading) (p : Place) (b : ℕ) → r.segments ≡ [] → IsLent (step_at r p b)
+step_none : (r : Reading) (p : BytePlace) (b : ℕ) → r.segments ≡ [] → IsLent (step_at r p b)
 step_none r (Outside fresh) b e = pick (is_line_end b) _ _ (inl e) (pick (is_capital b) _ _ (inl e) tt)
 step_none r (InService six) b e = pick (nat_lt (length six) 5) _ _ (inl e) (adopt_none r (service_of (six ++ b ∷ [])) e)
 step_none r (InTag fresh tag) b e =
@@ -106,21 +106,21 @@ run_lent r (b ∷ bytes) e =
     ]) (step_lent r b e)
 
 -- a text that is read has these characters
-abbrev Says : Service → Result Tokens TokenFault → Type 0
-Says s (Ok tokens) = tokens.service ≡ s
-Says s (Err fault) = Unit {0}
+abbrev SaysService : Service → Result Tokens TokenFault → Type 0
+SaysService s (Ok tokens) = tokens.service ≡ s
+SaysService s (Err fault) = Unit {0}
 
-finish_says : (r : Reading) (p : Place) → Says r.service (finish_at r p)
+finish_says : (r : Reading) (p : BytePlace) → SaysService r.service (finish_at r p)
 finish_says r (Outside fresh) = refl
 finish_says r (InService six) = tt
 finish_says r (InTag fresh tag) = tt
 finish_says r (InData o) = tt
 finish_says r (Released o) = tt
 
-run_says : (s : Service) (x : Result Reading TokenFault) (long : Bool) → Keeps s x
-    → Says s (x >>= λ r. if long then Err TooLong else finish r)
+run_says : (s : Service) (x : Result Reading TokenFault) (long : Bool) → KeepsService s x
+    → SaysService s (x >>= λ r. if long then Err TooLong else finish r)
 run_says s (Ok r) true k = tt
-run_says s (Ok r) false k = subst (λ (t : Service). Says t (finish r)) k.1 (finish_says r r.place)
+run_says s (Ok r) false k = subst (λ (t : Service). SaysService t (finish r)) k.1 (finish_says r r.place)
 run_says s (Err fault) long k = tt
 
 is_second : {A B : Type 0} → A ⊎ B → (A → ⊥) → B
@@ -141,13 +141,13 @@ module _ (known : Option (List ℕ)) (all : List ℕ) (lent : List Segment) (l :
       ∙ run-append start fed.taken more
       ∙ ap (λ (x : Result Reading TokenFault). x >>= λ next. run next more) fed.read_as
 
-  says : Says l.machine.service (tokens_of all)
+  says : SaysService l.machine.service (tokens_of all)
   says =
-      subst (λ (x : Result Reading TokenFault). Says l.machine.service
+      subst (λ (x : Result Reading TokenFault). SaysService l.machine.service
       (x >>= λ r. if nat_lt text_limit (length all) then Err TooLong else finish r))
       (sym runs)
       (run_says l.machine.service (run (reading_of lent l.machine) more) (nat_lt text_limit (length all))
       (run_keeps (reading_of lent l.machine) more settled))
 
   pub settled_service : (tokens : Tokens) → tokens_of all ≡ Ok tokens → tokens.service ≡ l.machine.service
-  settled_service tokens e = subst (Says l.machine.service) e says
+  settled_service tokens e = subst (SaysService l.machine.service) e says

@@ -6,8 +6,8 @@ use Rattle.edi_segments.specs.declared.segment.Segment.{Segment}
 use Rattle.edi_tokens.specs.declared.lender.Lender.{Lender}
 use Rattle.edi_segments.specs.Service.{usual, una_tag}
 use Rattle.edi_segments.specs.Spelling.{SpellsWhole, LineEnds}
-use Rattle.edi_segments.specs.Reading.{Place, Outside, InService, InTag, InData, Released, start}
-use Rattle.edi_tokens.specs.Fault.{Ends, EndsAt}
+use Rattle.edi_segments.specs.Reading.{BytePlace, Outside, InService, InTag, InData, Released, start}
+use Rattle.edi_tokens.specs.Fault.{EndsIn, EndsAt}
 use Rattle.edi_segments.specs.Machine.{reading_of}
 use Rattle.edi_tokens.specs.Lender.{Fed}
 use Rattle.edi_tokens.proofs.Steps.{Runs, run_leads}
@@ -20,7 +20,8 @@ no_segments : (before : List ℕ) → LineEnds before → SpellsWhole before usu
 no_segments before ends =
     record { advice = None; body = []; tail = before; text_is = refl; advises = (refl, tt); body_spells = refl; tail_is = ends }
 
-whole_at : (text : List ℕ) (s : Service) (segments : List Segment) (place : Place) → EndsAt text s segments place → HasWhole text s segments
+whole_at : (text : List ℕ) (s : Service) (segments : List Segment) (place : BytePlace) → EndsAt text s segments place
+    → HasWhole text s segments
 whole_at text s segments (Outside fresh) e = (text, [], sym (append-nil text), e.whole)
 whole_at text s segments (InService six) e = (
   e.before,
@@ -42,7 +43,8 @@ whole_at text s segments (Released o) e =
 pub lent_spelled : (known : Option (List ℕ)) (all : List ℕ) (lent : List Segment) (f : Lender) → Fed known all lent f
     → HasWhole all f.machine.service lent
 lent_spelled known all lent f fed =
-    let ends : Ends fed.taken (reading_of lent f.machine) = subst (Runs fed.taken) fed.read_as (run_leads [] fed.taken start start_ends) in
+    let ends : EndsIn fed.taken (reading_of lent f.machine) =
+    subst (Runs fed.taken) fed.read_as (run_leads [] fed.taken start start_ends) in
     let whole = whole_at fed.taken f.machine.service lent (reading_of lent f.machine).place ends in (
       whole.0,
       whole.1 ++ (f.piece ++ fed.left),

@@ -12,10 +12,10 @@ use Rattle.edi_segments.specs.declared.fault.TokenFault.TheVariants.{ServiceStri
 use Rattle.edi_segments.specs.Characters.{is_data, is_special, is_release, is_capital, is_digit, is_line_end}
 use Rattle.edi_segments.specs.Service.{una_tag, service_of}
 use Rattle.edi_segments.specs.Spelling.{segment_limit}
-use Rattle.edi_segments.specs.Reading.{Open, Place, Outside, InService, InTag, InData, Released, Reading, is_una, step}
+use Rattle.edi_segments.specs.Reading.{Open, BytePlace, Outside, InService, InTag, InData, Released, Reading, is_una, step}
 use Rattle.edi_segments.specs.Reading.{step_at, step_outside, step_service, adopt, step_tag, step_data, step_released, within}
 use Rattle.edi_segments.specs.Reading.{run, ◌>>=◌, at, tag_or_service, with_component, with_element}
-use Rattle.edi_tokens.specs.Fault.{EndsAt, Ends, shown_at, EndsOutside, EndsInService, EndsInTag, EndsInData, EndsReleased}
+use Rattle.edi_tokens.specs.Fault.{EndsAt, EndsIn, shown_at, EndsOutside, EndsInService, EndsInTag, EndsInData, EndsReleased}
 use Rattle.edi_tokens.proofs.Fronts.{line_end_after, tag_begins, tag_goes_on, service_begins, service_goes_on, service_ends}
 use Rattle.edi_tokens.proofs.Fronts.{segment_opens, empty_segment_ends, data_goes_on, data_ends, data_byte, release_comes}
 use Rattle.edi_tokens.proofs.Fronts.{released_byte, open_component, open_element}
@@ -26,33 +26,33 @@ chosen true x y z e = inl (refl, e)
 chosen false x y z e = inr (refl, e)
 
 -- a step that did not fail, and where it leads
-abbrev Leads : List ℕ → Result Reading TokenFault → Type 0
-Leads text (Ok next) = Ends text next
-Leads text (Err fault) = Unit {0}
+abbrev LeadsOn : List ℕ → Result Reading TokenFault → Type 0
+LeadsOn text (Ok next) = EndsIn text next
+LeadsOn text (Err fault) = Unit {0}
 
 at_test : (b : Bool) (x y : Result Reading TokenFault) (text : List ℕ)
-    → (b ≡ true → Leads text x)
-    → (b ≡ false → Leads text y)
-    → Leads text (cond b x y)
+    → (b ≡ true → LeadsOn text x)
+    → (b ≡ false → LeadsOn text y)
+    → LeadsOn text (cond b x y)
 at_test true x y text f g = f refl
 at_test false x y text f g = g refl
 
 outside_leads : (text : List ℕ) (r : Reading) (fresh : Bool) (b : ℕ)
     → EndsOutside text r.service r.segments fresh
-    → Leads (text ++ b ∷ []) (step_outside r fresh b)
+    → LeadsOn (text ++ b ∷ []) (step_outside r fresh b)
 outside_leads text r fresh b e =
     at_test (is_line_end b) _ _ (text ++ b ∷ []) (λ h. line_end_after text r.service r.segments fresh b e h) (λ _.
     at_test (is_capital b) _ _ (text ++ b ∷ []) (λ h. tag_begins text r.service r.segments fresh b e h) (λ _. tt))
 
 service_leads : (text : List ℕ) (r : Reading) (six : List ℕ) (b : ℕ)
     → EndsInService text r.service r.segments six
-    → Leads (text ++ b ∷ []) (step_service r six b)
+    → LeadsOn (text ++ b ∷ []) (step_service r six b)
 service_leads text r six b e =
     at_test (ltb (length six) 5) _ _ (text ++ b ∷ [])
     (λ h. service_goes_on text r.service r.segments six b e (ltb-true _ _ h))
     (λ _. adopted (service_of (six ++ b ∷ [])) refl)
   where
-    adopted : (found : Option Service) → service_of (six ++ b ∷ []) ≡ found → Leads (text ++ b ∷ []) (adopt r found)
+    adopted : (found : Option Service) → service_of (six ++ b ∷ []) ≡ found → LeadsOn (text ++ b ∷ []) (adopt r found)
     adopted None h = tt
     adopted (Some found) h = service_ends text r.service r.segments six b found e h
 
@@ -74,7 +74,7 @@ is_una_false tag e same = true≢false (sym (ap is_una same) ∙ e)
 
 tag_leads : (text : List ℕ) (r : Reading) (fresh : Bool) (tag : List ℕ) (b : ℕ)
     → EndsInTag text r.service r.segments fresh tag
-    → Leads (text ++ b ∷ []) (step_tag r fresh tag b)
+    → LeadsOn (text ++ b ∷ []) (step_tag r fresh tag b)
 tag_leads text r fresh tag b e =
     at_test (ltb (length tag) 3) _ _ (text ++ b ∷ [])
     (λ short. at_test (is_capital b || is_digit b) _ _ (text ++ b ∷ []) (λ h. grown (ltb-true _ _ short) h) (λ _. tt))
@@ -83,7 +83,7 @@ tag_leads text r fresh tag b e =
     at_test (eqb b r.service.terminator) _ _ (text ++ b ∷ [])
     (λ h. empty_segment_ends text r.service r.segments fresh tag b e (ltb-false _ _ long) (eqb-true _ _ h)) (λ _. tt)))
   where
-    grown : length tag < 3 → IsTrue (is_capital b || is_digit b) → Ends (text ++ b ∷ []) (at r (tag_or_service r fresh (tag ++ b ∷ [])))
+    grown : length tag < 3 → IsTrue (is_capital b || is_digit b) → EndsIn (text ++ b ∷ []) (at r (tag_or_service r fresh (tag ++ b ∷ [])))
     grown short h =
         elim (cases_Bool (fresh && is_una (tag ++ b ∷ []))) [
           | inl una ↦ let p = and_parts fresh (is_una (tag ++ b ∷ [])) una in
@@ -99,7 +99,7 @@ tag_leads text r fresh tag b e =
 
 data_leads : (text : List ℕ) (r : Reading) (o : Open) (b : ℕ)
     → EndsInData text r.service r.segments o
-    → Leads (text ++ b ∷ []) (within o (step_data r o b))
+    → LeadsOn (text ++ b ∷ []) (within o (step_data r o b))
 data_leads text r o b e =
     let s = r.service in
     let text' : List ℕ = text ++ b ∷ [] in
@@ -129,14 +129,14 @@ data_leads text r o b e =
 
 released_leads : (text : List ℕ) (r : Reading) (o : Open) (b : ℕ)
     → EndsReleased text r.service r.segments o
-    → Leads (text ++ b ∷ []) (within o (step_released r o b))
+    → LeadsOn (text ++ b ∷ []) (within o (step_released r o b))
 released_leads text r o b e =
     at_test (eqb o.length segment_limit) _ _ (text ++ b ∷ []) (λ _. tt) (λ not_full.
     at_test (is_data b) _ _ (text ++ b ∷ []) (λ h. released_byte text r.service r.segments o b e (eqb-false _ _ not_full) h) (λ _. tt))
 
-step_leads : (text : List ℕ) (r : Reading) (place : Place) (b : ℕ)
+step_leads : (text : List ℕ) (r : Reading) (place : BytePlace) (b : ℕ)
     → EndsAt text r.service r.segments place
-    → Leads (text ++ b ∷ []) (step_at r place b)
+    → LeadsOn (text ++ b ∷ []) (step_at r place b)
 step_leads text r (Outside fresh) b e = outside_leads text r fresh b e
 step_leads text r (InService six) b e = service_leads text r six b e
 step_leads text r (InTag fresh tag) b e = tag_leads text r fresh tag b e
@@ -197,7 +197,7 @@ service_tests n found r p le =
     adopted (Some x) = refl
 
 -- what the next byte shows is the fault of its step
-pub shown_is : (text : List ℕ) (r : Reading) (place : Place) (b : ℕ)
+pub shown_is : (text : List ℕ) (r : Reading) (place : BytePlace) (b : ℕ)
     → EndsAt text r.service r.segments place
     → shown_at r.service place b ≡ fault_of (step_at r place b)
 shown_is text r (Outside fresh) b e = two_tests (is_line_end b) (is_capital b) _ _
@@ -213,29 +213,29 @@ shown_is text r (Released o) b e = full_test (eqb o.length segment_limit) _ _ (k
 -- ---- a run
 
 -- after a valid front of the text a byte shows the fault
-pub record Stops (text : List ℕ) (fault : TokenFault) : Type 0 where
+pub record StopsAtByte (text : List ℕ) (fault : TokenFault) : Type 0 where
   pub front : List ℕ
   pub byte : ℕ
   pub rest : List ℕ
   pub reading : Reading
   pub text_is : text ≡ front ++ byte ∷ rest
-  pub front_ends : Ends front reading
+  pub front_ends : EndsIn front reading
   pub shows : shown_at reading.service reading.place byte ≡ Some fault
 
 abbrev pub Runs : List ℕ → Result Reading TokenFault → Type 0
-Runs text (Ok r) = Ends text r
-Runs text (Err fault) = Stops text fault
+Runs text (Ok r) = EndsIn text r
+Runs text (Err fault) = StopsAtByte text fault
 
-pub run_leads : (front bytes : List ℕ) (r : Reading) → Ends front r → Runs (front ++ bytes) (run r bytes)
-run_leads front [] r e = subst (λ (t : List ℕ). Ends t r) (sym (append-nil front)) e
+pub run_leads : (front bytes : List ℕ) (r : Reading) → EndsIn front r → Runs (front ++ bytes) (run r bytes)
+run_leads front [] r e = subst (λ (t : List ℕ). EndsIn t r) (sym (append-nil front)) e
 run_leads front (b ∷ bytes) r e =
     go (step r b) refl (step_leads front r r.place b e)
-    (λ (next : Reading) (ends : Ends (front ++ b ∷ []) next). run_leads (front ++ b ∷ []) bytes next ends)
+    (λ (next : Reading) (ends : EndsIn (front ++ b ∷ []) next). run_leads (front ++ b ∷ []) bytes next ends)
   where
     go : (x : Result Reading TokenFault)
         → step r b ≡ x
-        → Leads (front ++ b ∷ []) x
-        → ((next : Reading) → Ends (front ++ b ∷ []) next → Runs ((front ++ b ∷ []) ++ bytes) (run next bytes))
+        → LeadsOn (front ++ b ∷ []) x
+        → ((next : Reading) → EndsIn (front ++ b ∷ []) next → Runs ((front ++ b ∷ []) ++ bytes) (run next bytes))
         → Runs (front ++ b ∷ bytes) (x >>= λ next. run next bytes)
     go (Ok next) h leads others = subst (λ (t : List ℕ). Runs t (run next bytes)) (append_assoc front (b ∷ []) bytes) (others next leads)
     go (Err fault) h leads others =

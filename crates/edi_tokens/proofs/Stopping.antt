@@ -6,7 +6,7 @@ use Rattle.edi_segments.specs.declared.segment.Segment.{Segment}
 use Rattle.edi_segments.specs.declared.fault.TokenFault.{TokenFault}
 use Rattle.edi_segments.specs.declared.fault.TokenFault.TheVariants.{Memory}
 use Rattle.edi_tokens.specs.declared.lender.Lender.{Lender}
-use Rattle.edi_tokens.specs.Lender.{Fed, Feeds, Flags, Told, answered, lent_by, stopped}
+use Rattle.edi_tokens.specs.Lender.{Fed, Feeds, FaultHasCause, TellsNext, answered, lent_by, stopped}
 use Rattle.edi_tokens.specs.Stops.{StaysStopped, Stops}
 
 -- nothing was done
@@ -62,7 +62,7 @@ module _ {R : Type 0} (remaining : R → Option (List ℕ)) (first between after
   memory_was_told is going =
       elim (stopped old) as (λ s. stopped old ≡ s → IfSome s (λ _. (new ≡ old) × (after ≡ first)) → stopped new ≡ stopped old) [
         | None ↦ λ none same.
-            absurd (subst (λ (r : Result Bool TokenFault). Flags (answered r new) was failed) is (feeds.flag (going none)))
+            absurd (subst (λ (r : Result Bool TokenFault). FaultHasCause (answered r new) was failed) is (feeds.flag (going none)))
         | Some fault ↦ λ some same. ap stopped same.0
       ]
       refl stays_then
@@ -87,9 +87,9 @@ module _ {R : Type 0} (remaining : R → Option (List ℕ)) (first between after
 
   module _ (lent : List Segment) (fed : (all : List ℕ) → Fed (remaining first) all [] old → Fed (remaining between) all lent now) where
     told_as : (given : Result Bool TokenFault) → result ≡ given → (all : List ℕ) → Fed (remaining first) all [] old
-        → Told (remaining after) all lent (answered given new) new
+        → TellsNext (remaining after) all lent (answered given new) new
     told_as given is all old_fed =
-        subst (λ (r : Result Bool TokenFault). Told (remaining after) all lent (answered r new) new) is
+        subst (λ (r : Result Bool TokenFault). TellsNext (remaining after) all lent (answered r new) new) is
         (feeds.told all lent (fed all old_fed))
 
     goes_on : (more : Bool) → result ≡ Ok more → stopped new ≡ None

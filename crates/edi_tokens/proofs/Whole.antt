@@ -14,7 +14,7 @@ use Rattle.edi_segments.specs.Service.{usual, una_tag, service_of, differs, is_m
 use Rattle.edi_segments.specs.Spelling.{segment_limit, Each, Behind, Before, SpellsByte, SpellsComponent, SpellsElement}
 use Rattle.edi_segments.specs.Spelling.{SpellsSegment, SpellsNext, SpellsWhole, LineEnds, IsTag, IsNoAdvice, tags, Advice}
 use Rattle.edi_segments.specs.Spelling.{Advises, advice_text, without_empty_end}
-use Rattle.edi_segments.specs.Reading.{Open, Place, Outside, InService, InTag, InData, Released, Reading, start, is_una}
+use Rattle.edi_segments.specs.Reading.{Open, BytePlace, Outside, InService, InTag, InData, Released, Reading, start, is_una}
 use Rattle.edi_segments.specs.Reading.{adopt, step, run, ◌>>=◌}
 use Rattle.edi_tokens.specs.Fault.{is_fresh, EndsAt, IsTagFront, SpellsOpen, EndsInData, EndsReleased}
 use Rattle.edi_tokens.proofs.Parts.{tag_length}
@@ -22,13 +22,13 @@ use Rattle.edi_tokens.proofs.Steps.{is_una_true}
 
 -- ---- service characters are apart
 
-pub record Apart (s : Service) : Type 0 where
+pub record CharactersApart (s : Service) : Type 0 where
   pub element_component : eqb s.element s.component ≡ false
   pub terminator_component : eqb s.terminator s.component ≡ false
   pub terminator_element : eqb s.terminator s.element ≡ false
   pub release_apart : (r : ℕ) → s.release ≡ Some r → (eqb r s.component ≡ false) × (eqb r s.element ≡ false) × (eqb r s.terminator ≡ false)
 
-usual_apart : Apart usual
+usual_apart : CharactersApart usual
 usual_apart = record {
   element_component = refl;
   terminator_component = refl;
@@ -49,7 +49,7 @@ released_by : (blank : Bool) (r x : ℕ) → cond blank None (Some r) ≡ Some x
 released_by true r x e = absurd cc
 released_by false r x e = cc
 
-service_apart : (six : List ℕ) (s : Service) → service_of six ≡ Some s → Apart s
+service_apart : (six : List ℕ) (s : Service) → service_of six ≡ Some s → CharactersApart s
 service_apart (c ∷ e ∷ d ∷ r ∷ reserved ∷ t ∷ []) s h =
     let made = made_from (are_right c e d r reserved t) _ s h in
     let halves = and_parts ((is_mark c && is_mark e) && (is_mark t && (eqb r 32 || is_mark r))) _ made.0 in
@@ -63,7 +63,7 @@ service_apart (c ∷ e ∷ d ∷ r ∷ reserved ∷ t ∷ []) s h =
     let e1 = and_parts (not (eqb e t)) _ ce.1 in
     let e2 = and_parts (not (eqb e r)) _ e1.1 in
     let t1 = and_parts (not (eqb t r)) _ tr.0 in
-    let here : Apart
+    let here : CharactersApart
     (record { component = c; element = e; decimal = d; release = cond (eqb r 32) None (Some r); terminator = t }) = record {
       element_component = swap_differs c e (not-true _ c1.0);
       terminator_component = swap_differs c t (not-true _ c2.0);
@@ -72,20 +72,20 @@ service_apart (c ∷ e ∷ d ∷ r ∷ reserved ∷ t ∷ []) s h =
           subst (λ (y : ℕ). (eqb y c ≡ false) × (eqb y e ≡ false) × (eqb y t ≡ false)) same
           (swap_differs c r (not-true _ c3.0), swap_differs e r (not-true _ e2.0), swap_differs t r (not-true _ t1.0));
     } in
-    subst Apart made.1 here
+    subst CharactersApart made.1 here
 service_apart _ s h = absurd cc
 
-pub advised_apart : (advice : Option Advice) (s : Service) (tags : List (List ℕ)) → Advises advice s tags → Apart s
-advised_apart None s tags advises = subst Apart (sym advises.0) usual_apart
+pub advised_apart : (advice : Option Advice) (s : Service) (tags : List (List ℕ)) → Advises advice s tags → CharactersApart s
+advised_apart None s tags advises = subst CharactersApart (sym advises.0) usual_apart
 advised_apart (Some a) s tags advises = service_apart a.six s advises.1
 
 -- ---- runs one after another
 
 -- bytes that lead from one reading to another
-pub record Goes (r : Reading) (bytes : List ℕ) (n : Reading) : Type 0 where
+pub record RunsTo (r : Reading) (bytes : List ℕ) (n : Reading) : Type 0 where
   pub is : run r bytes ≡ Ok n
 
-pub run_then : {r m n : Reading} {xs ys : List ℕ} → Goes r xs m → Goes m ys n → Goes r (xs ++ ys) n
+pub run_then : {r m n : Reading} {xs ys : List ℕ} → RunsTo r xs m → RunsTo m ys n → RunsTo r (xs ++ ys) n
 run_then {r} {m} {n} {xs} {ys} first second = record { is = joined xs ys r m n first.is second.is }
   where
     through : (xs ys : List ℕ) (m n : Reading) (x : Result Reading TokenFault) → (x >>= λ next. run next xs) ≡ Ok m
@@ -99,10 +99,11 @@ run_then {r} {m} {n} {xs} {ys} first second = record { is = joined xs ys r m n f
         through xs ys m n (step r b) first (λ (next : Reading) (e : run next xs ≡ Ok m). joined xs ys next m n e second)
 
 -- the same bytes, spelled in another way, and the same place
-pub goes_as : {r n : Reading} {xs : List ℕ} (ys : List ℕ) (m : Reading) → Goes r xs n → ys ≡ xs → n ≡ m → Goes r ys m
-goes_as {r} {n} {xs} ys m goes same place = subst (λ (t : List ℕ). Goes r t m) (sym same) (subst (λ (x : Reading). Goes r xs x) place goes)
+pub goes_as : {r n : Reading} {xs : List ℕ} (ys : List ℕ) (m : Reading) → RunsTo r xs n → ys ≡ xs → n ≡ m → RunsTo r ys m
+goes_as {r} {n} {xs} ys m goes same place =
+    subst (λ (t : List ℕ). RunsTo r t m) (sym same) (subst (λ (x : Reading). RunsTo r xs x) place goes)
 
-one_step : (r : Reading) (b : ℕ) (n : Reading) → step r b ≡ Ok n → Goes r (b ∷ []) n
+one_step : (r : Reading) (b : ℕ) (n : Reading) → step r b ≡ Ok n → RunsTo r (b ∷ []) n
 one_step r b n e = record { is = rw e refl }
 
 abbrev pub outside : Service → List Segment → Bool → Reading
@@ -125,7 +126,7 @@ released s segments tag elements element component n =
 -- ---- line ends and tags
 
 pub line_ends_run : (text : List ℕ) (s : Service) (segments : List Segment) (fresh : Bool) → LineEnds text
-    → Goes (outside s segments fresh) text (outside s segments fresh)
+    → RunsTo (outside s segments fresh) text (outside s segments fresh)
 line_ends_run [] s segments fresh ends = record { is = refl }
 line_ends_run (b ∷ text) s segments fresh ends = record { is = rw ends.0 (line_ends_run text s segments fresh ends.1).is }
 
@@ -136,12 +137,12 @@ no_line_end b h =
     rw (ne_eqb b 13 (λ e. absurd (omega arith)), ne_eqb b 10 (λ e. absurd (omega arith))) refl
 
 first_tag_byte : (a : ℕ) (s : Service) (segments : List Segment) (fresh : Bool) → is_capital a ≡ true
-    → Goes (outside s segments fresh) (a ∷ []) (in_tag s segments fresh (a ∷ []))
+    → RunsTo (outside s segments fresh) (a ∷ []) (in_tag s segments fresh (a ∷ []))
 first_tag_byte a s segments fresh h = one_step _ a _ (rw (no_line_end a h, h) refl)
 
 next_tag_byte : (tag : List ℕ) (b : ℕ) (s : Service) (segments : List Segment) (fresh : Bool) → length tag < 3
     → (is_capital b || is_digit b) ≡ true → (fresh && is_una (tag ++ b ∷ [])) ≡ false
-    → Goes (in_tag s segments fresh tag) (b ∷ []) (in_tag s segments fresh (tag ++ b ∷ []))
+    → RunsTo (in_tag s segments fresh tag) (b ∷ []) (in_tag s segments fresh (tag ++ b ∷ []))
 next_tag_byte tag b s segments fresh short h other = one_step _ b _ (rw (lt-ltb _ _ short, h, other) refl)
 
 una_false : (fresh : Bool) (tag : List ℕ) → (fresh ≡ true → tag ≢ una_tag) → (fresh && is_una tag) ≡ false
@@ -149,7 +150,7 @@ una_false false tag h = refl
 una_false true tag h = false_from_ne_true (is_una tag) (λ e. h refl (is_una_true tag e))
 
 pub tag_front_runs : (tag : List ℕ) (s : Service) (segments : List Segment) (fresh : Bool) → IsTagFront tag
-    → (fresh ≡ true → tag ≢ una_tag) → Goes (outside s segments fresh) tag (in_tag s segments fresh tag)
+    → (fresh ≡ true → tag ≢ una_tag) → RunsTo (outside s segments fresh) tag (in_tag s segments fresh tag)
 tag_front_runs [] s segments fresh is not_una = absurd is
 tag_front_runs (a ∷ []) s segments fresh is not_una = first_tag_byte a s segments fresh is
 tag_front_runs (a ∷ b ∷ []) s segments fresh is not_una =
@@ -184,12 +185,12 @@ same_number n = eq-eqb n n refl
 
 module _ (s : Service) (segments : List Segment) (tag : List ℕ) (elements : List (List (List ℕ))) where
   plain_step : (element : List (List ℕ)) (component : List ℕ) (n b : ℕ) → n < segment_limit → is_special s b ≡ false → is_data b ≡ true
-      → Goes (in_data s segments tag elements element component n) (b ∷ [])
+      → RunsTo (in_data s segments tag elements element component n) (b ∷ [])
       (in_data s segments tag elements element (component ++ b ∷ []) (n + 1))
   plain_step element component n b short plain known = one_step _ b _ (rw (not_full n short, plain, known) refl)
 
-  pub release_step : (element : List (List ℕ)) (component : List ℕ) (n b : ℕ) → Apart s → n < segment_limit → s.release ≡ Some b
-      → Goes (in_data s segments tag elements element component n) (b ∷ []) (released s segments tag elements element component (n + 1))
+  pub release_step : (element : List (List ℕ)) (component : List ℕ) (n b : ℕ) → CharactersApart s → n < segment_limit → s.release ≡ Some b
+      → RunsTo (in_data s segments tag elements element component n) (b ∷ []) (released s segments tag elements element component (n + 1))
   release_step element component n b apart short is =
       let parts = apart.release_apart b is in
       let special : is_special s b ≡ true =
@@ -197,26 +198,26 @@ module _ (s : Service) (segments : List Segment) (tag : List ℕ) (elements : Li
       one_step _ b _ (rw (not_full n short, special, parts.0, parts.1, parts.2) refl)
 
   released_step : (element : List (List ℕ)) (component : List ℕ) (n b : ℕ) → n < segment_limit → is_data b ≡ true
-      → Goes (released s segments tag elements element component n) (b ∷ [])
+      → RunsTo (released s segments tag elements element component n) (b ∷ [])
       (in_data s segments tag elements element (component ++ b ∷ []) (n + 1))
   released_step element component n b short known = one_step _ b _ (rw (not_full n short, known) refl)
 
   component_step : (element : List (List ℕ)) (component : List ℕ) (n : ℕ) → n < segment_limit
-      → Goes (in_data s segments tag elements element component n) (s.component ∷ [])
+      → RunsTo (in_data s segments tag elements element component n) (s.component ∷ [])
       (in_data s segments tag elements (element ++ component ∷ []) [] (n + 1))
   component_step element component n short =
       let special : is_special s s.component ≡ true = special_by s s.component (inl (same_number s.component)) in
       one_step _ s.component _ (rw (not_full n short, special, same_number s.component) refl)
 
   -- a byte as it is spelled
-  byte_runs : (element : List (List ℕ)) (component part : List ℕ) (n b : ℕ) → Apart s → SpellsByte s part b
+  byte_runs : (element : List (List ℕ)) (component part : List ℕ) (n b : ℕ) → CharactersApart s → SpellsByte s part b
       → n + length part ≤ segment_limit
-      → Goes (in_data s segments tag elements element component n) part
+      → RunsTo (in_data s segments tag elements element component n) part
       (in_data s segments tag elements element (component ++ b ∷ []) (n + length part))
   byte_runs element component part n b apart spelled fits = go spelled.1
     where
       go : (((part ≡ b ∷ []) × IsTrue (not (is_special s b))) ⊎ ((r : ℕ) × (s.release ≡ Some r) × (part ≡ r ∷ b ∷ [])))
-          → Goes (in_data s segments tag elements element component n) part
+          → RunsTo (in_data s segments tag elements element component n) part
           (in_data s segments tag elements element (component ++ b ∷ []) (n + length part))
       go (inl plain) =
           let one : length part ≡ 1 = ap length plain.0 in
@@ -231,9 +232,9 @@ module _ (s : Service) (segments : List Segment) (tag : List ℕ) (elements : Li
           goes_as part _ (run_then first second) behind.2
           (ap (λ (k : ℕ). in_data s segments tag elements element (component ++ b ∷ []) k) sum)
 
-  pub component_runs : (element : List (List ℕ)) (component text more : List ℕ) (n : ℕ) → Apart s → SpellsComponent s text more
+  pub component_runs : (element : List (List ℕ)) (component text more : List ℕ) (n : ℕ) → CharactersApart s → SpellsComponent s text more
       → n + length text ≤ segment_limit
-      → Goes (in_data s segments tag elements element component n) text
+      → RunsTo (in_data s segments tag elements element component n) text
       (in_data s segments tag elements element (component ++ more) (n + length text))
   component_runs element component text [] n apart spelled fits =
       let none : length text ≡ 0 = ap length spelled in
@@ -255,9 +256,10 @@ module _ (s : Service) (segments : List Segment) (tag : List ℕ) (elements : Li
       (append_assoc component (b ∷ []) more))
 
   -- closed components
-  pub components_run : (element closed : List (List ℕ)) (text : List ℕ) (n : ℕ) → Apart s
+  pub components_run : (element closed : List (List ℕ)) (text : List ℕ) (n : ℕ) → CharactersApart s
       → Each (Before s.component (SpellsComponent s)) text closed → n + length text ≤ segment_limit
-      → Goes (in_data s segments tag elements element [] n) text (in_data s segments tag elements (element ++ closed) [] (n + length text))
+      → RunsTo (in_data s segments tag elements element [] n) text
+      (in_data s segments tag elements (element ++ closed) [] (n + length text))
   components_run element [] text n apart spelled fits =
       let none : length text ≡ 0 = ap length spelled in
       let sum : n ≡ n + length text = omega (arith, none) in
@@ -286,11 +288,11 @@ module _ (s : Service) (segments : List Segment) (tag : List ℕ) (elements : Li
 -- a place where an element separator or the terminator may come, with the elements that are closed then
 pub record Ready (r : Reading) (s : Service) (segments : List Segment) (tag : List ℕ) (elements : List (List (List ℕ)))
     (n : ℕ) : Type 0 where
-  pub opens : n < segment_limit → Goes r (s.element ∷ []) (in_data s segments tag elements [] [] (n + 1))
+  pub opens : n < segment_limit → RunsTo r (s.element ∷ []) (in_data s segments tag elements [] [] (n + 1))
   pub ends : n < segment_limit
-      → Goes r (s.terminator ∷ []) (outside s (segments ++ record { tag = tag; elements = without_empty_end elements } ∷ []) false)
+      → RunsTo r (s.terminator ∷ []) (outside s (segments ++ record { tag = tag; elements = without_empty_end elements } ∷ []) false)
 
-pub tag_is_ready : (s : Service) (segments : List Segment) (fresh : Bool) (tag : List ℕ) → Apart s → IsTag tag
+pub tag_is_ready : (s : Service) (segments : List Segment) (fresh : Bool) (tag : List ℕ) → CharactersApart s → IsTag tag
     → Ready (in_tag s segments fresh tag) s segments tag [] 3
 tag_is_ready s segments fresh tag apart is =
     let three = tag_length tag is in
@@ -302,7 +304,7 @@ tag_is_ready s segments fresh tag apart is =
 
 data_is_ready : (s : Service) (segments : List Segment) (tag : List ℕ) (elements : List (List (List ℕ)))
     (element : List (List ℕ)) (component : List ℕ) (n : ℕ)
-    → Apart s
+    → CharactersApart s
     → Ready (in_data s segments tag elements element component n) s segments tag
     (elements ++ without_empty_end (element ++ component ∷ []) ∷ []) n
 data_is_ready s segments tag elements element component n apart =
@@ -324,12 +326,12 @@ data_is_ready s segments tag elements element component n apart =
 pub record Reached (r : Reading) (s : Service) (segments : List Segment) (tag : List ℕ) (text : List ℕ)
     (elements : List (List (List ℕ))) (n : ℕ) : Type 0 where
   pub reading : Reading
-  pub goes : Goes r text reading
+  pub goes : RunsTo r text reading
   pub ready : Ready reading s segments tag elements n
 
 element_runs : (s : Service) (segments : List Segment) (tag : List ℕ) (elements : List (List (List ℕ)))
     (components : List (List ℕ)) (text : List ℕ) (n : ℕ)
-    → Apart s
+    → CharactersApart s
     → SpellsElement s text components
     → n + length text ≤ segment_limit
     → Reached (in_data s segments tag elements [] [] n) s segments tag text (elements ++ without_empty_end components ∷ [])
@@ -352,7 +354,7 @@ element_runs s segments tag elements components text n apart e fits =
 pub elements_run :
     (s : Service) (segments : List Segment) (tag : List ℕ) (written elements : List (List (List ℕ))) (text : List ℕ) (n : ℕ)
     (r : Reading)
-    → Apart s → Ready r s segments tag elements n → Each (Behind s.element (SpellsElement s)) text written
+    → CharactersApart s → Ready r s segments tag elements n → Each (Behind s.element (SpellsElement s)) text written
     → n + length text ≤ segment_limit
     → Reached r s segments tag text (elements ++ map without_empty_end written) (n + length text)
 elements_run s segments tag [] elements text n r apart ready spelled fits =
@@ -395,8 +397,9 @@ tag_front (a ∷ b ∷ []) is = absurd is
 tag_front (a ∷ b ∷ c ∷ []) is = is
 tag_front (a ∷ b ∷ c ∷ d ∷ others) is = absurd is
 
-segment_runs : (s : Service) (segments : List Segment) (fresh : Bool) (text : List ℕ) (x : Segment) → Apart s → SpellsSegment s text x
-    → (fresh ≡ true → x.tag ≢ una_tag) → Goes (outside s segments fresh) text (outside s (segments ++ x ∷ []) false)
+segment_runs : (s : Service) (segments : List Segment) (fresh : Bool) (text : List ℕ) (x : Segment) → CharactersApart s
+    → SpellsSegment s text x
+    → (fresh ≡ true → x.tag ≢ una_tag) → RunsTo (outside s segments fresh) text (outside s (segments ++ x ∷ []) false)
 segment_runs s segments fresh text x apart e not_una =
     let three = tag_length x.tag e.tag_is in
     let joined : length text ≡ 3 + length e.body + 1 =
@@ -415,9 +418,9 @@ abbrev still : Bool → List Segment → Bool
 still fresh [] = fresh
 still fresh (x ∷ xs) = false
 
-segments_run : (s : Service) (before segments : List Segment) (fresh : Bool) (text : List ℕ) → Apart s
+segments_run : (s : Service) (before segments : List Segment) (fresh : Bool) (text : List ℕ) → CharactersApart s
     → Each (SpellsNext s) text segments → (fresh ≡ true → IsNoAdvice (tags segments))
-    → Goes (outside s before fresh) text (outside s (before ++ segments) (still fresh segments))
+    → RunsTo (outside s before fresh) text (outside s (before ++ segments) (still fresh segments))
 segments_run s before [] fresh text apart spelled not_una =
     goes_as {xs = []} text _ (record { is = refl }) spelled (ap (λ (x : List Segment). outside s x fresh) (sym (append-nil before)))
 segments_run s before (x ∷ segments) fresh text apart spelled not_una =
@@ -441,27 +444,27 @@ segments_run s before (x ∷ segments) fresh text apart spelled not_una =
 abbrev in_service : List ℕ → Reading
 in_service six = record { service = usual; segments = []; place = InService six }
 
-six_go_on : (six more : List ℕ) → length six + length more ≤ 5 → Goes (in_service six) more (in_service (six ++ more))
+six_go_on : (six more : List ℕ) → length six + length more ≤ 5 → RunsTo (in_service six) more (in_service (six ++ more))
 six_go_on six [] short = goes_as {xs = []} [] _ (record { is = refl }) refl (ap in_service (sym (append-nil six)))
 six_go_on six (b ∷ more) short =
-    let one : Goes (in_service six) (b ∷ []) (in_service (six ++ b ∷ [])) =
+    let one : RunsTo (in_service six) (b ∷ []) (in_service (six ++ b ∷ [])) =
     one_step _ b _ (rw (lt-ltb (length six) 5 (omega arith)) refl) in
     let others = six_go_on (six ++ b ∷ []) more (omega (arith, length-append six (b ∷ []))) in
     goes_as {xs = b ∷ [] ++ more} (b ∷ more) _ (run_then one others) refl (ap in_service (append_assoc six (b ∷ []) more))
 
-una_runs : Goes (outside usual [] true) una_tag (in_service [])
+una_runs : RunsTo (outside usual [] true) una_tag (in_service [])
 una_runs = record { is = refl }
 
-six_end : (six : List ℕ) (s : Service) → service_of six ≡ Some s → Goes (in_service []) six (outside s [] false)
+six_end : (six : List ℕ) (s : Service) → service_of six ≡ Some s → RunsTo (in_service []) six (outside s [] false)
 six_end (c ∷ e ∷ d ∷ r ∷ reserved ∷ t ∷ []) s h =
     let five = six_go_on [] (c ∷ e ∷ d ∷ r ∷ reserved ∷ []) (omega arith) in
-    let last : Goes (in_service (c ∷ e ∷ d ∷ r ∷ reserved ∷ [])) (t ∷ []) (outside s [] false) =
+    let last : RunsTo (in_service (c ∷ e ∷ d ∷ r ∷ reserved ∷ [])) (t ∷ []) (outside s [] false) =
     one_step _ t _ (ap (λ (o : Option Service). adopt (in_service (c ∷ e ∷ d ∷ r ∷ reserved ∷ [])) o) h) in
     run_then five last
 six_end _ s h = absurd cc
 
 advice_runs : (a : Advice) (s : Service) → LineEnds a.before → service_of a.six ≡ Some s
-    → Goes start (a.before ++ (una_tag ++ a.six)) (outside s [] false)
+    → RunsTo start (a.before ++ (una_tag ++ a.six)) (outside s [] false)
 advice_runs a s ends right = run_then (line_ends_run a.before usual [] true ends) (run_then una_runs (six_end a.six s right))
 
 -- ---- whole segments, and valid fronts
@@ -470,13 +473,13 @@ fresh_first : (advice : Option Advice) (segments : List Segment) → Bool
 fresh_first advice segments = is_fresh advice segments
 
 pub whole_runs : (text : List ℕ) (s : Service) (segments : List Segment) (e : SpellsWhole text s segments)
-    → Goes start text (outside s segments (is_fresh e.advice segments))
+    → RunsTo start text (outside s segments (is_fresh e.advice segments))
 whole_runs text s segments e = go e.advice e.text_is e.advises
   where
-    body_from : (fresh : Bool) (front : List ℕ) (advice : Option Advice) → Apart s → Goes start front (outside s [] fresh)
+    body_from : (fresh : Bool) (front : List ℕ) (advice : Option Advice) → CharactersApart s → RunsTo start front (outside s [] fresh)
         → (fresh ≡ true → IsNoAdvice (tags segments)) → still fresh segments ≡ is_fresh advice segments
         → text ≡ (front ++ e.body) ++ e.tail
-        → Goes start text (outside s segments (is_fresh advice segments))
+        → RunsTo start text (outside s segments (is_fresh advice segments))
     body_from fresh front advice apart begins not_una same text_is =
         let bodies = segments_run s [] segments fresh e.body apart e.body_spells not_una in
         let tails = line_ends_run e.tail s segments (still fresh segments) e.tail_is in
@@ -491,9 +494,9 @@ whole_runs text s segments e = go e.advice e.text_is e.advises
     later_still a (x ∷ xs) = refl
 
     go : (advice : Option Advice) → text ≡ (advice_text advice ++ e.body) ++ e.tail → Advises advice s (tags segments)
-        → Goes start text (outside s segments (is_fresh advice segments))
+        → RunsTo start text (outside s segments (is_fresh advice segments))
     go None text_is advises =
-        let begins : Goes start [] (outside s [] true) =
+        let begins : RunsTo start [] (outside s [] true) =
         goes_as {xs = []} [] _ (record { is = refl }) refl (ap (λ (x : Service). outside x [] true) (sym advises.0)) in
         body_from true [] None (advised_apart None s (tags segments) advises) begins (λ _. advises.1) (first_still segments) text_is
     go (Some a) text_is advises =
@@ -507,9 +510,9 @@ opens_no_advice None s [] tag advises fresh = advises.1
 opens_no_advice None s (x ∷ xs) tag advises fresh = absurd (false≢true fresh)
 opens_no_advice (Some a) s segments tag advises fresh = absurd (false≢true fresh)
 
-open_runs : (s : Service) (segments : List Segment) (fresh : Bool) (text : List ℕ) (o : Open) → Apart s
+open_runs : (s : Service) (segments : List Segment) (fresh : Bool) (text : List ℕ) (o : Open) → CharactersApart s
     → (fresh ≡ true → o.tag ≢ una_tag) → SpellsOpen s text o
-    → Goes (outside s segments fresh) text (record { service = s; segments = segments; place = InData o })
+    → RunsTo (outside s segments fresh) text (record { service = s; segments = segments; place = InData o })
 open_runs s segments fresh text o apart not_una e =
     let three = tag_length o.tag e.tag_is in
     let inner : List ℕ = e.front ++ e.back in
@@ -536,7 +539,7 @@ open_runs s segments fresh text o apart not_una e =
     ∙ ap (λ (x : List (List (List ℕ))). in_data s segments o.tag x o.element o.component o.length) (sym e.elements_are))
 
 data_runs : (text : List ℕ) (s : Service) (segments : List Segment) (o : Open) → EndsInData text s segments o
-    → Goes start text (record { service = s; segments = segments; place = InData o })
+    → RunsTo start text (record { service = s; segments = segments; place = InData o })
 data_runs text s segments o e =
     let apart = advised_apart e.whole.advice s (tags segments ++ o.tag ∷ []) e.no_advice in
     let before = whole_runs e.before s segments e.whole in
@@ -545,7 +548,7 @@ data_runs text s segments o e =
     goes_as text _ (run_then before open_part) e.text_is refl
 
 released_runs : (text : List ℕ) (s : Service) (segments : List Segment) (o : Open) → EndsReleased text s segments o
-    → Goes start text (record { service = s; segments = segments; place = Released o })
+    → RunsTo start text (record { service = s; segments = segments; place = Released o })
 released_runs text s segments o e =
     let f = e.front_ends in
     let d = e.data_before in
@@ -558,8 +561,8 @@ released_runs text s segments o e =
     (ap (λ (x : Open). record { service = s; segments = segments; place = Released x }) (sym e.open_is))
 
 -- a valid front of a text is run through, to the place where it ends
-pub front_runs : (text : List ℕ) (s : Service) (segments : List Segment) (place : Place) → EndsAt text s segments place
-    → Goes start text (record { service = s; segments = segments; place = place })
+pub front_runs : (text : List ℕ) (s : Service) (segments : List Segment) (place : BytePlace) → EndsAt text s segments place
+    → RunsTo start text (record { service = s; segments = segments; place = place })
 front_runs text s segments (Outside fresh) e =
     goes_as text _ (whole_runs text s segments e.whole) refl (ap (outside s segments) (sym e.fresh_is))
 front_runs text s segments (InService six) e =

@@ -15,5 +15,5 @@ abbrev pub with_component : Segment → ℕ → List ℕ → Segment
 with_component segment place first = record { tag = segment.tag; elements = elements_with segment.elements place first }
 
 -- the new bytes begin with the old ones
-abbrev pub Keeps : List ℕ → List ℕ → Type 0
-Keeps old new = take (length old) new ≡ old
+abbrev pub KeepsFront : List ℕ → List ℕ → Type 0
+KeepsFront old new = take (length old) new ≡ old

@@ -9,7 +9,7 @@ use Rattle.edi_segments.specs.Characters.{is_data, is_special, is_capital, is_di
 use Rattle.edi_segments.specs.Service.{usual, una_tag, service_of}
 use Rattle.edi_segments.specs.Spelling.{text_limit, segment_limit, Each, Behind, Before, SpellsComponent, SpellsElement}
 use Rattle.edi_segments.specs.Spelling.{SpellsWhole, LineEnds, IsTag, tags, Advice, Advises, without_empty_end}
-use Rattle.edi_segments.specs.Reading.{Open, Place, Outside, InService, InTag, InData, Released, Reading, with_release}
+use Rattle.edi_segments.specs.Reading.{Open, BytePlace, Outside, InService, InTag, InData, Released, Reading, with_release}
 
 -- whether neither a service string nor a segment has come
 abbrev pub is_fresh : Option Advice → List Segment → Bool
@@ -83,18 +83,18 @@ pub record EndsReleased (text : List ℕ) (s : Service) (segments : List Segment
   pub is_short : o.length ≤ segment_limit
 
 -- the text is a prefix of a valid one, and ends at this place
-abbrev pub EndsAt : List ℕ → Service → List Segment → Place → Type 0
+abbrev pub EndsAt : List ℕ → Service → List Segment → BytePlace → Type 0
 EndsAt text s segments (Outside fresh) = EndsOutside text s segments fresh
 EndsAt text s segments (InService six) = EndsInService text s segments six
 EndsAt text s segments (InTag fresh tag) = EndsInTag text s segments fresh tag
 EndsAt text s segments (InData o) = EndsInData text s segments o
 EndsAt text s segments (Released o) = EndsReleased text s segments o
 
-abbrev pub Ends : List ℕ → Reading → Type 0
-Ends text r = EndsAt text r.service r.segments r.place
+abbrev pub EndsIn : List ℕ → Reading → Type 0
+EndsIn text r = EndsAt text r.service r.segments r.place
 
 -- what the next byte shows at a place
-abbrev pub shown_at : Service → Place → ℕ → Option TokenFault
+abbrev pub shown_at : Service → BytePlace → ℕ → Option TokenFault
 shown_at s (Outside fresh) b = if is_line_end b || is_capital b then None else Some Tag
 shown_at s (InService six) b = if length six == 5 && is_none (service_of (six ++ b ∷ [])) then Some ServiceString
     else None
@@ -111,7 +111,7 @@ abbrev pub shown : List ℕ → Reading → ℕ → Option TokenFault
 shown front r b = if length front == text_limit then Some TooLong else shown_at r.service r.place b
 
 -- what the end of the text shows at a place
-abbrev pub shown_by_end : Place → Option TokenFault
+abbrev pub shown_by_end : BytePlace → Option TokenFault
 shown_by_end (Outside fresh) = None
 shown_by_end (InService six) = Some ServiceString
 shown_by_end (InTag fresh tag) = Some Cut
@@ -125,14 +125,14 @@ pub record ByteShows (text : List ℕ) (fault : TokenFault) : Type 0 where
   pub rest : List ℕ
   pub reading : Reading
   pub text_is : text ≡ front ++ byte ∷ rest
-  pub front_ends : Ends front reading
+  pub front_ends : EndsIn front reading
   pub is_first : length front ≤ text_limit
   pub shows : shown front reading byte ≡ Some fault
 
 -- no byte shows a fault, and the end does
 pub record EndShows (text : List ℕ) (fault : TokenFault) : Type 0 where
   pub reading : Reading
-  pub text_ends : Ends text reading
+  pub text_ends : EndsIn text reading
   pub is_short : length text ≤ text_limit
   pub shows : shown_by_end reading.place ≡ Some fault
 

@@ -14,7 +14,7 @@ use Rattle.edi_segments.specs.Reading.{start, run, finish, tokens_of}
 use Rattle.edi_segments.specs.Machine.{lent_of, reading_of, tokens_at}
 
 -- of the bytes of a reader this many are left of a text, or fewer at their end
-pub record Begins (known : Option (List ℕ)) (left : List ℕ) (room : ℕ) : Type 0 where
+pub record HasLeft (known : Option (List ℕ)) (left : List ℕ) (room : ℕ) : Type 0 where
   pub bytes : List ℕ
   pub known_is : known ≡ Some bytes
   pub left_is : left ≡ take room bytes
@@ -22,7 +22,7 @@ pub record Begins (known : Option (List ℕ)) (left : List ℕ) (room : ℕ) : T
 -- how a text continues after the bytes that were read: this many were read, and this many more may be
 abbrev pub GoesOn : Tail → Option (List ℕ) → List ℕ → ℕ → ℕ → Type 0
 GoesOn More known left room count = (known ≡ Some left) × (room + count ≡ text_limit + 1) × (0 < room)
-GoesOn Within known left room count = Begins known left room × (room + count ≤ text_limit) × (0 < room)
+GoesOn Within known left room count = HasLeft known left room × (room + count ≤ text_limit) × (0 < room)
 GoesOn End known left room count = (left ≡ []) × (count ≤ text_limit)
 GoesOn Long known left room count = (0 < length left) × (count ≡ text_limit)
 GoesOn (Failed fault) known left room count = ⊥
@@ -66,7 +66,7 @@ abbrev pub AtEnd : Option (List ℕ) → Lender → Type 0
 AtEnd known l = l.ended ≡ true → IsAtEnd known ⊎ (l.room ≡ 0)
 
 -- nothing is read yet, and this many bytes may be read
-pub record IsBegun (l : Lender) (room : ℕ) : Type 0 where
+pub record HasReadNothing (l : Lender) (room : ℕ) : Type 0 where
   pub room_is : room_of l ≡ room
   pub going : stopped l ≡ None
   pub ends : (known : Option (List ℕ)) → AtEnd known l
@@ -84,10 +84,10 @@ abbrev pub decimal_of : Lender → ℕ
 decimal_of l = l.machine.service.decimal
 
 -- what a call says about a text: one more segment, its end, or its fault
-abbrev pub Told : Option (List ℕ) → List ℕ → List Segment → Result (Option Segment) TokenFault → Lender → Type 0
-Told known all lent (Ok (Some segment)) l = Fed known all (lent ++ segment ∷ []) l
-Told known all lent (Ok None) l = Fed known all lent l × (tokens_of all ≡ Ok (tokens_at lent l.machine))
-Told known all lent (Err fault) l = fault ≢ Read → tokens_of all ≡ Err fault
+abbrev pub TellsNext : Option (List ℕ) → List ℕ → List Segment → Result (Option Segment) TokenFault → Lender → Type 0
+TellsNext known all lent (Ok (Some segment)) l = Fed known all (lent ++ segment ∷ []) l
+TellsNext known all lent (Ok None) l = Fed known all lent l × (tokens_of all ≡ Ok (tokens_at lent l.machine))
+TellsNext known all lent (Err fault) l = fault ≢ Read → tokens_of all ≡ Err fault
 
 -- what was read is taken: to the end of a segment, to its last byte, or to a fault
 abbrev pub Took : Option (List ℕ) → List ℕ → List Segment → Result Bool TokenFault → Lender → Type 0
@@ -96,10 +96,10 @@ Took known all lent (Ok false) l = Fed known all lent l
 Took known all lent (Err fault) l = tokens_of all ≡ Err fault
 
 -- bytes were read, or the text ends there, or a fault shows
-abbrev pub Filled : Option (List ℕ) → List ℕ → List Segment → Result Bool TokenFault → Lender → Type 0
-Filled known all lent (Ok true) l = Fed known all lent l
-Filled known all lent (Ok false) l = Fed known all lent l × (tokens_of all ≡ finish (reading_of lent l.machine))
-Filled known all lent (Err fault) l = fault ≢ Read → tokens_of all ≡ Err fault
+abbrev pub TellsRefill : Option (List ℕ) → List ℕ → List Segment → Result Bool TokenFault → Lender → Type 0
+TellsRefill known all lent (Ok true) l = Fed known all lent l
+TellsRefill known all lent (Ok false) l = Fed known all lent l × (tokens_of all ≡ finish (reading_of lent l.machine))
+TellsRefill known all lent (Err fault) l = fault ≢ Read → tokens_of all ≡ Err fault
 
 -- Some bytes have come, whatever is known of the reader: of some text, of which these segments were lent.
 pub record Came (lent : List Segment) (l : Lender) : Type 0 where
@@ -154,17 +154,17 @@ HasCause Read old new = new ≡ true
 HasCause Memory old new = ⊥
 
 -- a fault has a cause, and else the reader's flag stays
-abbrev pub Flags : {X : Type 0} → Result X TokenFault → Bool → Bool → Type 0
-Flags (Ok x) old new = new ≡ old
-Flags (Err fault) old new = HasCause fault old new
+abbrev pub FaultHasCause : {X : Type 0} → Result X TokenFault → Bool → Bool → Type 0
+FaultHasCause (Ok x) old new = new ≡ old
+FaultHasCause (Err fault) old new = HasCause fault old new
 
 -- What a call returns, for the bytes that are known of its reader before and after it, and for the reader's flag:
 -- before a fault was reported, and after. If no bytes are known, they are those of some text.
 pub record Feeds (before after : Option (List ℕ)) (was failed : Bool) (old : Lender)
     (result : Result (Option Segment) TokenFault) (new : Lender) : Type 0 where
-  pub told : (all : List ℕ) (lent : List Segment) → Fed before all lent old → Told after all lent result new
+  pub told : (all : List ℕ) (lent : List Segment) → Fed before all lent old → TellsNext after all lent result new
   pub some : (lent : List Segment) → Came lent old → TellsSome lent result new
-  pub flag : stopped old ≡ None → Flags result was failed
+  pub flag : stopped old ≡ None → FaultHasCause result was failed
   pub bound : TakesOf before after (room_of old) (room_of new)
   pub ends : AtEnd before old → AtEnd after new
   pub goes_on : OnOk result (stopped new ≡ None)

@@ -9,9 +9,9 @@ pub record FillsWith (old new : Option (List ℕ)) (piece : List ℕ) (room coun
   pub within : count ≤ room
   pub ends : count ≡ 0 → 0 < room → IsAtEnd new
 
-abbrev pub Fills : {E : Type 0} → Option (List ℕ) → Option (List ℕ) → Result ℕ E → List ℕ → ℕ → Type 0
-Fills old new (Ok count) piece room = FillsWith old new piece room count
-Fills old new (Err e) piece room = Keeps old new × (piece ≡ [])
+abbrev pub FillsPiece : {E : Type 0} → Option (List ℕ) → Option (List ℕ) → Result ℕ E → List ℕ → ℕ → Type 0
+FillsPiece old new (Ok count) piece room = FillsWith old new piece room count
+FillsPiece old new (Err e) piece room = Keeps old new × (piece ≡ [])
 
 -- the piece is the front of a buffer
 pub record ReadsFront (old new : Option (List ℕ)) (buffer : List ℕ) (room count : ℕ) : Type 0 where
@@ -20,6 +20,6 @@ pub record ReadsFront (old new : Option (List ℕ)) (buffer : List ℕ) (room co
   pub within : count ≤ room
   pub ends : count ≡ 0 → 0 < room → 0 < length buffer → IsAtEnd new
 
-abbrev pub Reads : {E : Type 0} → Option (List ℕ) → Option (List ℕ) → Result ℕ E → List ℕ → ℕ → Type 0
-Reads old new (Ok count) buffer room = ReadsFront old new buffer room count
-Reads old new (Err e) buffer room = Keeps old new
+abbrev pub ReadsPiece : {E : Type 0} → Option (List ℕ) → Option (List ℕ) → Result ℕ E → List ℕ → ℕ → Type 0
+ReadsPiece old new (Ok count) buffer room = ReadsFront old new buffer room count
+ReadsPiece old new (Err e) buffer room = Keeps old new

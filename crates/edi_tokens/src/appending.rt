@@ -5,7 +5,7 @@ ghost use Rattle.edi_segments.specs.Service.{usual_terminator};
 ghost use Rattle.edi_segments.specs.Segment.{element_at};
 ghost use Rattle.edi_segments.specs.SegmentRef.{segment_in};
 ghost use Rattle.edi_tokens.specs.Text.{component_text, element_text, others_text, segment_text};
-ghost use Rattle.edi_tokens.specs.Appending.{Keeps, with_first, with_component};
+ghost use Rattle.edi_tokens.specs.Appending.{KeepsFront, with_first, with_component};
 
 use crate::text::plain_len;
 use edi_base::MemoryFault;
@@ -13,7 +13,7 @@ use edi_segments::{COMPONENT, ELEMENT, RELEASE, SegmentRef, TERMINATOR};
 
 fn append_component(out: &mut Vec<u8>, component: &[u8]) -> Result<(), MemoryFault>
     ensures ok { OnOk result (out.new.items ≡ out.old.items ++ component_text component.now) }
-    ensures kept { Keeps out.old.items out.new.items }
+    ensures kept { KeepsFront out.old.items out.new.items }
 {
     let mut rest = component;
     loop {
@@ -37,7 +37,7 @@ fn append_others(
 ) -> Result<(), MemoryFault>
     ensures ok { OnOk result (out.new.items ≡ out.old.items
         ++ others_text (element_at (segment_in segment.now).elements element)) }
-    ensures kept { Keeps out.old.items out.new.items }
+    ensures kept { KeepsFront out.old.items out.new.items }
 {
     for place in 1..segment.components(element) {
         out.push(COMPONENT)?;
@@ -54,7 +54,7 @@ fn append_element(
 ) -> Result<(), MemoryFault>
     ensures ok { OnOk result (out.new.items ≡ out.old.items
         ++ element_text (element_at (segment_in segment.now).elements element)) }
-    ensures kept { Keeps out.old.items out.new.items }
+    ensures kept { KeepsFront out.old.items out.new.items }
 {
     out.push(ELEMENT)?;
     append_component(out, segment.component(element, 0))?;
@@ -71,7 +71,7 @@ fn append_element_with(
 ) -> Result<(), MemoryFault>
     ensures ok { OnOk result (out.new.items ≡ out.old.items
         ++ element_text (with_first (element_at (segment_in segment.now).elements element) first.now)) }
-    ensures kept { Keeps out.old.items out.new.items }
+    ensures kept { KeepsFront out.old.items out.new.items }
 {
     out.push(ELEMENT)?;
     if segment.components(element) == 0 {
@@ -85,7 +85,7 @@ fn append_element_with(
 #[tactic(auto, using(crate::proofs::Kept::keeps))]
 fn append_parts(out: &mut Vec<u8>, segment: &SegmentRef<'_>) -> Result<(), MemoryFault>
     ensures ok { OnOk result (out.new.items ≡ out.old.items ++ segment_text (segment_in segment.now)) }
-    ensures kept { Keeps out.old.items out.new.items }
+    ensures kept { KeepsFront out.old.items out.new.items }
 {
     out.extend_from_slice(&segment.tag())?;
     for element in 0..segment.elements() {
@@ -106,7 +106,7 @@ fn append_parts_with(
 ) -> Result<(), MemoryFault>
     ensures ok { OnOk result (out.new.items ≡ out.old.items
         ++ segment_text (with_component (segment_in segment.now) place first.now)) }
-    ensures kept { Keeps out.old.items out.new.items }
+    ensures kept { KeepsFront out.old.items out.new.items }
 {
     out.extend_from_slice(&segment.tag())?;
     for element in 0..segment.elements() {
@@ -124,7 +124,7 @@ fn append_parts_with(
 #[tactic(auto, using(crate::proofs::Kept::keeps))]
 fn append_front(out: &mut Vec<u8>, front: &[u8]) -> Result<(), MemoryFault>
     ensures ok { OnOk result (out.new.items ≡ out.old.items ++ (front.now ++ usual_terminator ∷ [])) }
-    ensures kept { Keeps out.old.items out.new.items }
+    ensures kept { KeepsFront out.old.items out.new.items }
 {
     out.extend_from_slice(front)?;
     out.push(TERMINATOR)?;
@@ -134,7 +134,7 @@ fn append_front(out: &mut Vec<u8>, front: &[u8]) -> Result<(), MemoryFault>
 /// Appends the canonical text of a segment, at once if it is kept. If memory runs out, a part of it may be left there.
 fn append_whole(out: &mut Vec<u8>, segment: &SegmentRef<'_>) -> Result<(), MemoryFault>
     ensures ok { OnOk result (out.new.items ≡ out.old.items ++ segment_text (segment_in segment.now)) }
-    ensures kept { Keeps out.old.items out.new.items }
+    ensures kept { KeepsFront out.old.items out.new.items }
 {
     match segment.text() {
         Some(front) => append_front(out, front),

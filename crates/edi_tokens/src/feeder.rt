@@ -2,7 +2,7 @@
 
 ghost use Rattle.std.specs.Prelude.{◌≡◌, ◌+◌, ℕ, List, [], IfOk, IfErr, Some};
 ghost use Rattle.edi_segments.specs.Spelling.{text_limit};
-ghost use Rattle.edi_tokens.specs.Lender.{Fed, IsBegun, answered, decimal_of, known_service, lent_by};
+ghost use Rattle.edi_tokens.specs.Lender.{Fed, HasReadNothing, answered, decimal_of, known_service, lent_by};
 
 use crate::lender::Lender;
 use edi_base::Source;
@@ -20,7 +20,7 @@ pub struct Feeder<R> {
 
 /// Out of memory: the reader, as it was.
 #[derive(Debug, Drop)]
-pub struct Refused<R> {
+pub struct RefusedReader<R> {
     pub reader: R,
 }
 
@@ -33,16 +33,16 @@ impl<R: Source> Feeder<R> {
     ghost use Rattle.edi_segments.specs.SegmentRef.{segment_in, segment_told};
 
     /// Nothing is read yet. If memory is refused, the reader is given back.
-    pub fn new(alloc: Global, reader: R) -> Result<Self, Refused<R>>
+    pub fn new(alloc: Global, reader: R) -> Result<Self, RefusedReader<R>>
         ensures fed { IfOk result (λ feeder. (known : List ℕ) → R.remaining reader ≡ Some known →
             Fed (R.remaining feeder.reader) known [] feeder.lender) }
         ensures kept { IfOk result (λ feeder. feeder.reader ≡ reader) }
-        ensures begun { IfOk result (λ feeder. IsBegun feeder.lender (text_limit + 1)) }
+        ensures begun { IfOk result (λ feeder. HasReadNothing feeder.lender (text_limit + 1)) }
         ensures refused { IfErr result (λ refused. refused.reader ≡ reader) }
     {
         match Lender::new(alloc) {
             Ok(lender) => Ok(Feeder { reader, lender }),
-            Err(_) => Err(Refused { reader }),
+            Err(_) => Err(RefusedReader { reader }),
         }
     }
 

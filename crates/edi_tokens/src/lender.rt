@@ -6,9 +6,9 @@ ghost use Rattle.std.specs.Io.KnownBytes.{IsAtEnd};
 ghost use Rattle.edi_segments.specs.declared.segment.Segment.{Segment};
 ghost use Rattle.edi_segments.specs.Spelling.{text_limit};
 ghost use Rattle.edi_segments.specs.SegmentRef.{segment_in};
-ghost use Rattle.edi_tokens.specs.Lender.{AtEnd, Came, Fed, Feeds, Filled, FillsSome, FitsSome, Flags, IsBegun, IsOfText};
+ghost use Rattle.edi_tokens.specs.Lender.{AtEnd, Came, Fed, Feeds, TellsRefill, FillsSome, FitsSome, FaultHasCause, HasReadNothing, IsOfText};
 ghost use Rattle.edi_tokens.specs.Lender.{MayRead, ReadsAway};
-ghost use Rattle.edi_tokens.specs.Lender.{TakesOf, TellsSome, Told, Took};
+ghost use Rattle.edi_tokens.specs.Lender.{TakesOf, TellsSome, TellsNext, Took};
 ghost use Rattle.edi_tokens.specs.Lender.{answered, decimal_of, known_service, lent_by, stopped, unread};
 
 use crate::piece::{Piece, ReadFailed};
@@ -75,7 +75,7 @@ impl Lender {
     /// Of a text that is all of a reader. Nothing is read yet.
     pub fn new(alloc: Global) -> Result<Self, MemoryFault>
         ensures fed { IfOk result (λ lender. (known : List ℕ) → Fed (Some known) known [] lender) }
-        ensures begun { IfOk result (λ lender. IsBegun lender (text_limit + 1)) }
+        ensures begun { IfOk result (λ lender. HasReadNothing lender (text_limit + 1)) }
     {
         Ok(Lender {
             machine: Machine::new(alloc)?,
@@ -92,7 +92,7 @@ impl Lender {
         requires { size ≤ text_limit }
         ensures fed { IfOk result (λ lender.
             (left : List ℕ) → Fed (Some left) (take size (front.now ++ left)) [] lender) }
-        ensures begun { IfOk result (λ lender. IsBegun lender (size - length front.now)) }
+        ensures begun { IfOk result (λ lender. HasReadNothing lender (size - length front.now)) }
     {
         let front = &front[..size.min(front.len())];
         let room = size - front.len();
@@ -128,9 +128,9 @@ impl Lender {
         requires tail { MayRead self.old.tail }
         requires piece { self.old.piece ≡ [] }
         ensures told { (all : List ℕ) (lent : List Segment) → Fed (R.remaining reader.old) all lent self.old →
-            Filled (R.remaining reader.new) all lent result self.new }
+            TellsRefill (R.remaining reader.new) all lent result self.new }
         ensures some { (lent : List Segment) → Came lent self.old → FillsSome lent result self.new }
-        ensures flag { Flags result (R.failed reader.old) (R.failed reader.new) }
+        ensures flag { FaultHasCause result (R.failed reader.old) (R.failed reader.new) }
         ensures origin { R.origin reader.new ≡ R.origin reader.old }
         ensures bound { TakesOf
             (R.remaining reader.old) (R.remaining reader.new) self.old.room self.new.room }
@@ -167,9 +167,9 @@ impl Lender {
         requires piece { self.old.piece ≡ [] }
         requires going { stopped self.old ≡ None }
         ensures told { (all : List ℕ) (lent : List Segment) → Fed (R.remaining reader.old) all lent self.old →
-            Filled (R.remaining reader.new) all lent result self.new }
+            TellsRefill (R.remaining reader.new) all lent result self.new }
         ensures some { (lent : List Segment) → Came lent self.old → FillsSome lent result self.new }
-        ensures flag { Flags result (R.failed reader.old) (R.failed reader.new) }
+        ensures flag { FaultHasCause result (R.failed reader.old) (R.failed reader.new) }
         ensures origin { R.origin reader.new ≡ R.origin reader.old }
         ensures bound { TakesOf
             (R.remaining reader.old) (R.remaining reader.new) self.old.room self.new.room }
@@ -190,11 +190,11 @@ impl Lender {
     fn step<R: Source>(&mut self, reader: &mut R) -> Result<bool, TokenFault>
         requires going { stopped self.old ≡ None }
         ensures told { (all : List ℕ) (lent : List Segment) → Fed (R.remaining reader.old) all lent self.old →
-            Told (R.remaining reader.new) all lent (answered result self.new) self.new }
+            TellsNext (R.remaining reader.new) all lent (answered result self.new) self.new }
         ensures some { (lent : List Segment) → Came lent self.old →
             TellsSome lent (answered result self.new) self.new }
         ensures fewer { result ≡ Ok true → unread self.new < unread self.old }
-        ensures flag { Flags result (R.failed reader.old) (R.failed reader.new) }
+        ensures flag { FaultHasCause result (R.failed reader.old) (R.failed reader.new) }
         ensures origin { R.origin reader.new ≡ R.origin reader.old }
         ensures bound { TakesOf
             (R.remaining reader.old) (R.remaining reader.new) self.old.room self.new.room }

@@ -1,7 +1,7 @@
 //! Keeps the bytes that were read last, and how far they are taken.
 
 ghost use Rattle.std.specs.Prelude.{◌≡◌, ◌≤◌, ◌<◌, ◌||◌, ◌-◌, ℕ, List, [], length, take, drop, IfOk, is_err, vec_len};
-ghost use Rattle.edi_tokens.specs.Piece.{Fills, Reads};
+ghost use Rattle.edi_tokens.specs.Piece.{FillsPiece, ReadsPiece};
 
 use edi_base::{MemoryFault, Source};
 use std::alloc::Global;
@@ -24,7 +24,7 @@ pub struct ReadFailed;
 
 /// Reads once into the front, and at most this many bytes.
 fn read_front<R: Source>(reader: &mut R, bytes: &mut [u8], room: usize) -> Result<usize, ReadFailed>
-    ensures bytes { Reads (R.remaining reader.old) (R.remaining reader.new) result bytes.new room }
+    ensures bytes { ReadsPiece (R.remaining reader.old) (R.remaining reader.new) result bytes.new room }
     ensures flag { R.failed reader.new ≡ (R.failed reader.old || is_err result) }
     ensures origin { R.origin reader.new ≡ R.origin reader.old }
 {
@@ -106,7 +106,7 @@ impl Piece {
         reader: &mut R,
         room: usize,
     ) -> Result<usize, ReadFailed>
-        ensures bytes { Fills (R.remaining reader.old) (R.remaining reader.new) result self.new room }
+        ensures bytes { FillsPiece (R.remaining reader.old) (R.remaining reader.new) result self.new room }
         ensures flag { R.failed reader.new ≡ (R.failed reader.old || is_err result) }
         ensures origin { R.origin reader.new ≡ R.origin reader.old }
     {

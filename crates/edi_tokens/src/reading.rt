@@ -5,7 +5,7 @@ ghost use Rattle.edi_segments.specs.declared.segment.Service.{Service};
 ghost use Rattle.edi_segments.specs.declared.segment.Segment.{Segment};
 ghost use Rattle.edi_segments.specs.Spelling.{Spells};
 ghost use Rattle.edi_tokens.specs.Fault.{Shows};
-ghost use Rattle.edi_segments.specs.Reading.{Answers, run, tokens_of};
+ghost use Rattle.edi_segments.specs.Reading.{GivesValue, run, tokens_of};
 ghost use Rattle.edi_segments.specs.Machine.{reading_of};
 
 use edi_base::Items;
@@ -22,7 +22,7 @@ fn push_segments(
     bytes: &[u8],
     segments: &mut Vec<Segment>,
 ) -> Result<(), TokenFault>
-    ensures { Answers (λ _. reading_of segments.new.items machine.new) result
+    ensures { GivesValue (λ _. reading_of segments.new.items machine.new) result
         (run (reading_of segments.old.items machine.old) bytes.now) }
 {
     let mut rest = bytes;
@@ -37,7 +37,7 @@ fn push_segments(
 }
 
 fn read(alloc: Global, text: &[u8]) -> Result<Tokens, TokenFault>
-    ensures { Answers (λ tokens. tokens) result (tokens_of text.now) }
+    ensures { GivesValue (λ tokens. tokens) result (tokens_of text.now) }
 {
     let mut machine = Machine::new(alloc)?;
     let mut segments = Vec::new(alloc);
@@ -60,11 +60,11 @@ pub fn read_all(alloc: Global, text: &[u8]) -> Result<Tokens, TokenFault>
     ensures spelled { IfOk result (λ tokens. Spells text.now tokens.service tokens.segments) }
     // What the text spells is read, unless memory runs out.
     ensures only { (service : Service) (segments : List Segment) → Spells text.now service segments →
-        Answers (λ tokens. tokens) result (Ok (record { service = service; segments = segments })) }
+        GivesValue (λ tokens. tokens) result (Ok (record { service = service; segments = segments })) }
     // A fault is the one that the text shows, unless memory ran out.
     ensures shown { IfErr result (λ fault. fault ≢ TokenFault.Memory → Shows text.now fault) }
     // In the words of the definitions of the layers above.
-    ensures exact { Answers (λ tokens. tokens) result (tokens_of text.now) }
+    ensures exact { GivesValue (λ tokens. tokens) result (tokens_of text.now) }
 {
     read(alloc, text)
 }

@@ -3,7 +3,7 @@ ghost use Rattle.hub_tables.specs.Register.{HoldsRegister};
 ghost use Rattle.hub_sql.specs.Stored.{content, honest};
 
 use crate::fault::BeginFault;
-use crate::keys::Asked;
+use crate::keys::KeyRequest;
 use crate::serve::serve_over;
 use crate::tasks::obey;
 use crate::tell;
@@ -21,7 +21,7 @@ use sqlite_store::FileStore;
 #[derive(Drop)]
 pub(crate) enum Work<'a> {
     /// One command.
-    Command(Asked<'a>),
+    Command(KeyRequest<'a>),
     /// Serve it over the network.
     Serve(ServeWords<'a>),
 }

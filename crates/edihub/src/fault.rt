@@ -1,6 +1,6 @@
 //! Says why founding a hub failed, or why a command over one did not begin or end.
 use edi_base::ReadFault;
-use hub_commands::TextFault;
+use hub_commands::RegisterTextFault;
 use hub_store::{LastingFault, StoreFault};
 use std::alloc::AllocError;
 use std::error::Error;
@@ -49,11 +49,11 @@ impl fmt::Display for BeginFault {
 
 impl Error for BeginFault {}
 
-impl From<TextFault> for BeginFault {
-    fn from(fault: TextFault) -> BeginFault {
+impl From<RegisterTextFault> for BeginFault {
+    fn from(fault: RegisterTextFault) -> BeginFault {
         match fault {
-            TextFault::File => BeginFault::File,
-            TextFault::Memory => BeginFault::Memory,
+            RegisterTextFault::File => BeginFault::File,
+            RegisterTextFault::Memory => BeginFault::Memory,
         }
     }
 }

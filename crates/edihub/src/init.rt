@@ -5,7 +5,7 @@ use crate::tell;
 use edi_base::OfWrite;
 use edi_base::exit::FAILED;
 use hub_app::InitWords;
-use hub_commands::{Verdict, print_verdict};
+use hub_commands::{CheckReport, print_verdict};
 use hub_register::{Register, RegisterFault};
 use hub_sql::{FoundFault, SqliteStore};
 use sqlite_disk::{Start, Unknown};
@@ -43,22 +43,26 @@ fn found_file<S: Start>(
 
 // Founds a hub with a register, and returns what to report. Memory for the report of a success is taken before, so that
 // nothing fails once the register is in the file.
-fn founded(rt: &HostRuntime, path: &str, register: &Register) -> Result<Verdict, BeginFault> {
-    let verdict = Verdict::ok(rt.alloc(), register)?;
+fn found_and_report(
+    rt: &HostRuntime,
+    path: &str,
+    register: &Register,
+) -> Result<CheckReport, BeginFault> {
+    let verdict = CheckReport::ok(rt.alloc(), register)?;
     match found_file(rt, path, register, Unknown) {
         Ok(()) => Ok(verdict),
-        Err(FoundFault::Rows) => Ok(Verdict::of_rows(rt.alloc())?),
+        Err(FoundFault::Rows) => Ok(CheckReport::of_rows(rt.alloc())?),
         Err(FoundFault::Store(fault)) => Err(BeginFault::Store(fault)),
     }
 }
 
 // Does what the words ask, and returns what to report.
-fn verdict_on(rt: &HostRuntime, words: &InitWords<'_>) -> Result<Verdict, BeginFault> {
+fn verdict_on(rt: &HostRuntime, words: &InitWords<'_>) -> Result<CheckReport, BeginFault> {
     let text = register_text(rt, words.register)?;
     match Register::from_toml(rt.alloc(), text.as_str()) {
-        Ok(register) => founded(rt, words.db, &register),
+        Ok(register) => found_and_report(rt, words.db, &register),
         Err(RegisterFault::Memory) => Err(BeginFault::Memory),
-        Err(fault) => Ok(Verdict::of_fault(rt.alloc(), fault)?),
+        Err(fault) => Ok(CheckReport::of_fault(rt.alloc(), fault)?),
     }
 }
 

@@ -18,7 +18,7 @@ pub(crate) enum Task<'a> {
 
 /// What a command asks of a hub.
 #[derive(Drop)]
-pub(crate) struct Asked<'a> {
+pub(crate) struct KeyRequest<'a> {
     /// The path of the database's file.
     pub(crate) db: &'a str,
     /// The caller.
@@ -67,7 +67,10 @@ fn task_of<'a>(rt: &HostRuntime, task: HubTask<'a>) -> Result<Task<'a>, KeyFault
 }
 
 /// Returns what the words of a command ask, with the keys that are in files. The caller's key is read first.
-pub(crate) fn with_keys<'a>(rt: &HostRuntime, words: HubWords<'a>) -> Result<Asked<'a>, KeyFault> {
+pub(crate) fn with_keys<'a>(
+    rt: &HostRuntime,
+    words: HubWords<'a>,
+) -> Result<KeyRequest<'a>, KeyFault> {
     let HubWords {
         db,
         caller,
@@ -75,7 +78,7 @@ pub(crate) fn with_keys<'a>(rt: &HostRuntime, words: HubWords<'a>) -> Result<Ask
         moment,
         task,
     } = words;
-    Ok(Asked {
+    Ok(KeyRequest {
         db,
         caller,
         key: key_of(rt, key)?,

@@ -1,6 +1,6 @@
 //! Does what a command asks of a hub.
 use crate::fault::BeginFault;
-use crate::keys::{Asked, Task};
+use crate::keys::{KeyRequest, Task};
 use edi_base::OfWrite;
 use edi_envelope::Moment;
 use gs1_ids::Gln;
@@ -15,7 +15,7 @@ pub(crate) fn now(rt: &HostRuntime) -> Result<Moment, BeginFault> {
 
 // Returns the exit status, if everything was written.
 pub(crate) fn written<W>(out: &OfWrite<W>, status: u8) -> Result<u8, BeginFault> {
-    if out.failed() {
+    if out.has_failed() {
         return Err(BeginFault::File);
     }
     Ok(status)
@@ -55,9 +55,9 @@ fn ask<S: Store>(
 pub(crate) fn obey<S: Store>(
     rt: &HostRuntime,
     hub: &mut Hub<S>,
-    asked: Asked<'_>,
+    asked: KeyRequest<'_>,
 ) -> Result<u8, BeginFault> {
-    let Asked {
+    let KeyRequest {
         db: _,
         caller,
         key,

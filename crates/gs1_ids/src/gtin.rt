@@ -37,7 +37,7 @@ fn in_fourteen(text: &[u8]) -> [u8; 14]
 }
 
 // Returns the digits of `text` in a field of fourteen, if it is a key of `N` digits.
-fn filled<const N: usize>(text: &[u8]) -> Option<[u8; 14]>
+fn filled_key<const N: usize>(text: &[u8]) -> Option<[u8; 14]>
     requires least { 1 < N }
     requires most { N ≤ 14 }
     ensures { SomeIff result (IsKey N text.now) (in_fourteen text.now) }
@@ -52,10 +52,10 @@ fn filled_gtin(text: &[u8]) -> Option<[u8; 14]>
     ensures { SomeIff result (IsGtin text.now) (in_fourteen text.now) }
 {
     match text.len() {
-        8 => filled::<8>(text),
-        12 => filled::<12>(text),
-        13 => filled::<13>(text),
-        14 => filled::<14>(text),
+        8 => filled_key::<8>(text),
+        12 => filled_key::<12>(text),
+        13 => filled_key::<13>(text),
+        14 => filled_key::<14>(text),
         _ => None,
     }
 }

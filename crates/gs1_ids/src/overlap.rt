@@ -10,7 +10,7 @@ ghost use Rattle.gs1_ids.specs.Prefix.{overlap};
 use crate::prefix::Prefix;
 
 // Returns the place of the first of `others` that `prefix` overlaps.
-fn overlapped(prefix: &Prefix, others: &[Prefix]) -> Option<usize>
+fn find_overlap(prefix: &Prefix, others: &[Prefix]) -> Option<usize>
     ensures { result ≡ position (overlap prefix.now) others.now }
 {
     others.iter().position(|other| prefix.overlaps(other))
@@ -25,7 +25,7 @@ pub fn first_overlap(prefixes: &[Prefix]) -> Option<(usize, usize)>
     ensures free { IsNone result ↔ PrefixFree (map (λ prefix. prefix ∷ []) prefixes.now) }
 {
     for (first, prefix) in prefixes.iter().enumerate() {
-        if let Some(offset) = overlapped(prefix, &prefixes[first + 1..]) {
+        if let Some(offset) = find_overlap(prefix, &prefixes[first + 1..]) {
             return Some((first, first + 1 + offset));
         }
     }

@@ -4,12 +4,13 @@ use Rattle.std.proofs.Common.{◌+◌, ◌<◌, suc, arith, drop-cons, sym, ap, 
 use Rattle.std.proofs.lemmas.List.{append-nil}
 use Rattle.std.specs.List.{flat_map}
 use Rattle.std.specs.Io.KnownBytes.{Appends}
-use Rattle.edi_base.specs.Buffer.{Goes, Puts}
+use Rattle.edi_base.specs.Buffer.{WritesSome, Puts}
 use Rattle.edi_base.proofs.Going.{goes_put, goes_cut, goes_as}
 use Rattle.http_messages.specs.Response.{Writes}
 
 -- more lies ahead
-ahead : {a b : Option (List ℕ)} {waiting left x : List ℕ} (y : List ℕ) → Goes a b waiting left [] x → Goes a b waiting left y (x ++ y)
+ahead : {a b : Option (List ℕ)} {waiting left x : List ℕ} (y : List ℕ) → WritesSome a b waiting left [] x
+    → WritesSome a b waiting left y (x ++ y)
 ahead {a} {b} {waiting} {left} {x} y so_far = record {
   front = so_far.front;
   appends = so_far.appends;
@@ -24,19 +25,21 @@ puts_as {E} {x} {y} r a c waiting later same put = let P : List ℕ → Type 0 =
 
 -- a part was put, and then another
 pub puts_then : {E : Type 0} {a b : Option (List ℕ)} {waiting left x : List ℕ} (y : List ℕ) (r : Result (Unit {0}) E)
-    (c : Option (List ℕ)) (later : List ℕ) → Goes a b waiting left [] x → Puts r b c left later y → Puts r a c waiting later (x ++ y)
+    (c : Option (List ℕ)) (later : List ℕ) → WritesSome a b waiting left [] x → Puts r b c left later y → Puts r a c waiting later (x ++ y)
 puts_then {E} {a} {b} {waiting} {left} {x} y (Ok done) c later so_far put = goes_put
     (goes_as y (y ++ []) (sym (append-nil y)) (ahead y so_far)) put
 puts_then {E} {a} {b} {waiting} {left} {x} y (Err e) c later so_far cut = goes_cut []
     (goes_as y (y ++ []) (sym (append-nil y)) (ahead y so_far)) cut
 
-pub goes_then : {a b c : Option (List ℕ)} {waiting left later x y : List ℕ} → Goes a b waiting left [] x → Goes b c left later [] y
-    → Goes a c waiting later [] (x ++ y)
+pub goes_then : {a b c : Option (List ℕ)} {waiting left later x y : List ℕ} → WritesSome a b waiting left [] x
+    → WritesSome b c left later [] y
+    → WritesSome a c waiting later [] (x ++ y)
 goes_then {a} {b} {c} {waiting} {left} {later} {x} {y} so_far put = goes_put (goes_as y (y ++ []) (sym (append-nil y)) (ahead y so_far)) put
 
 -- a front of a part was put, and no more
-pub stops : {a b : Option (List ℕ)} {waiting x : List ℕ} (y : List ℕ) → ((rest : List ℕ) × Goes a b waiting [] rest x) → (rest : List ℕ)
-    × Goes a b waiting [] rest (x ++ y)
+pub stops : {a b : Option (List ℕ)} {waiting x : List ℕ} (y : List ℕ) → ((rest : List ℕ) × WritesSome a b waiting [] rest x)
+    → (rest : List ℕ)
+    × WritesSome a b waiting [] rest (x ++ y)
 stops {a} {b} {waiting} {x} y cut = (
   cut.0 ++ y,
   record {
@@ -47,8 +50,8 @@ stops {a} {b} {waiting} {x} y cut = (
 )
 
 -- a part was put, and then a front of another
-pub then_stops : {a b c : Option (List ℕ)} {waiting left x y : List ℕ} → Goes a b waiting left [] x →
-    ((rest : List ℕ) × Goes b c left [] rest y) → (rest : List ℕ) × Goes a c waiting [] rest (x ++ y)
+pub then_stops : {a b c : Option (List ℕ)} {waiting left x y : List ℕ} → WritesSome a b waiting left [] x →
+    ((rest : List ℕ) × WritesSome b c left [] rest y) → (rest : List ℕ) × WritesSome a c waiting [] rest (x ++ y)
 then_stops {a} {b} {c} {waiting} {left} {x} {y} so_far cut = goes_cut [] (goes_as y (y ++ []) (sym (append-nil y)) (ahead y so_far)) cut
 
 -- all was flushed

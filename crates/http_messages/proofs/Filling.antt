@@ -11,19 +11,19 @@ use Rattle.edi_base.proofs.Taken.{takes_more}
 use Rattle.http_messages.specs.Body.{body_in, Fills}
 
 -- bytes of a source stand behind those before
-pub record Follows (old new : Option (List ℕ)) (before after : List ℕ) : Type 0 where
+pub record FollowsBefore (old new : Option (List ℕ)) (before after : List ℕ) : Type 0 where
   pub more : List ℕ
   pub consumed : Consumes old new more
   pub after_is : after ≡ before ++ more
 
 -- nothing was read
-pub follows_none : (a : Option (List ℕ)) (before : List ℕ) → Follows a a before before
+pub follows_none : (a : Option (List ℕ)) (before : List ℕ) → FollowsBefore a a before before
 follows_none a before = record { more = []; consumed = Consumes-nil a; after_is = sym (append-nil before) }
 
 -- one more piece
-pub follows_piece : (a b c : Option (List ℕ)) (before mid after : List ℕ) (room count : ℕ) → Follows a b before mid
+pub follows_piece : (a b c : Option (List ℕ)) (before mid after : List ℕ) (room count : ℕ) → FollowsBefore a b before mid
     → TakesPiece b c mid after room count
-    → Follows a c before after
+    → FollowsBefore a c before after
 follows_piece a b c before mid after room count so_far piece = record {
   more = so_far.more ++ piece.bytes;
   consumed = Consumes-trans a b c so_far.more piece.bytes so_far.consumed piece.consumed;
@@ -31,18 +31,19 @@ follows_piece a b c before mid after room count so_far piece = record {
 }
 
 -- how many were read
-more_length : (a b : Option (List ℕ)) (before after : List ℕ) (so_far : Follows a b before after)
+more_length : (a b : Option (List ℕ)) (before after : List ℕ) (so_far : FollowsBefore a b before after)
     → length after ≡ length before + length so_far.more
 more_length a b before after so_far = ap length so_far.after_is ∙ length-append before so_far.more
 
 -- no more than so many, with those that are read then
-pub follows_limit : (a b c : Option (List ℕ)) (before after : List ℕ) (room limit : ℕ) → Follows a b before after → TakesAtMost b c room
+pub follows_limit : (a b c : Option (List ℕ)) (before after : List ℕ) (room limit : ℕ) → FollowsBefore a b before after
+    → TakesAtMost b c room
     → length after + room ≤ length before + limit → TakesAtMost a c limit
 follows_limit a b c before after room limit so_far more fits =
     takes_more a b c so_far.more room limit so_far.consumed more (omega (arith, fits, more_length a b before after so_far))
 
 -- one more piece, no longer than its room
-pub piece_limit : (a b c : Option (List ℕ)) (before mid after : List ℕ) (room count limit : ℕ) → Follows a b before mid
+pub piece_limit : (a b c : Option (List ℕ)) (before mid after : List ℕ) (room count limit : ℕ) → FollowsBefore a b before mid
     → TakesPiece b c mid after room count
     → length mid + room ≤ length before + limit → TakesAtMost a c limit
 piece_limit a b c before mid after room count limit so_far piece fits =
@@ -50,7 +51,7 @@ piece_limit a b c before mid after room count limit so_far piece fits =
     (record { front = piece.bytes; taken = piece.consumed; within = omega (arith, piece.count_is, piece.within) }) fits
 
 -- there is no more room, or the source ended
-pub follows_fills : (a b : Option (List ℕ)) (before after : List ℕ) (room : ℕ) → Follows a b before after
+pub follows_fills : (a b : Option (List ℕ)) (before after : List ℕ) (room : ℕ) → FollowsBefore a b before after
     → (length after < length before + room → IsAtEnd b) → Fills a b before after room
 follows_fills a b before after room so_far ends = record {
   more = so_far.more;

@@ -23,7 +23,7 @@ pub record Heading : Type 0 where
   pub rest : List ℕ
 
 -- the bytes are a head within the limits, and then the rest
-pub record Stands (bytes : List ℕ) (head : RequestHead) (rest : List ℕ) : Type 0 where
+pub record HeadStands (bytes : List ℕ) (head : RequestHead) (rest : List ℕ) : Type 0 where
   pub reads : ReadsRequest bytes head rest
   pub short : length (print_request head) ≤ longest_head
   pub few : length head.fields ≤ most_fields
@@ -39,9 +39,9 @@ heading_of head rest = record {
 
 -- what the head at the front of these bytes says, or none if it is wrong, cut, too long, or has too many fields
 abbrev pub HeadIs : List ℕ → Option Heading → Type 0
-HeadIs bytes None = (head : RequestHead) (rest : List ℕ) → ¬ (Stands bytes head rest)
+HeadIs bytes None = (head : RequestHead) (rest : List ℕ) → ¬ (HeadStands bytes head rest)
 HeadIs bytes (Some heading) =
-    (head : RequestHead) × Stands bytes head heading.rest × (heading ≡ heading_of head heading.rest)
+    (head : RequestHead) × HeadStands bytes head heading.rest × (heading ≡ heading_of head heading.rest)
 
 -- a head with more bytes after it
 abbrev pub before : List ℕ → Heading → Heading

@@ -25,14 +25,14 @@ pub struct HeadFault;
 /// The head of a request, with the bytes that were read after it. Contracts see it as a `Heading`. It holds its own
 /// bytes, and takes no memory of an allocator.
 #[derive(Drop)]
-pub struct Head {
+pub struct HttpHead {
     bytes: [u8; LONGEST_HEAD],
     filled: usize,
     fields: [HeaderSpan; FIELDS],
     spans: RequestSpans,
 }
 
-impl Model for Head {
+impl Model for HttpHead {
     ghost use Rattle.std.specs.Prelude.{◌≤◌, take};
     ghost use Rattle.http_messages.specs.Head.{Heading, ShowsHead, longest_head, shown};
 
@@ -43,7 +43,7 @@ impl Model for Head {
     ghost invariant = { λ h. (h.filled ≤ longest_head) × ShowsHead (take h.filled h.bytes) h.fields h.spans };
 }
 
-impl Head {
+impl HttpHead {
     /// Returns the method, as it was sent: its letters have their case (RFC 9110, section 9.1).
     pub fn method(&self) -> &[u8]
         ensures { result.now ≡ self.now.method }
@@ -81,7 +81,7 @@ impl Head {
 /// Reads the head of a request (RFC 9112, sections 2 to 5, as `httparse` accepts them: lines may end with LF alone, the
 /// version may be HTTP/1.0, and empty lines may come before it). `None` if it is wrong, cut, longer than 8,192 bytes,
 /// or has more than 32 fields. At most 8,192 bytes are read; those after the head are its `rest`.
-pub fn read_head<R: Source>(source: &mut R) -> Result<Option<Head>, HeadFault>
+pub fn read_head<R: Source>(source: &mut R) -> Result<Option<HttpHead>, HeadFault>
     ensures head { IfOk result (Finds (R.remaining source.old) (R.remaining source.new)) }
 
     // Whatever is answered, no more than that was taken from the source.
@@ -97,7 +97,7 @@ pub fn read_head<R: Source>(source: &mut R) -> Result<Option<Head>, HeadFault>
         let mut fields = [EMPTY_HEADER_SPAN; FIELDS];
         match parse_request(&bytes[..filled], &mut fields) {
             Ok(Status::Complete(spans)) => {
-                return Ok(Some(Head {
+                return Ok(Some(HttpHead {
                     bytes,
                     filled,
                     fields,

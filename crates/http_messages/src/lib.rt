@@ -10,5 +10,5 @@ mod response;
 
 pub use body::read_body;
 pub use fields::Values;
-pub use head::{Head, HeadFault, LONGEST_HEAD, read_head};
+pub use head::{HeadFault, HttpHead, LONGEST_HEAD, read_head};
 pub use response::write_response;

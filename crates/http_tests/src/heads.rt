@@ -1,6 +1,6 @@
 use crate::steps::{Steps, in_steps, left_of};
 use edi_base::{Items, OfRead, ReadFault};
-use http_messages::{Head, HeadFault, Values, read_body, read_head};
+use http_messages::{HeadFault, HttpHead, Values, read_body, read_head};
 use std::alloc::{AllocError, Global};
 
 // A head: its start, a piece that is repeated this many times, and its end; and what is read from it, if it is a head:
@@ -221,14 +221,14 @@ fn read(
     bytes: &[u8],
     step: usize,
     until_failure: usize,
-) -> (Result<Option<Head>, HeadFault>, usize, bool) {
+) -> (Result<Option<HttpHead>, HeadFault>, usize, bool) {
     let mut source = in_steps(bytes, step, until_failure);
     let result = read_head(&mut source);
     let (left, failed) = left_of(source);
     (result, bytes.len().saturating_sub(left.len()), failed)
 }
 
-fn key_is(head: &Head, want: Key) -> bool {
+fn key_is(head: &HttpHead, want: Key) -> bool {
     match (head.values(b"X-Key"), want) {
         (Values::Absent, Key::Absent) | (Values::Several, Key::Several) => true,
         (Values::One(value), Key::One(key)) => value == key,
@@ -237,7 +237,7 @@ fn key_is(head: &Head, want: Key) -> bool {
 }
 
 /// Whether the head is the row's, ends where the row does, and was read in no more steps than it needs.
-fn is_head_of(head: &Head, row: &Row, step: usize, size: usize, taken: usize) -> bool {
+fn is_head_of(head: &HttpHead, row: &Row, step: usize, size: usize, taken: usize) -> bool {
     let Some((method, target, key)) = row.5 else {
         return false;
     };
@@ -366,8 +366,8 @@ fn is_fault_before_the_last(alloc: Global, row: &BodyRow) -> Result<bool, ReadFa
     let is_fault = lacks > 0 && lacks <= behind.len() + 1;
     let mut source = in_steps(behind, 1, lacks.saturating_sub(1));
     match body(alloc, &mut source, front, *size) {
-        Ok(_) => Ok(!is_fault && !source.failed()),
-        Err(ReadFault::Read) => Ok(is_fault && source.failed()),
+        Ok(_) => Ok(!is_fault && !source.has_failed()),
+        Err(ReadFault::Read) => Ok(is_fault && source.has_failed()),
         Err(ReadFault::Memory) => Err(ReadFault::Memory),
     }
 }

@@ -46,7 +46,7 @@ fn written(
         room,
     });
     let result = write_response(&mut out, status, body);
-    let failed = out.failed();
+    let failed = out.has_failed();
     (result, failed, out.into_inner().written)
 }
 

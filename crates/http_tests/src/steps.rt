@@ -42,6 +42,6 @@ pub(crate) fn in_steps(bytes: &[u8], step: usize, until_failure: usize) -> OfRea
 
 /// Returns the bytes that were not read, and whether the source has failed.
 pub(crate) fn left_of(source: OfRead<Steps<'_>>) -> (&[u8], bool) {
-    let failed = source.failed();
+    let failed = source.has_failed();
     (source.into_inner().left, failed)
 }

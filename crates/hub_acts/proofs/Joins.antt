@@ -46,8 +46,8 @@ use Rattle.hub_clean.proofs.Joined.{rules, changes_are}
 
 -- Rows none of which has this GLN.
 module _ (row : SupplierRow) where
-  abbrev IsNew : List SupplierRow → Type 0
-  IsNew rows = list_any (same row.gln) (map (λ (s : SupplierRow). s.gln) rows) ≡ false
+  abbrev HasNewGln : List SupplierRow → Type 0
+  HasNewGln rows = list_any (same row.gln) (map (λ (s : SupplierRow). s.gln) rows) ≡ false
 
   module _ (s : SupplierRow) (rows : List SupplierRow) (other : same row.gln s.gln ≡ false) where
     place : (Q : List SupplierRow → Type 0)
@@ -66,7 +66,7 @@ module _ (row : SupplierRow) where
         turned = ap is_gt (nat_list_cmp_total.antisymm s.gln row.gln)
 
   -- the row takes the same position as among the rows of the tables
-  put_same : (rows : List SupplierRow) → IsNew rows → put row rows ≡ order.put supplier_cmp row rows
+  put_same : (rows : List SupplierRow) → HasNewGln rows → put row rows ≡ order.put supplier_cmp row rows
   put_same [] new = refl
   put_same (s ∷ rows) new =
       let parts = or_parts (same row.gln s.gln) (list_any (same row.gln) (map (λ (s : SupplierRow). s.gln) rows)) new in
@@ -76,7 +76,7 @@ module _ (row : SupplierRow) where
       ∙ sym (ap (λ v. cond v (row ∷ s ∷ rows) (s ∷ order.put supplier_cmp row rows)) e))
 
   -- and it can be found there and taken out again
-  without_put : (rows : List SupplierRow) → IsNew rows → without row.gln (put row rows) ≡ rows
+  without_put : (rows : List SupplierRow) → HasNewGln rows → without row.gln (put row rows) ≡ rows
   without_put [] new = ap (λ v. cond v [] (row ∷ [])) (same_if row.gln row.gln refl)
   without_put (s ∷ rows) new =
       let parts = or_parts (same row.gln s.gln) (list_any (same row.gln) (map (λ (s : SupplierRow). s.gln) rows)) new in
@@ -86,7 +86,7 @@ module _ (row : SupplierRow) where
       ∙ ap (λ rest. s ∷ rest) (without_put rows parts.1))
 
   -- a supplier found among the others is another one
-  found_apart : (rows : List SupplierRow) → IsNew rows → (gln : List ℕ) (s : SupplierRow) → supplier_row rows gln ≡ Some s
+  found_apart : (rows : List SupplierRow) → HasNewGln rows → (gln : List ℕ) (s : SupplierRow) → supplier_row rows gln ≡ Some s
       → same row.gln gln ≡ false
   found_apart [] new gln s known = cc
   found_apart (x ∷ rows) new gln s known =
@@ -98,7 +98,7 @@ module _ (row : SupplierRow) where
       ] refl known
 
   -- and is still found once the row is added
-  found_beside : (rows : List SupplierRow) → IsNew rows → (gln : List ℕ) (s : SupplierRow) → supplier_row rows gln ≡ Some s
+  found_beside : (rows : List SupplierRow) → HasNewGln rows → (gln : List ℕ) (s : SupplierRow) → supplier_row rows gln ≡ Some s
       → supplier_row (put row rows) gln ≡ Some s
   found_beside rows new gln s known =
       ap (λ rows. supplier_row rows gln) (put_same rows new)
@@ -108,7 +108,7 @@ module _ (row : SupplierRow) where
 -- A supplier that joins the register.
 module _ (register : RegisterRows) (row : SupplierRow) (changes : List Change)
     (accepted : judge_join register row ≡ Accept changes) where
-  new : IsNew row register.suppliers
+  new : HasNewGln row register.suppliers
   new =
       let one = or_parts (same row.gln register.hub) _ (rules register row changes accepted).0 in
       (or_parts (same row.gln register.retailer) _ one.1).1
@@ -158,8 +158,8 @@ joined_as register row verdict is may t =
     ap (λ v. cond v (replied_by act_reply (act (judge_join register row) t)) (denied, t)) may
     ∙ ap (λ verdict. replied_by act_reply (act verdict t)) is
 
-abbrev Seen : Type 0
-Seen = Unit {0}
+abbrev NothingSeen : Type 0
+NothingSeen = Unit {0}
 
 module _ {S : Type 0} (g : Ghosts S) (old new : S)
     (register : RegisterRows) (row : SupplierRow) (may : is_join row ≡ true) where
@@ -185,7 +185,7 @@ module _ {S : Type 0} (g : Ghosts S) (old new : S)
         (sound_rises (apply_all changes (g.content old)) (sound_with register row changes accepted may (g.content old) here of_tables))
 
     -- the join is accepted
-    pub accepted_carried : (reply : Reply) (done : Seen)
+    pub accepted_carried : (reply : Reply) (done : NothingSeen)
         → reply ≡ act_reply (told (Accept changes))
         → (Fit changes (g.content old) → Carried g old new (act (Accept changes)) (λ _. Accepted) (Ok done))
         → Carried g old new (joined register Whole row) as_told (Ok reply)
@@ -200,7 +200,7 @@ module _ {S : Type 0} (g : Ghosts S) (old new : S)
     pub accepted_failed : (fault other : StoreFault) (result : Result Reply StoreFault)
         → result ≡ Err other
         → (Fit changes (g.content old)
-        → Carried {X = Seen} g old new (act (Accept changes)) (λ _. Accepted) (Err fault))
+        → Carried {X = NothingSeen} g old new (act (Accept changes)) (λ _. Accepted) (Err fault))
         → Carried g old new (joined register Whole row) as_told result
     accepted_failed fault other result is then =
         subst (λ (r : Result Reply StoreFault). Carried g old new (joined register Whole row) as_told r)
@@ -215,7 +215,7 @@ module _ {S : Type 0} (g : Ghosts S) (old new : S)
         })
 
     -- the register is again that of the tables
-    pub accepted_same : (done : Seen)
+    pub accepted_same : (done : NothingSeen)
         → (Fit changes (g.content old) → Carried g old new (act (Accept changes)) (λ _. Accepted) (Ok done))
         → g.honest new
         → joined_by row register ≡ register_of (g.content new)
@@ -232,7 +232,8 @@ module _ (plain : Bool) (old new : Option LastingFault) (may_answer : Reply → 
       always None = tt
       always (Some fault) = may
 
-  pub accepted_fails : (done : Seen) → FailsWith plain ⊥ no_answer old new (Ok done) → FailsWith plain ⊥ may_answer old new (Ok reply)
+  pub accepted_fails : (done : NothingSeen) → FailsWith plain ⊥ no_answer old new (Ok done)
+      → FailsWith plain ⊥ may_answer old new (Ok reply)
   accepted_fails done fails = record {
     again = never old fails.again;
     after = fails.after;

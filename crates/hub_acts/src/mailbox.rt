@@ -12,7 +12,7 @@ ghost use Rattle.hub_clean.specs.HubLaw.Requests.{taken};
 ghost use Rattle.hub_acts.specs.Acts.{Carried, FailsOver, NoCause, Unharmed, Stays, as_told, no_answer};
 ghost use Rattle.hub_acts.specs.StaysClean.{StaysClean};
 
-use edi_base::{Items, MemoryFault, copied};
+use edi_base::{Items, MemoryFault, copy_bytes};
 use gs1_ids::Gln;
 use hub_clean::acts_stay_sound;
 use hub_store::{Store, StoreFault};
@@ -41,7 +41,7 @@ pub fn unknown_reply(alloc: Global) -> Result<Reply, MemoryFault>
     Ok(Reply {
         outcome: Outcome::Unknown,
         refused: false,
-        body: copied(alloc, b"unknown\n")?,
+        body: copy_bytes(alloc, b"unknown\n")?,
     })
 }
 
@@ -115,7 +115,7 @@ pub fn take_entry<S: Store>(
     let Some(mut entry) = store.mail_item(supplier, number)? else {
         return Ok(unknown_reply(alloc)?);
     };
-    let reply = done_reply(copied(alloc, b"taken\n")?);
+    let reply = done_reply(copy_bytes(alloc, b"taken\n")?);
     if !entry.taken.case() {
         entry.taken = Column::of(true);
         let changes = only(alloc, Change::SetMail(entry))?;

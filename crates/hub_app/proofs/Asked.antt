@@ -11,8 +11,8 @@ use Rattle.hub_program.specs.Program.{edihub}
 use Rattle.hub_app.specs.declared.words.HubWords.{HubWords}
 use Rattle.hub_app.specs.declared.words.Words.{Words}
 use Rattle.hub_app.specs.declared.words.Words.TheVariants.{Check, Relay, Show, Init, Rekey, Verify, Hub, Serve}
-use Rattle.hub_app.specs.Options.{Finds}
-use Rattle.hub_app.specs.Words.{Asks, AreHubWords, IsOverHub, Names, Refuses, Say}
+use Rattle.hub_app.specs.Options.{FindsOption}
+use Rattle.hub_app.specs.Words.{CommandAsks, AreHubWords, IsOverHub, Names, RefusesWords, Say}
 use Rattle.hub_program.proofs.Simple.{simple}
 
 -- without the options of a hub nothing is asked of one
@@ -36,7 +36,7 @@ module _ (command : Text) (rows : List Row) (no_check : command ≡ codes "check
     (no_rekey : command ≡ codes "rekey" → ⊥)
     (no_verify : command ≡ codes "verify" → ⊥)
     (no_serve : command ≡ codes "serve" → ⊥) where
-  pub is_over_hub : (words : Words) → Asks command rows words → IsOverHub command rows words
+  pub is_over_hub : (words : Words) → CommandAsks command rows words → IsOverHub command rows words
   is_over_hub (Hub hub) h = h
   is_over_hub (Check w) h = no_check h.0
   is_over_hub (Relay w) h = no_relay h.0
@@ -46,7 +46,7 @@ module _ (command : Text) (rows : List Row) (no_check : command ≡ codes "check
   is_over_hub (Verify w) h = no_verify h.0
   is_over_hub (Serve w) h = no_serve h.0
 
-  pub is_asked : (words : Words) → IsOverHub command rows words → Asks command rows words
+  pub is_asked : (words : Words) → IsOverHub command rows words → CommandAsks command rows words
   is_asked (Hub hub) h = h
   is_asked (Check w) h = absurd h
   is_asked (Relay w) h = absurd h
@@ -56,7 +56,7 @@ module _ (command : Text) (rows : List Row) (no_check : command ≡ codes "check
   is_asked (Verify w) h = absurd h
   is_asked (Serve w) h = absurd h
 
-  pub finds_asked : (found : Option Words) → Finds (IsOverHub command rows) found → Finds (Asks command rows) found
+  pub finds_asked : (found : Option Words) → FindsOption (IsOverHub command rows) found → FindsOption (CommandAsks command rows) found
   finds_asked (Some words) h = is_asked words h
   finds_asked None none = λ words h. none words (is_over_hub words h)
 
@@ -64,7 +64,7 @@ module _ (command : Text) (rows : List Row) (no_check : command ≡ codes "check
 pub only_memory : {T : Type 0} (app : App) (texts : List Text) (error : Error) (result : Result T WordsFault) → app ≡ edihub
     → (takes app texts ≡ true → kind_of error ≡ OutOfMemory)
     → IsErrAnd result (λ fault. kind_of error ≡ OutOfMemory → fault ≡ Memory)
-    → IfErr result (Refuses texts)
+    → IfErr result (RefusesWords texts)
 only_memory app texts error (Ok x) is passes h = tt
 only_memory app texts error (Err fault) is passes h =
     λ took. inl (h (passes (subst (λ (a : App). takes a texts ≡ true) (sym is) took)))
@@ -78,18 +78,18 @@ met app texts matches is h = (h (ap is_simple is ∙ simple)).1 ∙ ap (λ (a : 
 -- what is said where something was found in the command, and where nothing was
 pub said : (texts : List Text) (command : Option (Text × List Row)) (found : Option Words) (words : Words)
     → command ≡ subcommand_of edihub texts
-    → Finds (Names command) found
+    → FindsOption (Names command) found
     → found ≡ Some words
     → Say texts words
 said texts command found words met h is =
-    let asked : Names command words = subst (Finds (Names command)) is h in
+    let asked : Names command words = subst (FindsOption (Names command)) is h in
     subst (λ (m : Option (Text × List Row)). Names m words) met asked
 
 pub nothing_said : (texts : List Text) (command : Option (Text × List Row)) (found : Option Words) (fault : WordsFault)
     → command ≡ subcommand_of edihub texts
-    → Finds (Names command) found
+    → FindsOption (Names command) found
     → found ≡ None
-    → Refuses texts fault
+    → RefusesWords texts fault
 nothing_said texts command found fault met h is =
-    let none : (words : Words) → Names command words → ⊥ = subst (Finds (Names command)) is h in
+    let none : (words : Words) → Names command words → ⊥ = subst (FindsOption (Names command)) is h in
     λ took. inr (λ words said. none words (subst (λ (m : Option (Text × List Row)). Names m words) (sym met) said))

@@ -54,6 +54,6 @@ abbrev pub prefixes_of : Text → Option (List Text)
 prefixes_of text = if list_all is_prefix (parts_of text) then Some (parts_of text) else None
 
 -- what was found fits, and where nothing was found nothing fits
-abbrev pub Finds : {X : Type 0} → (X → Type 0) → Option X → Type 0
-Finds fits (Some x) = fits x
-Finds {X} fits None = (x : X) → fits x → ⊥
+abbrev pub FindsOption : {X : Type 0} → (X → Type 0) → Option X → Type 0
+FindsOption fits (Some x) = fits x
+FindsOption {X} fits None = (x : X) → fits x → ⊥

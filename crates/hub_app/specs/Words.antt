@@ -194,16 +194,16 @@ pub record IsServe (rows : List Row) (words : ServeWords) : Type 0 where
   pub journal : first_of (codes "journal") rows ≡ option_map (λ path. path.now) words.journal
 
 -- what a command with these options asks for
-abbrev pub Asks : Text → List Row → Words → Type 0
-Asks command rows (Check words) =
+abbrev pub CommandAsks : Text → List Row → Words → Type 0
+CommandAsks command rows (Check words) =
     (command ≡ codes "check") × (first_of (codes "register") rows ≡ Some words.register.now)
-Asks command rows (Relay words) = (command ≡ codes "relay") × IsRelay rows words
-Asks command rows Show = command ≡ codes "show"
-Asks command rows (Init words) = (command ≡ codes "init") × IsInit rows words
-Asks command rows (Rekey words) = (command ≡ codes "rekey") × IsRekey rows words
-Asks command rows (Verify words) = (command ≡ codes "verify") × (first_of (codes "db") rows ≡ Some words.db.now)
-Asks command rows (Hub words) = IsTask command rows words.task × AreHubWords rows words
-Asks command rows (Serve words) = (command ≡ codes "serve") × IsServe rows words
+CommandAsks command rows (Relay words) = (command ≡ codes "relay") × IsRelay rows words
+CommandAsks command rows Show = command ≡ codes "show"
+CommandAsks command rows (Init words) = (command ≡ codes "init") × IsInit rows words
+CommandAsks command rows (Rekey words) = (command ≡ codes "rekey") × IsRekey rows words
+CommandAsks command rows (Verify words) = (command ≡ codes "verify") × (first_of (codes "db") rows ≡ Some words.db.now)
+CommandAsks command rows (Hub words) = IsTask command rows words.task × AreHubWords rows words
+CommandAsks command rows (Serve words) = (command ≡ codes "serve") × IsServe rows words
 
 -- what a command over a hub asks for
 abbrev pub IsOverHub : Text → List Row → Words → Type 0
@@ -213,15 +213,15 @@ IsOverHub command rows _ = ⊥
 -- the words name this command, with its options
 abbrev pub Names : Option (Text × List Row) → Words → Type 0
 Names None words = ⊥
-Names (Some met) words = Asks met.0 met.1 words
+Names (Some met) words = CommandAsks met.0 met.1 words
 
 -- what the words of the command line say, the program's name first
 abbrev pub Say : List Text → Words → Type 0
 Say texts words = Names (subcommand_of edihub texts) words
 
 -- Words that `clap` takes are refused where memory runs out, and else only where they say nothing.
-abbrev pub Refuses : List Text → WordsFault → Type 0
-Refuses texts fault = takes edihub texts ≡ true → (fault ≡ Memory) ⊎ ((words : Words) → Say texts words → ⊥)
+abbrev pub RefusesWords : List Text → WordsFault → Type 0
+RefusesWords texts fault = takes edihub texts ≡ true → (fault ≡ Memory) ⊎ ((words : Words) → Say texts words → ⊥)
 
 -- the words are reported as an option outside its limits, unless memory ran out
 abbrev pub IsUsageError : WordsFault → Type 0

@@ -2,11 +2,11 @@
 
 ghost use Rattle.std.specs.Prelude.{◌≡◌, map, option_map, codes, IfOk, IfErr, IfSome};
 ghost use Rattle.clap.specs.Words.{app_of, first_of, found_of, rows_of, subcommand_rows_of};
-ghost use Rattle.hub_app.specs.Options.{Finds, if_given, moment_of, values_given};
+ghost use Rattle.hub_app.specs.Options.{FindsOption, if_given, moment_of, values_given};
 ghost use Rattle.edi_relay.specs.Relay.{AreRelayWords};
-ghost use Rattle.hub_app.specs.Words.{cancel_options, texts_of, AreWords, Asks, AreHubOptions, AreHubWords, IsOverHub};
+ghost use Rattle.hub_app.specs.Words.{cancel_options, texts_of, AreWords, CommandAsks, AreHubOptions, AreHubWords, IsOverHub};
 ghost use Rattle.hub_app.specs.Words.{IsInit, IsRekey, IsRelay, IsRequest, IsServe, IsTask, owner_given};
-ghost use Rattle.hub_app.specs.Words.{IsUsageError, Names, Refuses, Say, join_in, texts_of_join};
+ghost use Rattle.hub_app.specs.Words.{IsUsageError, Names, RefusesWords, Say, join_in, texts_of_join};
 ghost use Rattle.hub_app.specs.Words.{join_by_file_given, join_by_file_in, join_given, join_values, key_given, given_as, parts_of_join};
 ghost use Rattle.hub_rules.specs.JoinRules as rules;
 ghost use Rattle.hub_program.specs.Program.{edihub};
@@ -195,7 +195,7 @@ impl From<AllocError> for WordsFault {
 
 // The options of `relay`, where each is within its limits.
 fn relay_words(options: &ArgMatches<'_>) -> Option<RelayWords>
-    ensures found { Finds (IsRelay (rows_of (found_of options.now))) result }
+    ensures found { FindsOption (IsRelay (rows_of (found_of options.now))) result }
     ensures limits { IfSome result AreRelayWords }
 {
     let hub = text(options, "hub")?;
@@ -206,13 +206,13 @@ fn relay_words(options: &ArgMatches<'_>) -> Option<RelayWords>
 }
 
 fn import_task<'a>(options: &ArgMatches<'a>) -> Option<HubTask<'a>>
-    ensures { Finds (IsTask (codes "import") (rows_of (found_of options.now))) result }
+    ensures { FindsOption (IsTask (codes "import") (rows_of (found_of options.now))) result }
 {
     Some(HubTask::Import(text(options, "folder")?))
 }
 
 fn status_request(options: &ArgMatches<'_>) -> Option<Request>
-    ensures { Finds (IsRequest (codes "status") (rows_of (found_of options.now))) result }
+    ensures { FindsOption (IsRequest (codes "status") (rows_of (found_of options.now))) result }
 {
     match text(options, "of") {
         Some(digits) => Some(Request::StatusOf(gln(digits)?)),
@@ -221,7 +221,7 @@ fn status_request(options: &ArgMatches<'_>) -> Option<Request>
 }
 
 fn mail_request(options: &ArgMatches<'_>) -> Option<Request>
-    ensures { Finds (IsRequest (codes "mail") (rows_of (found_of options.now))) result }
+    ensures { FindsOption (IsRequest (codes "mail") (rows_of (found_of options.now))) result }
 {
     let what = text(options, "do")?;
     let n = number(text(options, "n")?)?;
@@ -247,7 +247,7 @@ fn cancel_fields<'a>(options: &ArgMatches<'a>) -> Option<CancelFields<'a>>
 }
 
 fn cancel_request(alloc: Global, options: &ArgMatches<'_>) -> Result<Option<Request>, AllocError>
-    ensures { IfOk result (Finds (IsRequest (codes "cancel") (rows_of (found_of options.now)))) }
+    ensures { IfOk result (FindsOption (IsRequest (codes "cancel") (rows_of (found_of options.now)))) }
 {
     let Some(fields) = cancel_fields(options) else {
         return Ok(None);
@@ -343,7 +343,7 @@ fn join_by_file<'a>(
 
 // What `join` asks, if the key is on the command line.
 fn join_request(alloc: Global, options: &ArgMatches<'_>) -> Result<Option<Request>, AllocError>
-    ensures { IfOk result (Finds (IsRequest (codes "join") (rows_of (found_of options.now)))) }
+    ensures { IfOk result (FindsOption (IsRequest (codes "join") (rows_of (found_of options.now)))) }
 {
     match given_join(alloc, options)? {
         Some(join) => Ok(Some(Request::Join(join))),
@@ -357,7 +357,7 @@ fn request(
     command: &str,
     options: &ArgMatches<'_>,
 ) -> Result<Option<Request>, AllocError>
-    ensures { IfOk result (Finds (IsRequest command.now (rows_of (found_of options.now)))) }
+    ensures { IfOk result (FindsOption (IsRequest command.now (rows_of (found_of options.now)))) }
 {
     match command {
         "status" => Ok(status_request(options)),
@@ -369,7 +369,7 @@ fn request(
 }
 
 fn join_task<'a>(alloc: Global, options: &ArgMatches<'a>) -> Result<Option<HubTask<'a>>, AllocError>
-    ensures { IfOk result (Finds (IsTask (codes "join") (rows_of (found_of options.now)))) }
+    ensures { IfOk result (FindsOption (IsTask (codes "join") (rows_of (found_of options.now)))) }
 {
     if let Some(request) = join_request(alloc, options)? {
         return Ok(Some(HubTask::Ask(request)));
@@ -386,7 +386,7 @@ fn task<'a>(
     command: &str,
     options: &ArgMatches<'a>,
 ) -> Result<Option<HubTask<'a>>, AllocError>
-    ensures { IfOk result (Finds (IsTask command.now (rows_of (found_of options.now)))) }
+    ensures { IfOk result (FindsOption (IsTask command.now (rows_of (found_of options.now)))) }
 {
     match command {
         "import" => Ok(import_task(options)),
@@ -429,7 +429,7 @@ struct HubOptions<'a> {
 }
 
 fn hub_options<'a>(options: &ArgMatches<'a>) -> Option<HubOptions<'a>>
-    ensures { Finds (AreHubOptions (rows_of (found_of options.now))) result }
+    ensures { FindsOption (AreHubOptions (rows_of (found_of options.now))) result }
 {
     Some(HubOptions {
         db: text(options, "db")?,
@@ -441,7 +441,7 @@ fn hub_options<'a>(options: &ArgMatches<'a>) -> Option<HubOptions<'a>>
 
 // The words of a command over a hub that asks this.
 fn hub_words<'a>(options: &ArgMatches<'a>, task: HubTask<'a>) -> Option<HubWords<'a>>
-    ensures found { Finds (AreHubWords (rows_of (found_of options.now))) result }
+    ensures found { FindsOption (AreHubWords (rows_of (found_of options.now))) result }
     ensures task { IfSome result (λ words. words.task ≡ task.entry) }
 {
     let Some(common) = hub_options(options) else {
@@ -458,7 +458,7 @@ fn hub_words<'a>(options: &ArgMatches<'a>, task: HubTask<'a>) -> Option<HubWords
 
 // The options of `init`.
 fn init_words<'a>(options: &ArgMatches<'a>) -> Option<InitWords<'a>>
-    ensures { Finds (IsInit (rows_of (found_of options.now))) result }
+    ensures { FindsOption (IsInit (rows_of (found_of options.now))) result }
 {
     Some(InitWords {
         register: text(options, "register")?,
@@ -479,7 +479,7 @@ fn key_owner(options: &ArgMatches<'_>) -> Option<Option<Gln>>
 
 // The options of `rekey`, where each is within its limits.
 fn rekey_words<'a>(options: &ArgMatches<'a>) -> Option<RekeyWords<'a>>
-    ensures { Finds (IsRekey (rows_of (found_of options.now))) result }
+    ensures { FindsOption (IsRekey (rows_of (found_of options.now))) result }
 {
     Some(RekeyWords {
         db: text(options, "db")?,
@@ -490,7 +490,7 @@ fn rekey_words<'a>(options: &ArgMatches<'a>) -> Option<RekeyWords<'a>>
 
 // The options of `serve`, where each is within its limits.
 fn serve_words<'a>(options: &ArgMatches<'a>) -> Option<ServeWords<'a>>
-    ensures { Finds (IsServe (rows_of (found_of options.now))) result }
+    ensures { FindsOption (IsServe (rows_of (found_of options.now))) result }
 {
     Some(ServeWords {
         db: text(options, "db")?,
@@ -508,7 +508,7 @@ fn over_a_hub<'a>(
     command: &str,
     options: &ArgMatches<'a>,
 ) -> Result<Option<Words<'a>>, AllocError>
-    ensures found { IfOk result (Finds (IsOverHub command.now (rows_of (found_of options.now)))) }
+    ensures found { IfOk result (FindsOption (IsOverHub command.now (rows_of (found_of options.now)))) }
     ensures limits { IfOk result (λ found. IfSome found AreWords) }
 {
     let Some(task) = task(alloc, command, options)? else {
@@ -526,7 +526,7 @@ fn command_words<'a>(
     command: &str,
     options: &ArgMatches<'a>,
 ) -> Result<Option<Words<'a>>, AllocError>
-    ensures found { IfOk result (Finds (Asks command.now (rows_of (found_of options.now)))) }
+    ensures found { IfOk result (FindsOption (CommandAsks command.now (rows_of (found_of options.now)))) }
     ensures limits { IfOk result (λ found. IfSome found AreWords) }
 {
     match command {
@@ -567,7 +567,7 @@ fn matched_words<'a>(
     alloc: Global,
     matches: &ArgMatches<'a>,
 ) -> Result<Option<Words<'a>>, AllocError>
-    ensures found { IfOk result (Finds (Names (subcommand_rows_of matches.now))) }
+    ensures found { IfOk result (FindsOption (Names (subcommand_rows_of matches.now))) }
     ensures limits { IfOk result (λ found. IfSome found AreWords) }
 {
     match matches.subcommand() {
@@ -595,7 +595,7 @@ fn words_by<'a, S: AsStr>(
     requires { app_of program.old ≡ edihub }
     ensures read { IfOk result (Say (map S.text words.entry.now)) }
     ensures limits { IfOk result AreWords }
-    ensures refused { IfErr result (Refuses (map S.text words.entry.now)) }
+    ensures refused { IfErr result (RefusesWords (map S.text words.entry.now)) }
 {
     let matches = program.try_get_matches_from_mut(words)?;
     let found = matched_words(alloc, &matches)?;
@@ -610,7 +610,7 @@ fn words_by<'a, S: AsStr>(
 pub fn read_words<'a, S: AsStr>(alloc: Global, words: &'a [S]) -> Result<Words<'a>, WordsFault>
     ensures read { IfOk result (Say (map S.text words.entry.now)) }
     ensures limits { IfOk result AreWords }
-    ensures refused { IfErr result (Refuses (map S.text words.entry.now)) }
+    ensures refused { IfErr result (RefusesWords (map S.text words.entry.now)) }
 {
     let mut program = command_line(alloc)?;
     words_by(alloc, &mut program, words)

@@ -15,13 +15,13 @@ use Rattle.sqlite.specs.State.{State}
 use Rattle.hub_parties.specs.KeyOrder.{Rises}
 use Rattle.hub_rows.specs.Asks.{Asks}
 use Rattle.hub_rows.proofs.Counting.{all_such}
-use Rattle.hub_rows.proofs.Finding.{all_of, no_limit, passes, Finds, finds}
+use Rattle.hub_rows.proofs.Finding.{all_of, no_limit, passes, FindsRows, finds}
 use Rattle.hub_rows.proofs.Listing.{rows_are, rows_moved, all_then}
 use Rattle.hub_rows.proofs.Looking.{Selects, looks_for}
 use Rattle.hub_rows.proofs.Sorting.{permuted_has}
 use Rattle.hub_schema.specs.Rows.{in_key_order, tables_in}
 use Rattle.hub_schema.specs.State.{IsHub, LooksFor}
-use Rattle.hub_sound.specs.Finding.{Key}
+use Rattle.hub_sound.specs.Finding.{RowKey}
 use Rattle.hub_store.specs.declared.fault.StoreFault.{StoreFault}
 use Rattle.hub_tables.proofs.Members.{has_map}
 use Rattle.hub_tables.specs.Tables.{Tables}
@@ -40,13 +40,13 @@ all_pass (x ∷ xs) = ap (λ more. x ∷ more) (all_pass xs)
 module _ {X : Type 0} {cmp : X → X → Ordering} (total : IsTotalOrder cmp) (f shown : Row → X) (columns : List Term)
     (order : List (Term × SortKey)) (tests : List Term) (params : Row)
     (says : (row : Row) → shown (eval_all columns (params ∷ row ∷ [])) ≡ f row)
-    (clean : X → Bool) (key_of : X → Key) (parts : List Part)
+    (clean : X → Bool) (key_of : X → RowKey) (parts : List Part)
     (keys : (row : Row) → key_of (shown row) ≡ key_from 0 parts row)
     (P : Row → Type 0) (N : X → Type 0) (low : (x : X) → clean x ≡ true → N x)
     (ranked : (x y : Row) → P x × N (f x) → P y × N (f y)
     → sort_cmp order (params ∷ x ∷ []) (params ∷ y ∷ []) ≡ cmp (f x) (f y))
     (p : X → Bool) (passed : (row : Row) → P row → passes tests params row ≡ p (f row)) where
-  module _ (stored rows : List Row) (found : Finds stored tests columns order no_limit params rows) (cells : AllByRecursion P stored)
+  module _ (stored rows : List Row) (found : FindsRows stored tests columns order no_limit params rows) (cells : AllByRecursion P stored)
       (rises : Rises cmp (in_key_order cmp (map f stored))) where
     abbrev chosen : List X
     chosen = filter p (in_key_order cmp (map f stored))

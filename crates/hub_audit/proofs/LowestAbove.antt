@@ -30,7 +30,7 @@ use Rattle.hub_rows.specs.Asks.{Asks}
 use Rattle.hub_rows.specs.Shown.{shown_bytes}
 use Rattle.hub_reads.proofs.OfUntaken.{map_limited}
 use Rattle.hub_reads.proofs.Texts.{one, rising}
-use Rattle.hub_rows.proofs.Finding.{passes, Finds, finds}
+use Rattle.hub_rows.proofs.Finding.{passes, FindsRows, finds}
 use Rattle.hub_rows.proofs.Listing.{shown_say, sources_have}
 use Rattle.hub_rows.proofs.Looking.{Selects, looks_for}
 use Rattle.hub_rows.proofs.Ranking.{then_none, rank_bytes}
@@ -141,7 +141,7 @@ module _ {X : Type 0} {cmp : X → X → Ordering} (total : IsTotalOrder cmp) (f
   passed : (row : Row) → P row → passes (above k) params row ≡ is_above row
   passed row it = and_true _ ∙ cell_above (column row k) value (is_blob row it)
 
-  module _ (stored rows : List Row) (found : Finds stored (above k) (col 1 k ∷ []) (rising k ∷ []) one params rows)
+  module _ (stored rows : List Row) (found : FindsRows stored (above k) (col 1 k ∷ []) (rising k ∷ []) one params rows)
       (cells : AllByRecursion P stored) where
     abbrev chosen : List (List ℕ)
     chosen = map bytes found.sources

@@ -14,7 +14,7 @@ use crate::rows::HubRows;
 use hub_sound::Finding;
 use hub_sql::{Version, of_hub, of_version};
 use hub_store::StoreFault;
-use hub_verify::{Counts, Verdict, count, verify};
+use hub_verify::{Counts, RowsVerdict, count, verify};
 use sqlite::{Alter, Connection};
 use std::alloc::Global;
 
@@ -37,12 +37,12 @@ fn audit_rows<S: Alter>(rows: &mut HubRows<S>, alloc: Global) -> Result<Audit, S
 {
     let verdict = verify(rows, alloc)?;
     match verdict {
-        Verdict::Sound => {
+        RowsVerdict::Sound => {
             let counts = count(rows, alloc)?;
             Ok(Audit::Sound(counts))
         }
-        Verdict::Unclean(found) => Ok(Audit::Unclean(found)),
-        Verdict::Unsound(found) => Ok(Audit::Unsound(found)),
+        RowsVerdict::Unclean(found) => Ok(Audit::Unclean(found)),
+        RowsVerdict::Unsound(found) => Ok(Audit::Unsound(found)),
     }
 }
 

@@ -3,7 +3,7 @@ ghost use Rattle.hub_verify.specs.AllRows.{IsReadFault};
 
 use crate::kinds;
 use crate::next::next_value;
-use crate::received::received;
+use crate::received::has_received_pallet;
 use crate::register::register;
 use crate::rows::HubRows;
 use edi_base::Items;
@@ -108,7 +108,7 @@ impl<S: Alter> AllRows for HubRows<S> {
     }
 
     fn received(&mut self, sscc: &Sscc) -> Result<bool, StoreFault> {
-        match received(&mut self.conn, sscc) {
+        match has_received_pallet(&mut self.conn, sscc) {
             Ok(received) => Ok(received),
             Err(fault) => Err(read_fault(fault)),
         }

@@ -9,7 +9,7 @@ ghost use Rattle.sqlite.specs.Values.{bound};
 
 use crate::key::{Part, key_of};
 use edi_base::Items;
-use hub_rows::{Shown, query};
+use hub_rows::{ShownRow, query};
 use hub_store::StoreFault;
 use hub_verify::Read;
 use sqlite::types::ValueRef;
@@ -17,7 +17,11 @@ use sqlite::{Alter, Connection, Row};
 use std::alloc::Global;
 
 // Returns the rows, or the key of the first without the form of its kind.
-fn read_rows<T: Shown>(alloc: Global, rows: &[Row], parts: &[Part]) -> Result<Read<T>, StoreFault>
+fn read_rows<T: ShownRow>(
+    alloc: Global,
+    rows: &[Row],
+    parts: &[Part],
+) -> Result<Read<T>, StoreFault>
     ensures read { IfOk result (AreRead T.shown T.clean parts.now rows.now) }
     ensures memory { IfErr result (λ fault. fault ≡ StoreFault.Memory) }
 {
@@ -42,7 +46,7 @@ fn read_rows<T: Shown>(alloc: Global, rows: &[Row], parts: &[Part]) -> Result<Re
 
 /// Returns the rows that a text selects, or the key of the first without the form of its kind. The columns of the key
 /// come first.
-pub(crate) fn every<S: Alter, T: Shown>(
+pub(crate) fn every<S: Alter, T: ShownRow>(
     conn: &mut Connection<S>,
     alloc: Global,
     text: &str,

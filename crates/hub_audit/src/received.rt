@@ -11,7 +11,10 @@ use sqlite::types::ValueRef;
 use sqlite::{Alter, Connection};
 
 /// Whether a pallet with the SSCC was received.
-pub(crate) fn received<S: Alter>(conn: &mut Connection<S>, sscc: &Sscc) -> Result<bool, StoreFault>
+pub(crate) fn has_received_pallet<S: Alter>(
+    conn: &mut Connection<S>,
+    sscc: &Sscc,
+) -> Result<bool, StoreFault>
     ensures { LooksFor (λ t received. received ≡ was_received t sscc.now) Never
         (state S.Store conn.old) (state S.Store conn.new) result }
 {

@@ -25,13 +25,13 @@ use Rattle.hub_law.specs.CancelText.{cancel_text}
 use Rattle.hub_law.specs.Widths.{line}
 use Rattle.hub_clean.specs.Clean.{WithinCancel}
 
-abbrev pub Bytes : List ℕ → Type 0
-Bytes = AllByRecursion (λ b. b < 256)
+abbrev pub AreBytes : List ℕ → Type 0
+AreBytes = AllByRecursion (λ b. b < 256)
 
 -- a segment that consists of bytes
 pub record ByteSegment (segment : Segment) : Type 0 where
-  pub tag : Bytes segment.tag
-  pub elements : AllByRecursion (AllByRecursion Bytes) segment.elements
+  pub tag : AreBytes segment.tag
+  pub elements : AllByRecursion (AllByRecursion AreBytes) segment.elements
 
 -- Lists.
 
@@ -64,7 +64,7 @@ module _ {X : Type 0} (P : X → Type 0) where
   all_at (x ∷ xs) zero d all none = all.0
   all_at (x ∷ xs) (suc i) d all none = all_at xs i d all.1 none
 
-bytes_flat : {X : Type 0} (f : X → List ℕ) (xs : List X) → AllByRecursion (λ x. Bytes (f x)) xs → Bytes (flat_map f xs)
+bytes_flat : {X : Type 0} (f : X → List ℕ) (xs : List X) → AllByRecursion (λ x. AreBytes (f x)) xs → AreBytes (flat_map f xs)
 bytes_flat f [] all = tt
 bytes_flat f (x ∷ xs) all = all_append (λ b. b < 256) (f x) (flat_map f xs) all.0 (bytes_flat f xs all.1)
 
@@ -72,50 +72,51 @@ all_each : {X : Type 0} (P Q : X → Type 0) → ((x : X) → P x → Q x) → (
 all_each P Q f [] all = tt
 all_each P Q f (x ∷ xs) all = (f x all.0, all_each P Q f xs all.1)
 
-pub are : (bytes : List ℕ) → Bytes bytes → are_bytes bytes ≡ true
+pub are : (bytes : List ℕ) → AreBytes bytes → are_bytes bytes ≡ true
 are [] all = refl
 are (b ∷ bytes) all = and_from _ _ (lt-ltb b 256 all.0) (are bytes all.1)
 
 -- Canonical texts.
 
-byte_written : (b : ℕ) → b < 256 → Bytes (byte_text b)
-byte_written b h = elim (is_usual b) as (λ v. Bytes (cond v (63 ∷ b ∷ []) (b ∷ []))) [
+byte_written : (b : ℕ) → b < 256 → AreBytes (byte_text b)
+byte_written b h = elim (is_usual b) as (λ v. AreBytes (cond v (63 ∷ b ∷ []) (b ∷ []))) [
   | true ↦ (omega arith, (h, tt))
   | false ↦ (h, tt)
 ]
 
-component_written : (component : List ℕ) → Bytes component → Bytes (component_text component)
+component_written : (component : List ℕ) → AreBytes component → AreBytes (component_text component)
 component_written component all =
-    bytes_flat byte_text component (all_each (λ b. b < 256) (λ b. Bytes (byte_text b)) byte_written component all)
+    bytes_flat byte_text component (all_each (λ b. b < 256) (λ b. AreBytes (byte_text b)) byte_written component all)
 
-components_written : (components : List (List ℕ)) → AllByRecursion Bytes components → Bytes (components_text components)
+components_written : (components : List (List ℕ)) → AllByRecursion AreBytes components → AreBytes (components_text components)
 components_written [] all = tt
 components_written (first ∷ others) all =
     all_append (λ b. b < 256) (component_text first) _ (component_written first all.0)
     (bytes_flat (λ component. 58 ∷ component_text component) others
-    (all_each Bytes (λ component. Bytes (58 ∷ component_text component)) (λ c h. (omega arith, component_written c h)) others all.1))
+    (all_each AreBytes (λ component. AreBytes (58 ∷ component_text component)) (λ c h. (omega arith, component_written c h)) others all.1))
 
-segment_written : (segment : Segment) → ByteSegment segment → Bytes (segment_text segment)
+segment_written : (segment : Segment) → ByteSegment segment → AreBytes (segment_text segment)
 segment_written segment h =
     let elements = bytes_flat element_text segment.elements
-    (all_each (AllByRecursion Bytes) (λ components. Bytes (element_text components)) (λ cs h. (omega arith, components_written cs h))
+    (all_each (AllByRecursion AreBytes) (λ components. AreBytes (element_text components)) (λ cs h. (omega arith, components_written cs h))
     segment.elements h.elements) in
-    let end : Bytes (39 ∷ []) = (omega arith, tt) in
+    let end : AreBytes (39 ∷ []) = (omega arith, tt) in
     all_append (λ b. b < 256) (segment.tag ++ flat_map element_text segment.elements) _
     (all_append (λ b. b < 256) segment.tag _ h.tag elements) end
 
 pub text_written : (segments : List Segment) → AllByRecursion ByteSegment segments → are_bytes (text segments) ≡ true
 text_written segments all =
-    are (text segments) (bytes_flat segment_text segments (all_each ByteSegment (λ s. Bytes (segment_text s)) segment_written segments all))
+    are (text segments) (bytes_flat segment_text segments (all_each ByteSegment (λ s. AreBytes (segment_text s)) segment_written segments
+    all))
 
 -- References.
 
-one_written : (elements : List (List (List ℕ))) (place : ℕ) → AllByRecursion (AllByRecursion Bytes) elements
-    → AllByRecursion (AllByRecursion Bytes) (with_one elements place)
+one_written : (elements : List (List (List ℕ))) (place : ℕ) → AllByRecursion (AllByRecursion AreBytes) elements
+    → AllByRecursion (AllByRecursion AreBytes) (with_one elements place)
 one_written elements place all =
-    let one : Bytes (codes "1") = (omega arith, tt) in
-    all_set (AllByRecursion Bytes) elements place _ all
-    (all_set Bytes (element_at elements place) 0 (codes "1") (all_at (AllByRecursion Bytes) elements place [] all tt) one)
+    let one : AreBytes (codes "1") = (omega arith, tt) in
+    all_set (AllByRecursion AreBytes) elements place _ all
+    (all_set AreBytes (element_at elements place) 0 (codes "1") (all_at (AllByRecursion AreBytes) elements place [] all tt) one)
 
 renumbered_is : (segment : Segment) → ByteSegment segment → ByteSegment (renumbered segment)
 renumbered_is segment h =
@@ -145,17 +146,17 @@ each_is R P spelled (x ∷ xs) f e = (f e.0 x e.3, each_is R P e.1 xs f e.4)
 data_small : (b : ℕ) → is_data b ≡ true → b < 256
 data_small b h = grind (arith, nat_tests)
 
-component_spelled : (s : Service) (part component : List ℕ) → SpellsComponent s part component → Bytes component
+component_spelled : (s : Service) (part component : List ℕ) → SpellsComponent s part component → AreBytes component
 component_spelled s part component e =
     each_is (SpellsByte s) (λ b. b < 256) part component (λ part b h. data_small b h.0) e
 
 element_spelled : (s : Service) (part : List ℕ) (components : List (List ℕ))
     → Behind s.element (SpellsElement s) part components
-    → AllByRecursion Bytes components
+    → AllByRecursion AreBytes components
 element_spelled s part components e =
     let inner = e.2 in
-    subst (AllByRecursion Bytes) (sym inner.components_are) (all_push Bytes inner.closed inner.last
-    (each_is (Before s.component (SpellsComponent s)) Bytes inner.front inner.closed
+    subst (AllByRecursion AreBytes) (sym inner.components_are) (all_push AreBytes inner.closed inner.last
+    (each_is (Before s.component (SpellsComponent s)) AreBytes inner.front inner.closed
     (λ (t : List ℕ) (c : List ℕ) (h : Before s.component (SpellsComponent s) t c). component_spelled s h.0 c h.2)
     inner.front_spells)
     (component_spelled s inner.back inner.last inner.back_spells))
@@ -171,12 +172,12 @@ end_keeps P [] ps = tt
 end_keeps P (x ∷ xs) ps = others_keep P x (without_empty_end xs) ps.0 (end_keeps P xs ps.1)
 
 ends_keep : (written : List (List (List ℕ)))
-    → AllByRecursion (AllByRecursion Bytes) written
-    → AllByRecursion (AllByRecursion Bytes) (map without_empty_end written)
+    → AllByRecursion (AllByRecursion AreBytes) written
+    → AllByRecursion (AllByRecursion AreBytes) (map without_empty_end written)
 ends_keep [] ps = tt
-ends_keep (w ∷ ws) ps = (end_keeps Bytes w ps.0, ends_keep ws ps.1)
+ends_keep (w ∷ ws) ps = (end_keeps AreBytes w ps.0, ends_keep ws ps.1)
 
-tag_small : (tag : List ℕ) → IsTag tag → Bytes tag
+tag_small : (tag : List ℕ) → IsTag tag → AreBytes tag
 tag_small [] h = absurd h
 tag_small (a ∷ []) h = absurd h
 tag_small (a ∷ b ∷ []) h = absurd h
@@ -196,12 +197,13 @@ tag_small (a ∷ b ∷ c ∷ d ∷ rest) h = absurd h
 next_spelled : (s : Service) (part : List ℕ) (segment : Segment) → SpellsNext s part segment → ByteSegment segment
 next_spelled s part segment h =
     let e = h.4 in
-    let written = each_is (Behind s.element (SpellsElement s)) (AllByRecursion Bytes) e.body e.written (element_spelled s) e.body_spells in
+    let written =
+    each_is (Behind s.element (SpellsElement s)) (AllByRecursion AreBytes) e.body e.written (element_spelled s) e.body_spells in
     record {
       tag = tag_small segment.tag e.tag_is;
       elements =
-          subst (AllByRecursion (AllByRecursion Bytes)) (sym e.elements_are)
-          (end_keeps (AllByRecursion Bytes) (map without_empty_end e.written) (ends_keep e.written written));
+          subst (AllByRecursion (AllByRecursion AreBytes)) (sym e.elements_are)
+          (end_keeps (AllByRecursion AreBytes) (map without_empty_end e.written) (ends_keep e.written written));
     }
 
 pub spelled_bytes : (bytes : List ℕ) (s : Service) (segments : List Segment) → Spells bytes s segments → AllByRecursion ByteSegment segments
@@ -209,7 +211,7 @@ spelled_bytes bytes s segments e = each_is (SpellsNext s) ByteSegment e.whole.bo
 
 -- Cancellations.
 
-tested_bytes : (p : ℕ → Bool) → ((b : ℕ) → p b ≡ true → b < 256) → (bytes : List ℕ) → list_all p bytes ≡ true → Bytes bytes
+tested_bytes : (p : ℕ → Bool) → ((b : ℕ) → p b ≡ true → b < 256) → (bytes : List ℕ) → list_all p bytes ≡ true → AreBytes bytes
 tested_bytes p f [] h = tt
 tested_bytes p f (b ∷ bytes) h = let parts = and_parts (p b) (list_all p bytes) h in (f b parts.0, tested_bytes p f bytes parts.1)
 
@@ -219,12 +221,12 @@ printable_small b h = grind (arith, nat_tests)
 digit_small : (b : ℕ) → is_ascii_digit b ≡ true → b < 256
 digit_small b h = grind (arith, nat_tests)
 
-decimal_bytes : (n : ℕ) → n ≤ 999_999_999 → Bytes (decimal n)
+decimal_bytes : (n : ℕ) → n ≤ 999_999_999 → AreBytes (decimal n)
 decimal_bytes n small =
-    decimal_by_steps (λ n ds. Bytes ds) (λ n h. (omega arith, tt))
+    decimal_by_steps (λ n ds. AreBytes ds) (λ n h. (omega arith, tt))
     (λ n ds h d. all_append (λ b. b < 256) ds ((48 + n % 10) ∷ []) d (omega arith, tt)) n (omega (arith, small))
 
-line_bytes : (field : List ℕ) → Bytes field → Bytes (line (field ∷ []))
+line_bytes : (field : List ℕ) → AreBytes field → AreBytes (line (field ∷ []))
 line_bytes field h = all_append (λ b. b < 256) field (0x0A ∷ []) h (omega arith, tt)
 
 pub cancel_bytes : (cancel : Cancel) → is_gln cancel.supplier ≡ true → WithinCancel cancel → are_bytes (cancel_text cancel) ≡ true

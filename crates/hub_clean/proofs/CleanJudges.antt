@@ -31,7 +31,7 @@ use Rattle.hub_tables.specs.Rows.{same}
 use Rattle.hub_tables.specs.State.{knows_order, knows_advice, lines_of, line_of, despatched, waits, pallet_of}
 use Rattle.hub_tables.specs.State.{is_announced, remembered_of}
 use Rattle.hub_tables.specs.Tables.{Tables, has_pallet}
-use Rattle.hub_tables.specs.declared.cases.Answered.TheVariants as answers
+use Rattle.hub_tables.specs.declared.cases.LineState.TheVariants as answers
 use Rattle.hub_tables.specs.declared.cases.Arrival.TheVariants.{Announced}
 use Rattle.hub_tables.specs.declared.cases.MailKind.{MailKind}
 use Rattle.hub_tables.specs.declared.cases.MailKind.TheVariants as kinds
@@ -69,7 +69,7 @@ use Rattle.hub_rules.proofs.Totalled.{all_gtins}
 use Rattle.hub_clean.specs.Clean.{WithinIncoming, WithinOrderLine, WithinOrder, WithinUnit, WithinDespatch}
 use Rattle.hub_clean.specs.Clean.{WithinReceiptLine, WithinReceiptUnit, WithinReceipt}
 use Rattle.hub_clean.proofs.CleanRows.{CleanRows, CleanChange}
-use Rattle.hub_clean.proofs.CleanVerdicts.{Clean, Cleans, accepted, cleans_rest, cleans_in_order}
+use Rattle.hub_clean.proofs.CleanVerdicts.{CleanChanges, Cleans, accepted, cleans_rest, cleans_in_order}
 
 le_true : (a b : ℕ) → a ≤ b → nat_le a b ≡ true
 le_true a b h = grind (arith, nat_tests)
@@ -149,7 +149,7 @@ module _ (s : SupplierRow) (gln : is_gln s.gln ≡ true) where
 
   clean_new_lines : (number : List ℕ) (lines : List OrderLine) → is_number number ≡ true
       → AllByRecursion WithinOrderLine lines →
-      Clean (map (new_line s.gln number) lines)
+      CleanChanges (map (new_line s.gln number) lines)
   clean_new_lines number [] named all = tt
   clean_new_lines number (line ∷ lines) named all =
       (clean_new_line number line named all.0, clean_new_lines number lines named all.1)
@@ -252,7 +252,7 @@ cleans_answer order said state changes rows h =
 
 all_answered : (answer : LineAnswer) → ((line : LineRow) → is_out_of_range answer 0 line ≡ false) →
     (lines : List LineRow) →
-    AllByRecursion (λ line. clean_line line ≡ true) lines → Clean (map (λ line. SetLine (answered answer 0 line)) lines)
+    AllByRecursion (λ line. clean_line line ≡ true) lines → CleanChanges (map (λ line. SetLine (answered answer 0 line)) lines)
 all_answered answer range [] all = tt
 all_answered answer range (line ∷ lines) all =
     (clean_answered line all.0 answer 0 (range line), all_answered answer range lines all.1)
@@ -409,7 +409,7 @@ module _ (s : SupplierRow) (gln : is_gln s.gln ≡ true) where
 module _ (unit : ReceiptUnit) (within : WithinReceiptUnit unit) where
   clean_receipts : (items : List (List ℕ)) → AllByRecursion
       (λ gtin. CleanChange (new_receipt unit.sscc unit.lines gtin)) items →
-      Clean (map (new_receipt unit.sscc unit.lines) items)
+      CleanChanges (map (new_receipt unit.sscc unit.lines) items)
   clean_receipts [] all = tt
   clean_receipts (item ∷ items) all = (all.0, clean_receipts items all.1)
 
@@ -433,7 +433,7 @@ module _ (unit : ReceiptUnit) (within : WithinReceiptUnit unit) where
       arrived true = refl
       arrived false = refl
 
-  clean_cleared : (replaces : Bool) (later : List Change) → Clean later → Clean (cleared replaces unit.sscc ++ later)
+  clean_cleared : (replaces : Bool) (later : List Change) → CleanChanges later → CleanChanges (cleared replaces unit.sscc ++ later)
   clean_cleared true later clean = (tt, clean)
   clean_cleared false later clean = clean
 

@@ -59,16 +59,16 @@ Clean t = are_clean t ≡ true
 
 -- Uploads that are opened.
 
-abbrev Sent : RawMessage × IncomingMessage → Type 0
-Sent sent = WithinMessage sent.0 sent.1
+abbrev WithinSent : RawMessage × IncomingMessage → Type 0
+WithinSent sent = WithinMessage sent.0 sent.1
 
 abbrev AllSent : ℕ → Opened → Type 0
-AllSent moment (Ok i) = AllByRecursion Sent (messages_at moment i)
+AllSent moment (Ok i) = AllByRecursion WithinSent (messages_at moment i)
 AllSent moment (Err code) = Unit {0}
 
 each_sent : (moment : ℕ) (i : Interchange) (messages : List RawMessage)
     → ((message : RawMessage) → Has messages message → WithinMessage message (incoming moment i message))
-    → AllByRecursion Sent (map (λ message. (message, incoming moment i message)) messages)
+    → AllByRecursion WithinSent (map (λ message. (message, incoming moment i message)) messages)
 each_sent moment i [] f = tt
 each_sent moment i (message ∷ messages) f =
     (f message (inl refl), each_sent moment i messages (λ other there. f other (inr there)))
@@ -92,9 +92,9 @@ sent_to moment caller recipients (Ok i) all =
           [ true ↦ all | false ↦ tt ]
     ]
 
-sent_looked_at : (moment : ℕ) (mark : Mark) (o : Opened) → AllSent moment o → AllByRecursion Sent (looked_at moment mark o)
+sent_looked_at : (moment : ℕ) (mark : Mark) (o : Opened) → AllSent moment o → AllByRecursion WithinSent (looked_at moment mark o)
 sent_looked_at moment mark (Err code) all = tt
-sent_looked_at moment mark (Ok i) all = all_take Sent (acts_done mark (length i.messages)) (messages_at moment i) all
+sent_looked_at moment mark (Ok i) all = all_take WithinSent (acts_done mark (length i.messages)) (messages_at moment i) all
 
 -- Acts.
 
@@ -119,7 +119,7 @@ either_replies false one other first second = second
 
 module _ (register : RegisterRows) (right : IsRegister register) where
   retailers_clean : (sent : RawMessage × IncomingMessage) (t : Tables)
-      → Sent sent
+      → WithinSent sent
       → Sound register.suppliers t
       → Clean t
       → Clean (deliver_named register sent t).1
@@ -143,7 +143,7 @@ module _ (register : RegisterRows) (right : IsRegister register) where
       clean)
 
   all_retailers_clean : (sents : List (RawMessage × IncomingMessage)) (t : Tables)
-      → AllByRecursion Sent sents
+      → AllByRecursion WithinSent sents
       → Sound register.suppliers t
       → Clean t
       → Clean (in_row (deliver_named register) sents t).1
@@ -155,7 +155,7 @@ module _ (register : RegisterRows) (right : IsRegister register) where
 
   module _ (s : SupplierRow) (known : supplier_row register.suppliers s.gln ≡ Some s) where
     suppliers_clean : (sent : RawMessage × IncomingMessage) (t : Tables)
-        → Sent sent
+        → WithinSent sent
         → Sound register.suppliers t
         → Clean t
         → Clean (deliver_suppliers (view s.gln) (parties_of register) s sent t).1
@@ -172,7 +172,7 @@ module _ (register : RegisterRows) (right : IsRegister register) where
         clean)
 
     all_suppliers_clean : (sents : List (RawMessage × IncomingMessage)) (t : Tables)
-        → AllByRecursion Sent sents
+        → AllByRecursion WithinSent sents
         → Sound register.suppliers t
         → Clean t
         → Clean (in_row (deliver_suppliers (view s.gln) (parties_of register) s) sents t).1

@@ -32,29 +32,29 @@ use Rattle.hub_clean.proofs.Joined.{changes_are}
 use Rattle.hub_clean.proofs.CleanRows.{CleanRows, CleanChange, clean_all, clean_rows, clean_view, rows_clean}
 
 -- all changes are of clean rows
-abbrev pub Clean : List Change → Type 0
-Clean changes = AllByRecursion CleanChange changes
+abbrev pub CleanChanges : List Change → Type 0
+CleanChanges changes = AllByRecursion CleanChange changes
 
 abbrev pub Cleans : Judge → Type 0
-Cleans judge = (state : Tables) (changes : List Change) → CleanRows state → judge state ≡ Accept changes → Clean changes
+Cleans judge = (state : Tables) (changes : List Change) → CleanRows state → judge state ≡ Accept changes → CleanChanges changes
 
-pub accepted : (given changes : List Change) → ◌≡◌ {A = Verdict} (Accept given) (Accept changes) → Clean given → Clean changes
-accepted given changes h clean = let e : given ≡ changes = cc in subst Clean e clean
+pub accepted : (given changes : List Change) → ◌≡◌ {A = Verdict} (Accept given) (Accept changes) → CleanChanges given → CleanChanges changes
+accepted given changes h clean = let e : given ≡ changes = cc in subst CleanChanges e clean
 
-both_clean : (a b : List Change) → Clean a → Clean b → Clean (a ++ b)
+both_clean : (a b : List Change) → CleanChanges a → CleanChanges b → CleanChanges (a ++ b)
 both_clean [] b first second = second
 both_clean (change ∷ changes) b first second = (first.0, both_clean changes b first.1 second)
 
 -- the given changes, then what a judge decides on what they left
-pub cleans_rest : (first : List Change) (second : Judge) (state : Tables) (changes : List Change) → CleanRows state → Clean first →
-    Cleans second → in_turn (gives first) second state ≡ Accept changes → Clean changes
+pub cleans_rest : (first : List Change) (second : Judge) (state : Tables) (changes : List Change) → CleanRows state → CleanChanges first →
+    Cleans second → in_turn (gives first) second state ≡ Accept changes → CleanChanges changes
 cleans_rest first second state changes rows clean f h =
     let rest = joined_rest first (second (apply_all first state)) changes h in
-    subst Clean rest.2 (both_clean first rest.0 clean (f (apply_all first state) rest.0 (clean_all first state clean rows) rest.1))
+    subst CleanChanges rest.2 (both_clean first rest.0 clean (f (apply_all first state) rest.0 (clean_all first state clean rows) rest.1))
 
 cleans_in_turn : (first second : Judge) → Cleans first → Cleans second → Cleans (in_turn first second)
 cleans_in_turn first second f g state changes rows h =
-    elim (first state) as (λ v. first state ≡ v → goes_on v second state ≡ Accept changes → Clean changes) [
+    elim (first state) as (λ v. first state ≡ v → goes_on v second state ≡ Accept changes → CleanChanges changes) [
       | Refuse code ↦ λ e rest. cc
       | Accept a ↦ λ e rest. cleans_rest a second state changes rows (f state a rows e) g rest
     ] refl h
@@ -77,22 +77,23 @@ cleaned s t judge f h =
           (clean_view s.gln t rows) e) rows)
     ] refl
 
-clean_taking : (entry : MailRow) → clean_mail entry ≡ true → Clean (taking entry)
-clean_taking entry clean = elim (is_taken entry) as (λ v. Clean (cond v [] (SetMail (record entry { taken = truth_number true }) ∷ []))) [
-  | true ↦ tt
-  | false ↦
-      let a = and_parts (is_gln entry.supplier) _ clean in
-      let b = and_parts (is_within 1 last_number entry.number) _ a.1 in
-      let c = and_parts (nat_le entry.moment last_moment) _ b.1 in
-      let d = and_parts (is_decimal entry.decimal) _ c.1 in
-      let e = and_parts (is_kind entry.kind) _ d.1 in
-      let f = and_parts (is_number entry.document) _ e.1 in
-      let g = and_parts (are_bytes entry.body) (is_truth entry.taken) f.1 in (
-        and_from _ _ a.0 (and_from _ _ b.0 (and_from _ _ c.0 (and_from _ _ d.0
-            (and_from _ _ e.0 (and_from _ _ f.0 (and_from _ _ g.0 refl)))))),
-        tt,
-      )
-]
+clean_taking : (entry : MailRow) → clean_mail entry ≡ true → CleanChanges (taking entry)
+clean_taking entry clean =
+    elim (is_taken entry) as (λ v. CleanChanges (cond v [] (SetMail (record entry { taken = truth_number true }) ∷ []))) [
+      | true ↦ tt
+      | false ↦
+          let a = and_parts (is_gln entry.supplier) _ clean in
+          let b = and_parts (is_within 1 last_number entry.number) _ a.1 in
+          let c = and_parts (nat_le entry.moment last_moment) _ b.1 in
+          let d = and_parts (is_decimal entry.decimal) _ c.1 in
+          let e = and_parts (is_kind entry.kind) _ d.1 in
+          let f = and_parts (is_number entry.document) _ e.1 in
+          let g = and_parts (are_bytes entry.body) (is_truth entry.taken) f.1 in (
+            and_from _ _ a.0 (and_from _ _ b.0 (and_from _ _ c.0 (and_from _ _ d.0
+                (and_from _ _ e.0 (and_from _ _ f.0 (and_from _ _ g.0 refl)))))),
+            tt,
+          )
+    ]
 
 pub cleaned_taken : (gln : List ℕ) (number : ℕ) (t : Tables) (entry : MailRow) → are_clean t ≡ true →
     entry_at (view gln t) number ≡ Some entry → are_clean (apply_all (taking entry) t) ≡ true
@@ -107,13 +108,13 @@ cleaned_taken gln number t entry h found =
 clean_prefixes : (gln : List ℕ) (prefixes : List (List ℕ))
     → is_gln gln ≡ true
     → list_all is_prefix prefixes ≡ true
-    → Clean (prefix_changes gln prefixes)
+    → CleanChanges (prefix_changes gln prefixes)
 clean_prefixes gln [] right all = tt
 clean_prefixes gln (prefix ∷ prefixes) right all =
     let parts = and_parts (is_prefix prefix) (list_all is_prefix prefixes) all in
     (and_from _ _ parts.0 right, clean_prefixes gln prefixes right parts.1)
 
-clean_join : (row : SupplierRow) → is_join row ≡ true → Clean (row_changes row)
+clean_join : (row : SupplierRow) → is_join row ≡ true → CleanChanges (row_changes row)
 clean_join row may =
     let gln = and_parts (is_gln row.gln) (are_company_prefixes row.prefixes && is_party_key row.key) may in
     let both = and_parts (are_company_prefixes row.prefixes) (is_party_key row.key) gln.1 in
@@ -132,5 +133,5 @@ cleaned_join register row t may h =
     elim (judge_join register row) as (λ v. judge_join register row ≡ v → are_clean (changed v t) ≡ true) [
       | Refuse code ↦ λ e. h
       | Accept changes ↦ λ e. rows_clean (apply_all changes t) (clean_all changes t
-          (subst Clean (sym (changes_are register row changes e)) (clean_join row may)) (clean_rows t h))
+          (subst CleanChanges (sym (changes_are register row changes e)) (clean_join row may)) (clean_rows t h))
     ] refl

@@ -7,13 +7,13 @@ use Rattle.edi_base.specs.declared.source.ReadFault.{ReadFault}
 use Rattle.edi_base.specs.declared.source.ReadFault.TheVariants.{Read, Memory}
 use Rattle.edi_envelope.specs.Opened.{opened, Opens}
 use Rattle.edi_segments.specs.declared.fault.TokenFault.TheVariants as token
-use Rattle.edi_envelope.specs.Gathered.{Flagged}
+use Rattle.edi_envelope.specs.Gathered.{OpenFaultHasCause}
 use Rattle.edi_envelope.specs.declared.fault.OpenFault.{OpenFault}
 use Rattle.edi_envelope.specs.declared.fault.OpenFault.TheVariants.{Token}
 use Rattle.edi_envelope.specs.declared.interchange.Interchange.{Interchange}
 use Rattle.hub_requests.specs.declared.reply.Reply.{Reply}
 use Rattle.hub_commands.specs.Files.{Gave, FaultComesOf, OpensSource, IsCalled, FileRead, IsUnread, HasFailed}
-use Rattle.hub_commands.specs.Import.{Looked, Answered, Unread, NoMemory, Of, WasGiven, ImportEnds, ImportBrokenOff}
+use Rattle.hub_commands.specs.Import.{Looked, Answered, Unread, NoMemory, ComesOf, WasGiven, ImportEnds, ImportBrokenOff}
 use Rattle.hub_commands.specs.Import.{file_line}
 use Rattle.hub_commands.specs.OneFile.{FileDone, Comes, ReplyComes, FaultComes}
 use Rattle.hub_commands.specs.Output.{Written, Lost}
@@ -37,11 +37,11 @@ fault_given name Memory = tt
 -- the source of an upload whose read failed
 pub read_failed : {B : Type 0} (origin : B → ℕ) (failed : B → Bool) (source later : B) (upload : Result Interchange OpenFault)
     → origin later ≡ origin source
-    → Flagged upload (failed source) (failed later)
+    → OpenFaultHasCause upload (failed source) (failed later)
     → upload ≡ Err (Token token.Read)
     → HasFailed origin failed source
 read_failed origin failed source later upload same flag is =
-    (later, same, subst (λ (u : Result Interchange OpenFault). Flagged u (failed source) (failed later)) is flag)
+    (later, same, subst (λ (u : Result Interchange OpenFault). OpenFaultHasCause u (failed source) (failed later)) is flag)
 
 module _ {B : Type 0} (remaining : B → Option (List ℕ)) (broken : B → Type 0) where
   -- the bytes of a source that was opened
@@ -58,7 +58,7 @@ module _ {B : Type 0} (remaining : B → Option (List ℕ)) (broken : B → Type
   pub of_read : (file : NextFile B) (named : NamedFile B) (upload : Result Interchange OpenFault) (reply : Reply)
       → file ≡ Named named
       → (opens : OpensSource remaining named.source upload)
-      → Of remaining broken file (Answered (string_bytes named.name) (bytes_of named.source upload opens) reply)
+      → ComesOf remaining broken file (Answered (string_bytes named.name) (bytes_of named.source upload opens) reply)
   of_read file named upload reply e opens =
       subst (λ (f : NextFile B). FileRead remaining f (string_bytes named.name) (bytes_of named.source upload opens)) (sym e)
       (refl, gave named.source upload opens)
@@ -105,7 +105,7 @@ module _ {B : Type 0} (remaining : B → Option (List ℕ)) (broken : B → Type
 
   pub of_unread : (file : NextFile B) (named : NamedFile B) (fault : ReadFault) → file ≡ Named named
       → FaultComesOf broken named.source fault
-      → Of remaining broken file (of_fault (string_bytes named.name) fault)
+      → ComesOf remaining broken file (of_fault (string_bytes named.name) fault)
   of_unread file named Read e comes =
       subst (λ (f : NextFile B). IsUnread broken f (string_bytes named.name)) (sym e) (refl, comes)
   of_unread file named Memory e comes = is_called file named e

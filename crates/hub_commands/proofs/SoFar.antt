@@ -12,7 +12,7 @@ use Rattle.hub_requests.specs.declared.request.Input.{Input}
 use Rattle.edi_base.specs.declared.source.ReadFault.{ReadFault}
 use Rattle.edi_base.specs.declared.source.ReadFault.TheVariants.{Read, Memory}
 use Rattle.hub_commands.specs.Files.{Gave, FaultComesOf, GivenAs, GivesFile}
-use Rattle.hub_commands.specs.Import.{Looked, Answered, Unread, NoMemory, Unprinted, Of, TakesFiles, ImportGoesOn, ImportEnds}
+use Rattle.hub_commands.specs.Import.{Looked, Answered, Unread, NoMemory, Unprinted, ComesOf, TakesFiles, ImportGoesOn, ImportEnds}
 use Rattle.hub_commands.specs.Import.{Imported, StillCome, WasGiven}
 use Rattle.hub_commands.specs.Import.{uploads, replies, import_text, greatest, line_of, text_of, file_status}
 use Rattle.hub_commands.specs.Import as looked_at
@@ -28,7 +28,7 @@ pub record Taken {B : Type 0} (remaining : B → Option (List ℕ)) (broken : B 
   pub taken : IfSome known (λ files. TakesFiles remaining broken files looked others × (rest ≡ Some others))
 
 -- the import goes on after all files that were looked at
-pub record SoFar {B : Type 0} (remaining : B → Option (List ℕ)) (broken : B → Type 0) (Runs : List Input → List Reply → Type 0)
+pub record ImportSoFar {B : Type 0} (remaining : B → Option (List ℕ)) (broken : B → Type 0) (Runs : List Input → List Reply → Type 0)
     (asked : List ℕ → Input) (known rest : Option (List (NextFile B))) (old new : Option (List ℕ)) (failed after : Bool)
     (status : ℕ) : Type 0 where
   pub looked : List Looked
@@ -66,7 +66,7 @@ read_not_memory e = absurd cc
 module _ {B : Type 0} (remaining : B → Option (List ℕ)) (broken : B → Type 0) where
   takes_more : (files : List (NextFile B)) (looked : List Looked) (file : NextFile B) (one : Looked) (others : List (NextFile B))
       → TakesFiles remaining broken files looked (file ∷ others)
-      → Of remaining broken file one
+      → ComesOf remaining broken file one
       → TakesFiles remaining broken files (looked ++ one ∷ []) others
   takes_more files [] file one others takes is =
       subst (λ (fs : List (NextFile B)). TakesFiles remaining broken fs (one ∷ []) others) (sym takes) (is, refl)
@@ -85,7 +85,8 @@ module _ {B : Type 0} (remaining : B → Option (List ℕ)) (broken : B → Type
   unread_is (inl e) comes = absurd (read_not_memory (subst (λ (s : Result B ReadFault). FaultComesOf broken s Read) e comes))
   unread_is (inr e) comes = subst (λ (s : Result B ReadFault). FaultComesOf broken s Read) e comes
 
-  given_is : (file given : NextFile B) (one : Looked) → GivenAs file given → Of remaining broken given one → Of remaining broken file one
+  given_is : (file given : NextFile B) (one : Looked) → GivenAs file given → ComesOf remaining broken given one
+      → ComesOf remaining broken file one
   given_is (Named file) (Named given) (Answered name bytes reply) like is = (sym like.0 ∙ is.0, source_is bytes like.1 is.1)
   given_is (Named file) (Named given) (Unread name) like is = (sym like.0 ∙ is.0, unread_is like.1 is.1)
   given_is (Named file) (Named given) looked_at.Unnamed like is = absurd cc
@@ -125,7 +126,7 @@ module _ {B : Type 0} (remaining : B → Option (List ℕ)) (broken : B → Type
       → Taken remaining broken known rest looked
       → IfSome rest (λ files. (file : NextFile B) × (others : List (NextFile B)) × (files ≡ file ∷ others) × (later ≡ Some others)
       × GivenAs file given)
-      → Of remaining broken given one
+      → ComesOf remaining broken given one
       → Taken remaining broken known later (looked ++ one ∷ [])
   taken_more None rest later looked given one t gives is = record { others = []; taken = tt }
   taken_more (Some files) None later looked given one t gives is = absurd cc
@@ -209,7 +210,7 @@ module _ {B : Type 0} (remaining : B → Option (List ℕ)) (broken : B → Type
     (known : Option (List (NextFile B))) (old : Option (List ℕ)) (failed : Bool) where
   -- no file was looked at
   pub so_far_none : (Runs : List Input → List Reply → Type 0) → Runs [] []
-      → SoFar remaining broken Runs asked known known old old failed failed 0
+      → ImportSoFar remaining broken Runs asked known known old old failed failed 0
   so_far_none Runs ran = record {
     looked = [];
     files = taken_none remaining broken known;
@@ -222,7 +223,7 @@ module _ {B : Type 0} (remaining : B → Option (List ℕ)) (broken : B → Type
   -- all known files were looked at
   pub whole : (Runs : List Input → List Reply → Type 0) (rest left : Option (List (NextFile B))) (new : Option (List ℕ)) (after : Bool)
       (status : ℕ)
-      → SoFar remaining broken Runs asked known rest old new failed after status
+      → ImportSoFar remaining broken Runs asked known rest old new failed after status
       → IfSome rest (λ files. (files ≡ []) × (left ≡ Some []))
       → Imported remaining broken Runs asked known left old new failed after status
   whole Runs rest left new after status s none = record {
@@ -242,14 +243,15 @@ module _ {B : Type 0} (remaining : B → Option (List ℕ)) (broken : B → Type
 
   -- and then one file more, over a sink and with a status
   module _ (Runs After : List Input → List Reply → Type 0) (rest later : Option (List (NextFile B))) (between new : Option (List ℕ))
-      (middle after : Bool) (status : ℕ) (s : SoFar remaining broken Runs asked known rest old between failed middle status) (one : Looked)
+      (middle after : Bool) (status : ℕ) (s : ImportSoFar remaining broken Runs asked known rest old between failed middle status)
+      (one : Looked)
       (ran : After (uploads asked (s.looked ++ one ∷ [])) (replies (s.looked ++ one ∷ []))) where
     pub so_far_more : Taken remaining broken known later (s.looked ++ one ∷ [])
         → ImportGoesOn one
         → Written between new middle after (text_of one)
         → (next given : ℕ) → next ≡ max status given
         → given ≡ file_status one
-        → SoFar remaining broken After asked known later old new failed after next
+        → ImportSoFar remaining broken After asked known later old new failed after next
     so_far_more files goes written next given is given_is = record {
       looked = s.looked ++ one ∷ [];
       files = files;

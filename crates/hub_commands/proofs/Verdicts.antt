@@ -7,7 +7,7 @@ use Rattle.hub_parties.specs.Rows.{RegisterRows}
 use Rattle.hub_register.specs.declared.fault.RegisterFault.{RegisterFault}
 use Rattle.hub_commands.specs.Check.{PrintsVerdict, verdict_line, verdict_status}
 use Rattle.hub_commands.specs.Output.{ReportsFile}
-use Rattle.edi_relay.specs.ErrorLines.{Tells}
+use Rattle.edi_relay.specs.ErrorLines.{WritesLine}
 use Rattle.hub_commands.proofs.RegisterTexts.{never_failed}
 
 module _ (verdict : Result RegisterRows RegisterFault) (status result : ℕ) (line : List ℕ) (old new : Option (List ℕ))
@@ -25,7 +25,7 @@ module _ (verdict : Result RegisterRows RegisterFault) (status result : ℕ) (li
         | inr h ↦ absurd (ended h.0)
       ]
 
-  pub written : (failed ≡ was) ⊎ ((result ≡ 3) × Tells err_old err_new err_failed (codes "file\n"))
+  pub written : (failed ≡ was) ⊎ ((result ≡ 3) × WritesLine err_old err_new err_failed (codes "file\n"))
   written = elim told [ inl h ↦ inl h.1 | inr h ↦ inr (h.0, h.1.0) ]
 
   -- a verdict has no status of a failure, so the writer failed

@@ -6,8 +6,8 @@ use Rattle.edi_base.specs.declared.source.ReadFault.{ReadFault}
 use Rattle.edi_base.specs.declared.source.ReadFault.TheVariants as read
 use Rattle.edi_segments.specs.Spelling.{text_limit}
 use Rattle.hub_commands.specs.Output.{ReportsFile, ReportsMemory}
-use Rattle.hub_commands.specs.declared.check.TextFault.{TextFault}
-use Rattle.hub_commands.specs.declared.check.TextFault.TheVariants.{File, Memory}
+use Rattle.hub_commands.specs.declared.check.RegisterTextFault.{RegisterTextFault}
+use Rattle.hub_commands.specs.declared.check.RegisterTextFault.TheVariants.{File, Memory}
 use Rattle.hub_parties.specs.Rows.{RegisterRows}
 use Rattle.hub_register.specs.Text.{fault_text}
 use Rattle.hub_register.specs.declared.fault.RegisterFault.{RegisterFault}
@@ -36,12 +36,12 @@ pub record IsRegisterText (bytes : List ℕ) : Type 0 where
   pub utf8 : IsUtf8 bytes
 
 -- what a failed read of a text is reported as
-abbrev pub told_read_fault : ReadFault → TextFault
+abbrev pub told_read_fault : ReadFault → RegisterTextFault
 told_read_fault read.Read = File
 told_read_fault read.Memory = Memory
 
 -- what is printed if a text was not read
-abbrev pub text_fault_line : TextFault → List ℕ
+abbrev pub text_fault_line : RegisterTextFault → List ℕ
 text_fault_line File = codes "file"
 text_fault_line Memory = codes "memory"
 

@@ -25,12 +25,12 @@ pub data Looked : Type 0 where
   Unprinted : List ℕ → Looked
 
 -- that may come of the file
-abbrev pub Of : {B : Type 0} → (B → Option (List ℕ)) → (B → Type 0) → NextFile B → Looked → Type 0
-Of remaining broken file (Answered name bytes reply) = FileRead remaining file name bytes
-Of remaining broken file (Unread name) = IsUnread broken file name
-Of remaining broken file Unnamed = file ≡ files.Unnamed
-Of remaining broken file (NoMemory name) = IfSome name (IsCalled file)
-Of remaining broken file (Unprinted name) = IsCalled file name
+abbrev pub ComesOf : {B : Type 0} → (B → Option (List ℕ)) → (B → Type 0) → NextFile B → Looked → Type 0
+ComesOf remaining broken file (Answered name bytes reply) = FileRead remaining file name bytes
+ComesOf remaining broken file (Unread name) = IsUnread broken file name
+ComesOf remaining broken file Unnamed = file ≡ files.Unnamed
+ComesOf remaining broken file (NoMemory name) = IfSome name (IsCalled file)
+ComesOf remaining broken file (Unprinted name) = IsCalled file name
 
 -- each result is that of one of the first files, in order, and the rest still come
 abbrev pub TakesFiles : {B : Type 0} → (B → Option (List ℕ)) → (B → Type 0) → List (NextFile B) → List Looked
@@ -38,7 +38,7 @@ abbrev pub TakesFiles : {B : Type 0} → (B → Option (List ℕ)) → (B → Ty
 TakesFiles remaining broken files [] rest = files ≡ rest
 TakesFiles remaining broken [] (one ∷ looked) rest = ⊥
 TakesFiles remaining broken (file ∷ files) (one ∷ looked) rest =
-    Of remaining broken file one × TakesFiles remaining broken files looked rest
+    ComesOf remaining broken file one × TakesFiles remaining broken files looked rest
 
 -- it was given: memory did not give out before its name was known
 abbrev pub WasGiven : Looked → Type 0

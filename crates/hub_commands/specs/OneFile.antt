@@ -5,7 +5,7 @@ use Rattle.edi_base.specs.declared.source.ReadFault.TheVariants.{Read, Memory}
 use Rattle.hub_core.specs.HubLaw.Replies.{stopped_line}
 use Rattle.hub_requests.specs.declared.reply.Outcome.TheVariants.{Stopped}
 use Rattle.hub_requests.specs.declared.reply.Reply.{Reply}
-use Rattle.hub_commands.specs.Import.{Looked, Answered, Unread, Unnamed, NoMemory, Unprinted, Of, ImportGoesOn, ImportEnds}
+use Rattle.hub_commands.specs.Import.{Looked, Answered, Unread, Unnamed, NoMemory, Unprinted, ComesOf, ImportGoesOn, ImportEnds}
 use Rattle.hub_commands.specs.Import.{WasGiven, unread_line, text_of, file_status}
 use Rattle.hub_commands.specs.Output.{Written, Lost}
 use Rattle.hub_commands.specs.Replies.{status_of}
@@ -30,7 +30,7 @@ pub record LooksAt {B E : Type 0} (remaining : B → Option (List ℕ)) (broken 
     (Steps : List ℕ → Reply → Type 0) (Stays : Type 0) (file : NextFile B) (old new : Option (List ℕ))
     (failed after : Bool) (result : Result ℕ E) : Type 0 where
   pub one : Looked
-  pub is : Of remaining broken file one
+  pub is : ComesOf remaining broken file one
   pub given : WasGiven one
   pub did : FileDone Steps Stays one
   pub comes : Comes old new failed after one result

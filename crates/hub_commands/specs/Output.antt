@@ -2,7 +2,7 @@
 use Rattle.std.specs.Prelude.{◌≡◌, ◌⊎◌, ℕ, Bool, true, List, Option, IsTrue, codes}
 use Rattle.std.specs.Io.KnownBytes.{Appends, Keeps}
 use Rattle.edi_base.specs.Buffer.{AppendsFront}
-use Rattle.edi_relay.specs.ErrorLines.{Tells}
+use Rattle.edi_relay.specs.ErrorLines.{WritesLine}
 
 -- all of it, and no write failed
 pub record Written (old new : Option (List ℕ)) (failed after : Bool) (text : List ℕ) : Type 0 where
@@ -22,9 +22,9 @@ Prints old new failed after text status result =
 -- a write failed after a prefix of the text, and the error output says `file`
 abbrev pub ReportsFile : Option (List ℕ) → Option (List ℕ) → Bool → Option (List ℕ) → Option (List ℕ) → Bool → List ℕ → Type 0
 ReportsFile old new failed err_old err_new err_failed text =
-    Tells err_old err_new err_failed (codes "file\n") × (failed ≡ true) × AppendsFront old new text
+    WritesLine err_old err_new err_failed (codes "file\n") × (failed ≡ true) × AppendsFront old new text
 
 -- memory ran out, nothing was written, and the error output says `memory`
 abbrev pub ReportsMemory : Option (List ℕ) → Option (List ℕ) → Option (List ℕ) → Option (List ℕ) → Bool → Type 0
 ReportsMemory old new err_old err_new err_failed =
-    Tells err_old err_new err_failed (codes "memory\n") × Keeps old new
+    WritesLine err_old err_new err_failed (codes "memory\n") × Keeps old new

@@ -4,7 +4,7 @@ use Rattle.std.specs.Io.KnownBytes.{Appends, Keeps}
 use Rattle.edi_base.specs.Buffer.{AppendsFront}
 use Rattle.edi_show.specs.Shown.{shown_of, is_refused}
 use Rattle.edi_show.specs.Text.{shown_lines}
-use Rattle.edi_relay.specs.ErrorLines.{Tells}
+use Rattle.edi_relay.specs.ErrorLines.{WritesLine}
 use Rattle.edi_relay.specs.Run.{read_limit}
 use Rattle.hub_commands.specs.Output.{ReportsMemory}
 
@@ -31,6 +31,6 @@ ShowsFront known old new = IfSome known (λ bytes. AppendsFront old new (lines_s
 abbrev pub FailsToShow : Option (List ℕ) → Bool → Option (List ℕ) → Option (List ℕ) → Bool → Option (List ℕ) →
     Option (List ℕ) → Bool → Type 0
 FailsToShow known unread old new unwritten err_old err_new err_failed =
-    (Tells err_old err_new err_failed (codes "file\n")
+    (WritesLine err_old err_new err_failed (codes "file\n")
     × (((unread ≡ true) × Keeps old new) ⊎ ((unwritten ≡ true) × ShowsFront known old new)))
     ⊎ ReportsMemory old new err_old err_new err_failed

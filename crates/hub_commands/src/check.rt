@@ -18,14 +18,14 @@ use std::fmt;
 
 /// Why the text of a register was not read.
 #[derive(Clone, Copy, Debug)]
-pub enum TextFault {
+pub enum RegisterTextFault {
     /// The source failed, is longer than 1,048,576 bytes, or is not UTF-8.
     File,
     /// Out of memory.
     Memory,
 }
 
-impl fmt::Display for TextFault {
+impl fmt::Display for RegisterTextFault {
     ghost use Rattle.std.specs.Prelude.{Some};
     ghost use Rattle.hub_commands.specs.Check.{text_fault_line};
 
@@ -33,88 +33,91 @@ impl fmt::Display for TextFault {
 
     fn fmt<W: fmt::Write>(&self, f: &mut fmt::Formatter<W>) -> fmt::Result {
         match self {
-            TextFault::File => f.write_str("file"),
-            TextFault::Memory => f.write_str("memory"),
+            RegisterTextFault::File => f.write_str("file"),
+            RegisterTextFault::Memory => f.write_str("memory"),
         }
     }
 }
 
-impl Error for TextFault {}
+impl Error for RegisterTextFault {}
 
-impl From<ReadFault> for TextFault {
+impl From<ReadFault> for RegisterTextFault {
     ghost use Rattle.std.specs.Prelude.{◌≡◌};
     ghost use Rattle.hub_commands.specs.Check.{told_read_fault};
 
     ghost from_gives = { λ fault text. text ≡ told_read_fault fault };
 
-    fn from(fault: ReadFault) -> TextFault {
+    fn from(fault: ReadFault) -> RegisterTextFault {
         match fault {
-            ReadFault::Read => TextFault::File,
-            ReadFault::Memory => TextFault::Memory,
+            ReadFault::Read => RegisterTextFault::File,
+            ReadFault::Memory => RegisterTextFault::Memory,
         }
     }
 }
 
 /// Returns the text of a register: all that a source holds, if that is UTF-8 of at most 1,048,576 bytes. At most one
 /// byte more is read.
-pub fn read_register_text<R: Source>(alloc: Global, input: &mut R) -> Result<String, TextFault>
+pub fn read_register_text<R: Source>(
+    alloc: Global,
+    input: &mut R,
+) -> Result<String, RegisterTextFault>
     ensures taken { TakesAtMost (R.remaining input.old) (R.remaining input.new) read_limit }
     ensures text { IfOk result (λ text. IsRegisterText (string_bytes text)) }
     ensures whole { IfOk result (λ text.
         IfSome (R.remaining input.old) (λ bytes. bytes ≡ string_bytes text)) }
-    ensures file { result ≡ Err TextFault.File → (R.failed input.new ≡ true)
+    ensures file { result ≡ Err RegisterTextFault.File → (R.failed input.new ≡ true)
         ⊎ IfSome (R.remaining input.old) (λ bytes. ¬ IsRegisterText bytes) }
-    ensures kept { result ≢ Err TextFault.File → R.failed input.new ≡ R.failed input.old }
+    ensures kept { result ≢ Err RegisterTextFault.File → R.failed input.new ≡ R.failed input.old }
 {
     let bytes = read_to_limit(alloc, input, READ_LIMIT)?;
     if bytes.len() > TEXT_LIMIT {
-        return Err(TextFault::File);
+        return Err(RegisterTextFault::File);
     }
     match String::from_utf8(bytes) {
         Ok(text) => Ok(text),
-        Err(_) => Err(TextFault::File),
+        Err(_) => Err(RegisterTextFault::File),
     }
 }
 
 /// What is printed of a register or of a founding: a line, with the exit status.
 #[derive(Debug, Drop)]
-pub struct Verdict {
+pub struct CheckReport {
     /// The line, with its line end.
     pub line: String,
     /// The exit status.
     pub status: u8,
 }
 
-impl Verdict {
+impl CheckReport {
     /// Of a register: `ok N suppliers`, with status 0.
-    pub fn ok(alloc: Global, register: &Register) -> Result<Verdict, MemoryFault>
+    pub fn ok(alloc: Global, register: &Register) -> Result<CheckReport, MemoryFault>
         ensures line { IfOk result (λ verdict. string_bytes verdict.line ≡ verdict_line (Ok register.now)) }
         ensures status { IfOk result (λ verdict. verdict.status ≡ verdict_status (Ok register.now)) }
     {
         let count = register.supplier_count();
         let line = format!(in alloc; "ok {count} suppliers\n")?;
-        Ok(Verdict { line, status: DONE })
+        Ok(CheckReport { line, status: DONE })
     }
 
     /// Of a register's fault: `fault` and its name, with status 1.
-    pub fn of_fault(alloc: Global, fault: RegisterFault) -> Result<Verdict, MemoryFault>
+    pub fn of_fault(alloc: Global, fault: RegisterFault) -> Result<CheckReport, MemoryFault>
         ensures line { IfOk result (λ verdict. string_bytes verdict.line ≡ verdict_line (Err fault)) }
         ensures status { IfOk result (λ verdict. verdict.status ≡ verdict_status (Err fault)) }
     {
         let line = format!(in alloc; "fault {fault}\n")?;
-        Ok(Verdict {
+        Ok(CheckReport {
             line,
             status: REFUSED,
         })
     }
 
     /// Of a register that does not fit to the rows of a database: `fault rows`, with status 1.
-    pub fn of_rows(alloc: Global) -> Result<Verdict, MemoryFault>
+    pub fn of_rows(alloc: Global) -> Result<CheckReport, MemoryFault>
         ensures line { IfOk result (λ verdict. string_bytes verdict.line ≡ fault_line (codes "rows")) }
         ensures status { IfOk result (λ verdict. verdict.status ≡ 1) }
     {
         let line = format!(in alloc; "fault rows\n")?;
-        Ok(Verdict {
+        Ok(CheckReport {
             line,
             status: REFUSED,
         })
@@ -122,19 +125,19 @@ impl Verdict {
 }
 
 // Returns what the text of a register is.
-fn verdict_of(alloc: Global, text: &str) -> Result<Verdict, MemoryFault>
+fn verdict_of(alloc: Global, text: &str) -> Result<CheckReport, MemoryFault>
     ensures line { IfOk result (λ verdict. string_bytes verdict.line ≡ verdict_line (register_of text.now)) }
     ensures status { IfOk result (λ verdict. verdict.status ≡ verdict_status (register_of text.now)) }
 {
     match Register::from_toml(alloc, text) {
-        Ok(register) => Verdict::ok(alloc, &register),
+        Ok(register) => CheckReport::ok(alloc, &register),
         Err(RegisterFault::Memory) => Err(AllocError),
-        Err(fault) => Verdict::of_fault(alloc, fault),
+        Err(fault) => CheckReport::of_fault(alloc, fault),
     }
 }
 
 /// Writes a verdict to `out`. Returns its exit status; or 3 if the write failed, with the line `file` on `err`.
-pub fn print_verdict<W: Sink, E: Sink>(verdict: &Verdict, out: &mut W, err: &mut E) -> u8
+pub fn print_verdict<W: Sink, E: Sink>(verdict: &CheckReport, out: &mut W, err: &mut E) -> u8
     ensures told { PrintsVerdict (W.contents out.old) (W.contents out.new) (W.failed out.old) (W.failed out.new)
         (E.contents err.old) (E.contents err.new) (E.failed err.new)
         (string_bytes verdict.now.line) verdict.now.status result }

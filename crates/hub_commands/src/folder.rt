@@ -21,12 +21,12 @@ use std::{fs, io};
 pub struct Folder<'a, R> {
     system: &'a R,
     path: String,
-    names: Names,
+    names: FileNames,
 }
 
 // The names that still come.
 #[derive(Drop)]
-struct Names {
+struct FileNames {
     in_order: VecDeque<String>,
     // How many cannot be printed.
     unnamed: u64,
@@ -91,7 +91,10 @@ fn still_plain(found: io::Result<Metadata>) -> Result<(), ReadFault>
 }
 
 // Returns the names of the plain files of a folder. Nothing else is known of an entry whose name is not UTF-8.
-fn names_of<R: FileSystem + AllocGlobal + Clone + Drop>(system: &R, path: &str) -> io::Result<Names>
+fn names_of<R: FileSystem + AllocGlobal + Clone + Drop>(
+    system: &R,
+    path: &str,
+) -> io::Result<FileNames>
     ensures sorted { IfOk result (λ names. IsSorted string_cmp names.in_order.items) }
     ensures told { IfOk result (λ names. AreTold names.in_order.items) }
 {
@@ -117,7 +120,7 @@ fn names_of<R: FileSystem + AllocGlobal + Clone + Drop>(system: &R, path: &str) 
         }
     }
     names.sort()?;
-    Ok(Names {
+    Ok(FileNames {
         in_order: VecDeque::from(names),
         unnamed,
     })

@@ -23,30 +23,30 @@ use std::alloc::Global;
 const FAULT: &[u8] = b"fault\n";
 
 // The import ends before it comes to the next file.
-struct Ended;
+struct ImportEnded;
 
-impl From<WriteFault> for Ended {
-    fn from(_fault: WriteFault) -> Ended {
-        Ended
+impl From<WriteFault> for ImportEnded {
+    fn from(_fault: WriteFault) -> ImportEnded {
+        ImportEnded
     }
 }
 
 // Prints a reply, and answers its exit status.
-fn print_reply<W: Sink>(reply: &Reply, out: &mut W) -> Result<u8, Ended>
+fn print_reply<W: Sink>(reply: &Reply, out: &mut W) -> Result<u8, ImportEnded>
     ensures { ReplyComes (W.contents out.old) (W.contents out.new)
         (W.failed out.old) (W.failed out.new) reply.now
         result }
 {
     let status = reply_run(reply, out);
     if status == FAILED {
-        Err(Ended)
+        Err(ImportEnded)
     } else {
         Ok(status)
     }
 }
 
 // Prints why the bytes of a file are not known, and answers the exit status of the file.
-fn print_fault<W: Sink>(fault: ReadFault, out: &mut W) -> Result<u8, Ended>
+fn print_fault<W: Sink>(fault: ReadFault, out: &mut W) -> Result<u8, ImportEnded>
     ensures { FaultComes (W.contents out.old) (W.contents out.new)
         (W.failed out.old) (W.failed out.new) fault result }
 {
@@ -57,7 +57,7 @@ fn print_fault<W: Sink>(fault: ReadFault, out: &mut W) -> Result<u8, Ended>
         }
         ReadFault::Memory => {
             print(STOPPED, out)?;
-            Err(Ended)
+            Err(ImportEnded)
         }
     }
 }
@@ -77,7 +77,7 @@ fn unless_unread(
 }
 
 // Opens what is read from a source, one segment at a time; or why it was not read. A read that fails ends it.
-fn opened_from<B: Source + Drop>(
+fn open_source<B: Source + Drop>(
     alloc: Global,
     source: Result<B, ReadFault>,
 ) -> Result<Result<Interchange, OpenFault>, ReadFault>
@@ -102,7 +102,7 @@ fn import_file<S: Store, B: Source + Drop, W: Sink>(
     key: &[u8],
     file: NextFile<B>,
     out: &mut W,
-) -> Result<u8, Ended>
+) -> Result<u8, ImportEnded>
     ensures looks_at { LooksAt B.remaining (HasFailed B.origin B.failed)
         (λ bytes. StepsFrom S.Store hub.old hub.new (input_of moment caller.now key.now (Upload bytes)))
         (hub.new ≡ hub.old) file (W.contents out.old) (W.contents out.new)
@@ -118,7 +118,7 @@ fn import_file<S: Store, B: Source + Drop, W: Sink>(
     };
     let NamedFile { name, source } = file;
     print_file_line(name.as_str(), out)?;
-    match opened_from(alloc, source) {
+    match open_source(alloc, source) {
         Ok(upload) => {
             let reply = hub.step_opened(moment, caller, key, upload);
             print_reply(&reply, out)
@@ -165,7 +165,7 @@ pub fn import_run<S: Store, F: Files, W: Sink>(
         };
         match import_file(alloc, hub, moment, caller, key, file, out) {
             Ok(status) => greatest = greatest.max(status),
-            Err(Ended) => return FAILED,
+            Err(ImportEnded) => return FAILED,
         }
     }
 }

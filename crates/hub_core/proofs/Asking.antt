@@ -19,7 +19,7 @@ use Rattle.hub_law.specs.Stops.{opened_for}
 use Rattle.hub_law.specs.Told.{Act}
 use Rattle.hub_requests.specs.declared.reply.Reply.{Reply}
 use Rattle.hub_transactions.specs.Acts.{Stays, Carried, Unharmed, as_told}
-use Rattle.hub_core.specs.Steps.{Does, OneMore, Answered, AnsweredOrUndone, acts_of}
+use Rattle.hub_core.specs.Steps.{Does, OneMore, IsAnswered, AnsweredOrUndone, acts_of}
 
 module _ {S : Type 0} (g : Ghosts S) (old new : S) (count : ℕ)
     (does : Does) where
@@ -27,7 +27,7 @@ module _ {S : Type 0} (g : Ghosts S) (old new : S) (count : ℕ)
       → Stays g old new
       → (reply : Reply)
       → does Whole (g.content old) ≡ (reply, g.content old)
-      → Answered g old new count does reply
+      → IsAnswered g old new count does reply
   still h stays reply is = record {
     mark = Whole;
     is = is ∙ ap (λ t. (reply, t)) (sym (stays.content_stays h));
@@ -97,7 +97,7 @@ module _ {S : Type 0} (g : Ghosts S)
 
   pub upload_taken : (old new : S) (opened : Opened) (interchange : Interchange) (reply : Reply) → opened ≡ Ok interchange
       → (g.honest new
-      → Answered g old new (length interchange.messages)
+      → IsAnswered g old new (length interchange.messages)
       (λ mark t. uploaded deliver moment mark (Ok interchange) t) reply)
       → AskedOf old new opened reply
   upload_taken old new opened interchange reply is answered =

@@ -21,7 +21,7 @@ use Rattle.hub_core.specs.Callers.{delivered, addressed_by, request_of}
 use Rattle.hub_core.specs.Steps.{Does}
 use Rattle.hub_register.specs.declared.caller.Caller.{Caller}
 use Rattle.hub_register.specs.declared.caller.Caller.TheVariants.{Retailer, Supplier}
-use Rattle.hub_core.proofs.Callers.{Known, step_is}
+use Rattle.hub_core.proofs.Callers.{KnownCaller, step_is}
 
 pub where_some : {P : Type 0} (o : Option LastingFault) → P → IfSome o (λ _. P)
 where_some None p = tt
@@ -100,7 +100,7 @@ module _ (plain : Bool) (does : Does) (old : Option LastingFault) where
 -- each caller
 pub breaks_as : (plain : Bool) (register : RegisterRows) (input : Input) (old new : Option LastingFault) (caller : Caller)
     (result : Result Reply StoreFault)
-    → Known register input caller
+    → KnownCaller register input caller
     → BreaksAsked plain (request_of register caller input.moment input.request) old new result
     → BreaksAsked plain (does_input register input) old new result
 breaks_as plain register input old new caller result known breaks =

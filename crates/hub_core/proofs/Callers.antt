@@ -76,10 +76,10 @@ delivers register t here =
     )
 
 module _ (register : RegisterRows) (input : Input) where
-  abbrev pub Known : Caller → Type 0
-  Known caller = IsCaller register input.caller input.key caller
+  abbrev pub KnownCaller : Caller → Type 0
+  KnownCaller caller = IsCaller register input.caller input.key caller
 
-  pub may : (t : Tables) (caller : Caller) → Known caller → SoundWith register t → MayDeliver register caller t
+  pub may : (t : Tables) (caller : Caller) → KnownCaller caller → SoundWith register t → MayDeliver register caller t
   may t Retailer known here = delivers register t here
   may t (Supplier s) known here =
       let deliver = delivers register t here in (
@@ -92,7 +92,7 @@ module _ (register : RegisterRows) (input : Input) where
       )
 
   pub step_is : (caller : Caller)
-      → Known caller
+      → KnownCaller caller
       → (mark : Mark) (t : Tables)
       → request_of register caller input.moment input.request mark t ≡ step_under register t input mark
   step_is Retailer known mark t = sym (ap (λ role. step_as register role (row_of register input.caller) input mark t) known)
@@ -100,7 +100,7 @@ module _ (register : RegisterRows) (input : Input) where
       sym (ap (λ role. step_as register role (row_of register input.caller) input mark t) known.0
       ∙ ap (λ row. step_as register (Some roles.Supplier) row input mark t) known.1)
 
-  acts_are : (caller : Caller) → Known caller → acts_by register caller input.request ≡ acts_of (upload_of register input)
+  acts_are : (caller : Caller) → KnownCaller caller → acts_by register caller input.request ≡ acts_of (upload_of register input)
   acts_are Retailer known = sym (ap (λ role. acts_of (upload_by register role (row_of register input.caller) input.request)) known)
   acts_are (Supplier s) known =
       sym (ap (λ role. acts_of (upload_by register role (row_of register input.caller) input.request)) known.0
@@ -108,7 +108,7 @@ module _ (register : RegisterRows) (input : Input) where
 
   pub asked_as : {S : Type 0} (g : Ghosts S) (old new : S)
       (caller : Caller) (result : Result Reply StoreFault)
-      → Known caller
+      → KnownCaller caller
       → (MayDeliver register caller (g.content old)
       → AnsweredOrUndone g old new (acts_by register caller input.request)
       (request_of register caller input.moment input.request) result)

@@ -1,6 +1,6 @@
 -- Proves what opening an upload gives.
 use Rattle.std.proofs.Common.{◌≡◌, ◌≢◌, inl, inr, ℕ, List, Result, Ok, Err, refl, ap, ◌∙◌}
-use Rattle.edi_segments.specs.Reading.{tokens_of, Fails}
+use Rattle.edi_segments.specs.Reading.{tokens_of, GivesFault}
 use Rattle.edi_segments.specs.declared.fault.TokenFault.{TokenFault}
 use Rattle.edi_segments.specs.declared.fault.TokenFault.TheVariants as token
 use Rattle.edi_segments.specs.declared.segment.Tokens.{Tokens}
@@ -14,7 +14,7 @@ use Rattle.edi_envelope.specs.declared.interchange.Interchange.{Interchange}
 use Rattle.hub_law.specs.Opening.{told_as, interchange_in}
 use Rattle.hub_core.specs.Opened.{HasCode, Sufficed, RanOut}
 
-fails_is : (fault : TokenFault) (given : Result Tokens TokenFault) → (fault ≢ token.Memory) → Fails fault given → given ≡ Err fault
+fails_is : (fault : TokenFault) (given : Result Tokens TokenFault) → (fault ≢ token.Memory) → GivesFault fault given → given ≡ Err fault
 fails_is token.TooLong given not_memory fails = fails
 fails_is token.ServiceString given not_memory fails = fails
 fails_is token.Byte given not_memory fails = fails
@@ -25,7 +25,7 @@ fails_is token.Read given not_memory fails = fails
 fails_is token.Memory given not_memory fails = absurd (not_memory refl)
 
 -- the fault of an upload's bytes
-pub token_fault : (bytes : List ℕ) (fault : TokenFault) → HasCode (Token fault) → Fails fault (tokens_of bytes)
+pub token_fault : (bytes : List ℕ) (fault : TokenFault) → HasCode (Token fault) → GivesFault fault (tokens_of bytes)
     → interchange_in bytes ≡ told_as (Err (Token fault))
 unfolding interchange_in
 token_fault bytes fault has fails =

@@ -22,10 +22,10 @@ use Rattle.hub_core.specs.Steps.{OneMore}
 use Rattle.hub_core.specs.Uploads.{DoneSoFar}
 use Rattle.hub_rules.specs.declared.incoming.IncomingMessage.{IncomingMessage}
 
-abbrev pub Sent : Type 0
-Sent = RawMessage × IncomingMessage
+abbrev pub SentMessage : Type 0
+SentMessage = RawMessage × IncomingMessage
 
-abbrev pub sent_at : ℕ → Interchange → RawMessage → Sent
+abbrev pub sent_at : ℕ → Interchange → RawMessage → SentMessage
 sent_at moment interchange message = (message, incoming moment interchange message)
 
 in_row_more : {X : Type 0} (step : X → Act) (xs : List X) (x : X) (t : Tables)
@@ -55,7 +55,7 @@ lines_more (m ∷ messages) (t ∷ told) message one below is =
     ∙ sym (append_assoc (line (m.reference ∷ m.kind ∷ told_words t)) (message_lines messages told)
     (line (message.reference ∷ message.kind ∷ told_words one)))
 
-map_at_suc : (f : RawMessage → Sent) (messages : List RawMessage) (i : ℕ) (message : RawMessage)
+map_at_suc : (f : RawMessage → SentMessage) (messages : List RawMessage) (i : ℕ) (message : RawMessage)
     → i < length messages
     → message ≡ get_or messages i message
     → take (suc i) (map f messages) ≡ take i (map f messages) ++ f message ∷ []
@@ -63,14 +63,14 @@ map_at_suc f [] i message below is = absurd (omega arith)
 map_at_suc f (m ∷ messages) zero message below is = ap (λ (x : RawMessage). f x ∷ []) (sym is)
 map_at_suc f (m ∷ messages) (suc i) message below is = ap (λ xs. f m ∷ xs) (map_at_suc f messages i message (omega arith) is)
 
-map_at : (f : RawMessage → Sent) (messages : List RawMessage) (i : ℕ) (message : RawMessage)
+map_at : (f : RawMessage → SentMessage) (messages : List RawMessage) (i : ℕ) (message : RawMessage)
     → i < length messages
     → message ≡ get_or messages i message
     → take (i + 1) (map f messages) ≡ take i (map f messages) ++ f message ∷ []
 map_at f messages i message below is = rw add-one (map_at_suc f messages i message below is)
 
 pub so_far_more :
-    (deliver : Sent → Act) (moment : ℕ) (interchange : Interchange) (t before now : Tables) (count : ℕ) (refused : Bool)
+    (deliver : SentMessage → Act) (moment : ℕ) (interchange : Interchange) (t before now : Tables) (count : ℕ) (refused : Bool)
     (body : List ℕ) (message : RawMessage) (one : Told)
     → count < length interchange.messages → message ≡ get_or interchange.messages count message
     → DoneSoFar deliver moment interchange t before count refused body → deliver (sent_at moment interchange message) before ≡ (one, now)
@@ -99,7 +99,7 @@ so_far_more deliver moment interchange t before now count refused body message o
       ∙ sym (ap (λ xs. interchange_line interchange ++ xs) (lines_more interchange.messages far.told message one told_below told_is));
 }
 
-pub so_far_none : (deliver : Sent → Act) (moment : ℕ) (interchange : Interchange) (t : Tables) (body : List ℕ)
+pub so_far_none : (deliver : SentMessage → Act) (moment : ℕ) (interchange : Interchange) (t : Tables) (body : List ℕ)
     → body ≡ interchange_line interchange
     → DoneSoFar deliver moment interchange t t 0 false body
 so_far_none deliver moment interchange t body e = record {
@@ -113,7 +113,7 @@ so_far_none deliver moment interchange t body e = record {
       ∙ nothing_behind (interchange_line interchange));
 }
 
-pub uploaded_stopped : (deliver : Sent → Act) (moment : ℕ) (interchange : Interchange) (t now : Tables) (count : ℕ)
+pub uploaded_stopped : (deliver : SentMessage → Act) (moment : ℕ) (interchange : Interchange) (t now : Tables) (count : ℕ)
     (refused : Bool) (body : List ℕ)
     → count < length interchange.messages
     → DoneSoFar deliver moment interchange t now count refused body
@@ -127,14 +127,15 @@ uploaded_stopped deliver moment interchange t now count refused body below far =
     ∙ ap (replied_by (cut_reply interchange)) far.is
     ∙ (λ i. (record { outcome = Stopped; refused = sym far.refusals i; body = sym far.lines i ++ stopped_line }, now))
 
-pub uploaded_whole : (deliver : Sent → Act) (moment : ℕ) (interchange : Interchange) (t now : Tables) (refused : Bool) (body : List ℕ)
+pub uploaded_whole : (deliver : SentMessage → Act) (moment : ℕ) (interchange : Interchange) (t now : Tables) (refused : Bool)
+    (body : List ℕ)
     → DoneSoFar deliver moment interchange t now (length interchange.messages) refused body
     → uploaded deliver moment Whole (Ok interchange) t ≡ (record { outcome = Done; refused = refused; body = body }, now)
 uploaded_whole deliver moment interchange t now refused body far =
     ap (replied_by (whole_reply interchange)) far.is
     ∙ (λ i. (record { outcome = Done; refused = sym far.refusals i; body = sym far.lines i }, now))
 
-one_more_by : (deliver : Sent → Act) (moment : ℕ) (interchange : Interchange) (t now : Tables) (count : ℕ) (refused : Bool)
+one_more_by : (deliver : SentMessage → Act) (moment : ℕ) (interchange : Interchange) (t now : Tables) (count : ℕ) (refused : Bool)
     (body : List ℕ) (below : Bool)
     → nat_lt (count + 1) (length interchange.messages) ≡ below
     → count < length interchange.messages
@@ -158,7 +159,7 @@ one_more_by deliver moment interchange t now count refused body false e below fa
           (subst (λ n. DoneSoFar deliver moment interchange t now n refused body) last far));
     }
 
-one_more : (deliver : Sent → Act) (moment : ℕ) (interchange : Interchange) (t now : Tables) (count : ℕ) (refused : Bool)
+one_more : (deliver : SentMessage → Act) (moment : ℕ) (interchange : Interchange) (t now : Tables) (count : ℕ) (refused : Bool)
     (body : List ℕ)
     → count < length interchange.messages
     → DoneSoFar deliver moment interchange t now (count + 1) refused body
@@ -168,7 +169,7 @@ one_more deliver moment interchange t now count refused body below far =
 
 -- and the act of the next message, with its result
 pub so_far_then :
-    (deliver : Sent → Act) (moment : ℕ) (interchange : Interchange) (t before : Tables) (count : ℕ) (refused : Bool)
+    (deliver : SentMessage → Act) (moment : ℕ) (interchange : Interchange) (t before : Tables) (count : ℕ) (refused : Bool)
     (body : List ℕ) (message : RawMessage)
     → count < length interchange.messages
     → message ≡ get_or interchange.messages count message

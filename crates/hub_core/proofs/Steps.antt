@@ -20,7 +20,7 @@ use Rattle.hub_requests.specs.declared.reply.Outcome.TheVariants.{Stopped}
 use Rattle.hub_requests.specs.declared.reply.Reply.{Reply}
 use Rattle.hub_requests.specs.declared.request.Input.{Input}
 use Rattle.hub_core.specs.Laws.{OfTheMachine}
-use Rattle.hub_core.specs.Steps.{OneMore, CrashLeaves, LeavesOf, Answered, AnsweredOrUndone, Stepped, RunAlone}
+use Rattle.hub_core.specs.Steps.{OneMore, CrashLeaves, LeavesOf, IsAnswered, AnsweredOrUndone, Stepped, RunAlone}
 use Rattle.hub_core.specs.Steps.{StoppedSince, RunLeaves, StopsTold}
 use Rattle.hub_core.specs.Steps.{Does, RunAndCrash, SoundWith, acts_of}
 
@@ -92,7 +92,7 @@ module _ (laws : OfTheMachine) where
 
   pub stepped : {S : Type 0} (g : Ghosts S) (old new : S) (input : Input) (reply : Reply)
       → SoundHub (g.content old)
-      → Answered g old new (acts_of (upload_of (register_of (g.content old)) input)) (λ mark t. shared_step t input mark) reply
+      → IsAnswered g old new (acts_of (upload_of (register_of (g.content old)) input)) (λ mark t. shared_step t input mark) reply
       → Stepped (g.content old) (g.content new) (g.left old) (g.left new) input reply
   stepped g old new input reply hub a =
       let t = g.content old in

@@ -44,13 +44,13 @@ pub record ActsStay : Type 0 where
       → SoundUnder register.suppliers t → PartiesStay t (deliver_named register (message, incoming) t).1
 
 -- another message may follow, under the same register
-record GoesOn (register : RegisterRows) (caller : Caller) (start t : Tables) : Type 0 where
+record UploadGoesOn (register : RegisterRows) (caller : Caller) (start t : Tables) : Type 0 where
   may : MayDeliver register caller t
   parties : PartiesStay start t
 
 module _ (laws : ActsStay) (register : RegisterRows) (start : Tables) where
   act_goes : (caller : Caller) (sent : RawMessage × IncomingMessage) (t : Tables)
-      → GoesOn register caller start t → GoesOn register caller start (delivered register caller sent t).1
+      → UploadGoesOn register caller start t → UploadGoesOn register caller start (delivered register caller sent t).1
   act_goes Retailer (message, incoming) t here =
       let after = laws.of_retailers register message incoming t here.may.0 here.may.1 in
       record {
@@ -65,7 +65,7 @@ module _ (laws : ActsStay) (register : RegisterRows) (start : Tables) where
       }
 
   acts_go : (caller : Caller) (sents : List (RawMessage × IncomingMessage)) (t : Tables)
-      → GoesOn register caller start t → GoesOn register caller start (in_row (delivered register caller) sents t).1
+      → UploadGoesOn register caller start t → UploadGoesOn register caller start (in_row (delivered register caller) sents t).1
   acts_go caller [] t here = here
   acts_go caller (sent ∷ sents) t here =
       acts_go caller sents (delivered register caller sent t).1 (act_goes caller sent t here)
@@ -75,7 +75,7 @@ module _ (laws : ActsStay) (register : RegisterRows) (start : Tables) where
   sound_in (Supplier s) t may = may.0.sound
 
   -- the tables hold that register, and are sound with it
-  sound_again : (caller : Caller) (after : Tables) → SoundWith register start → GoesOn register caller start after
+  sound_again : (caller : Caller) (after : Tables) → SoundWith register start → UploadGoesOn register caller start after
       → SoundWith register after
   sound_again caller after here goes =
       let same = register_same start after goes.parties in

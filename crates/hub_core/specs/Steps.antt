@@ -59,7 +59,7 @@ abbrev pub CrashLeaves : ℕ → Does → Tables → Mark → Tables → (Tables
 CrashLeaves count does t mark after before u = (u ≡ after) ⊎ (((after ≡ t) × before u) ⊎ OneMore count does t mark u)
 
 -- a request was answered, as a whole or up to where it was stopped
-pub record Answered {S : Type 0} (g : Ghosts S) (old new : S) (count : ℕ) (does : Does) (reply : Reply) : Type 0 where
+pub record IsAnswered {S : Type 0} (g : Ghosts S) (old new : S) (count : ℕ) (does : Does) (reply : Reply) : Type 0 where
   pub mark : Mark
   pub is : does mark (g.content old) ≡ (reply, g.content new)
   pub leaves : (u : Tables) → g.left new u → CrashLeaves count does (g.content old) mark (g.content new) (g.left old) u
@@ -72,7 +72,7 @@ pub record Undone {S : Type 0} (g : Ghosts S) (old new : S) (count : ℕ) (does 
 -- A request over a store: at Ok it is answered, and after a fault nothing is done.
 pub record AnsweredOrUndone {S : Type 0} (g : Ghosts S) (old new : S) (count : ℕ) (does : Does) (result : Result Reply StoreFault)
     : Type 0 where
-  pub answered : g.honest new → IfOk result (λ reply. Answered g old new count does reply)
+  pub answered : g.honest new → IfOk result (λ reply. IsAnswered g old new count does reply)
   pub undone : g.honest new → OnErr result (Undone g old new count does)
 
 -- an input, from its parts

@@ -20,7 +20,7 @@ ghost use Rattle.hub_core.specs.Steps.{IsNoJoin, SoundWith, input_of};
 use crate::laws::laws_of_the_machine;
 use crate::replies::{reply_or_stop, stopped_reply};
 use crate::step::{answer, answer_opened};
-use edi_base::{Items, MemoryFault, copied};
+use edi_base::{Items, MemoryFault, copy_bytes};
 use edi_envelope::{Interchange, Moment, OpenFault};
 use edi_tokens::TokenFault;
 use gs1_ids::Gln;
@@ -135,7 +135,7 @@ impl<S: Store> Hub<S> {
         ensures { AnswersInput S.Store self.old self.new (input_of moment caller.now key.now request.now) result }
     {
         laws_of_the_machine();
-        let Ok(stopped) = copied(self.alloc, STOPPED) else {
+        let Ok(stopped) = copy_bytes(self.alloc, STOPPED) else {
             return stopped_reply(Items::new(self.alloc));
         };
         let answered = answer(
@@ -174,7 +174,7 @@ impl<S: Store> Hub<S> {
         ensures ran_out { RanOut upload → IsStopped result × (self.new ≡ self.old) }
     {
         laws_of_the_machine();
-        let Ok(stopped) = copied(self.alloc, STOPPED) else {
+        let Ok(stopped) = copy_bytes(self.alloc, STOPPED) else {
             return stopped_reply(Items::new(self.alloc));
         };
         let answered = answer_opened(

@@ -3,7 +3,7 @@ ghost use Rattle.std.specs.Prelude.{◌≡◌, IfOk, OnErr};
 ghost use Rattle.hub_law.specs.Replies.{denied, refused_reply, reply};
 ghost use Rattle.hub_requests.specs.declared.reply.Outcome.TheVariants.{Stopped};
 
-use edi_base::{Items, MemoryFault, copied};
+use edi_base::{Items, MemoryFault, copy_bytes};
 use hub_requests::{Outcome, Reply};
 use hub_store::StoreFault;
 use hub_transactions::refused_line;
@@ -16,7 +16,7 @@ pub(crate) fn denied_reply(alloc: Global) -> Result<Reply, MemoryFault>
     Ok(Reply {
         outcome: Outcome::Denied,
         refused: false,
-        body: copied(alloc, b"denied\n")?,
+        body: copy_bytes(alloc, b"denied\n")?,
     })
 }
 

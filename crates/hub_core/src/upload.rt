@@ -7,7 +7,7 @@ ghost use Rattle.hub_transactions.specs.Messages.{AddsLine, MayStop};
 ghost use Rattle.hub_transactions.specs.HubTexts.Decision.{told_of};
 ghost use Rattle.hub_core.specs.Broken.{BreaksOver};
 ghost use Rattle.hub_core.specs.Callers.{KeepsFor};
-ghost use Rattle.hub_core.specs.Steps.{Answered};
+ghost use Rattle.hub_core.specs.Steps.{IsAnswered};
 ghost use Rattle.hub_core.specs.Uploads.{MayTake, act_in, does_upload};
 
 use edi_base::Items;
@@ -97,7 +97,7 @@ pub(crate) fn take_messages<S: Store>(
     requires room { MayStop reply }
     ensures answered { S.honest store.new →
         MayTake upload.now (S.content store.old) →
-        Answered S.Store store.old store.new (length upload.now.interchange.now.messages) (does_upload upload.now) result }
+        IsAnswered S.Store store.old store.new (length upload.now.interchange.now.messages) (does_upload upload.now) result }
     ensures breaks { BreaksOver S.Store (does_upload upload.now)
         store.old store.new result }
     ensures was_honest { S.honest store.new → S.honest store.old }

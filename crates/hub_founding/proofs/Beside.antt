@@ -16,22 +16,22 @@ with_parties u t = record t { hubs = u.hubs; keys = u.keys; prefixes = u.prefixe
 
 module _ (t : Tables) where
   -- the changes do to the rows of the register what they would do alone
-  abbrev Apart : List Change → Type 0
-  Apart changes = (u : Tables) → apply_all changes (with_parties u t) ≡ with_parties (apply_all changes u) t
+  abbrev ActApart : List Change → Type 0
+  ActApart changes = (u : Tables) → apply_all changes (with_parties u t) ≡ with_parties (apply_all changes u) t
 
-  prefixes_apart : (supplier : List ℕ) (prefixes : List (List ℕ)) (rest : List Change) → Apart rest
-      → Apart (prefix_changes supplier prefixes ++ rest)
+  prefixes_apart : (supplier : List ℕ) (prefixes : List (List ℕ)) (rest : List Change) → ActApart rest
+      → ActApart (prefix_changes supplier prefixes ++ rest)
   prefixes_apart supplier [] rest apart = apart
   prefixes_apart supplier (prefix ∷ prefixes) rest apart = λ u.
       prefixes_apart supplier prefixes rest apart (apply (AddPrefix (record { prefix = prefix; supplier = supplier })) u)
 
-  suppliers_apart : (rows : List SupplierRow) → Apart (suppliers_changes rows)
+  suppliers_apart : (rows : List SupplierRow) → ActApart (suppliers_changes rows)
   suppliers_apart [] = λ u. refl
   suppliers_apart (row ∷ rows) = λ u.
       prefixes_apart row.gln row.prefixes (suppliers_changes rows) (suppliers_apart rows)
       (apply (AddKey (record { supplier = row.gln; key = row.key })) u)
 
-  all_apart : (register : RegisterRows) → Apart (register_changes register)
+  all_apart : (register : RegisterRows) → ActApart (register_changes register)
   all_apart register = λ u.
       suppliers_apart register.suppliers
       (apply (AddHub (record { hub = register.hub; retailer = register.retailer; key = register.retailer_key })) u)

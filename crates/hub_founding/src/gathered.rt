@@ -54,7 +54,7 @@ fn put_prefix(
 
 /// Returns the prefixes of each supplier that has a key, in the order of the keys; `None` if some prefix belongs to no
 /// such supplier.
-pub(crate) fn gathered(
+pub(crate) fn gather_prefixes(
     alloc: Global,
     keys: &[KeyRow],
     prefixes: &[PrefixRow],

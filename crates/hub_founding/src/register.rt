@@ -8,7 +8,7 @@ ghost use Rattle.hub_tables.specs.Tables.{Tables};
 ghost use Rattle.hub_founding.specs.Founding.{IsHeldBy};
 ghost use Rattle.hub_founding.specs.Gathered as spec;
 
-use crate::gathered::gathered;
+use crate::gathered::gather_prefixes;
 use edi_base::MemoryFault;
 use gs1_ids::Prefix;
 use hub_parties::{CompanyPrefixes, SupplierRow};
@@ -73,7 +73,7 @@ pub fn register_of(
     let [hub] = hubs else {
         return Ok(None);
     };
-    let Some(lists) = gathered(alloc, keys, prefixes)? else {
+    let Some(lists) = gather_prefixes(alloc, keys, prefixes)? else {
         return Ok(None);
     };
     let Some(suppliers) = rows_with(alloc, keys, lists.as_slice())? else {

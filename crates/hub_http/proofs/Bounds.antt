@@ -12,8 +12,9 @@ use Rattle.hub_parties.specs.declared.role.Role.{Role}
 use Rattle.http_messages.specs.Fields.{values_of}
 use Rattle.http_messages.specs.Head.{Heading, longest_head}
 use Rattle.hub_http.specs.Answer.{size_asked}
-use Rattle.hub_http.specs.Asked.{Asked, announced, asked_by, at_route, by_keys, by_number, by_role, by_route}
-use Rattle.hub_http.specs.Asked.{encoding_field, is_single, key_field, length_field, longest_body, posted, route_in, size_of, with_size}
+use Rattle.hub_http.specs.Asked.{Asked, announced_length, asked_by, at_route, by_keys, by_number, by_role, by_route}
+use Rattle.hub_http.specs.Asked.{encoding_field, is_single, key_field, length_field, longest_body, posted_length, route_in, size_of}
+use Rattle.hub_http.specs.Asked.{with_size}
 use Rattle.hub_http.specs.Parts.{first, second}
 use Rattle.hub_http.specs.Route.{is_post, may_ask, method_of, number_at}
 use Rattle.hub_http.specs.declared.refusal.Refusal.{Refusal}
@@ -47,7 +48,7 @@ limited false above n is = tt
 limited true true n is = tt
 limited true false n is = ltb-false longest_body n is
 
-announced_short : (values : List (List ℕ)) → Short (announced values)
+announced_short : (values : List (List ℕ)) → Short (announced_length values)
 announced_short [] = tt
 announced_short (value ∷ []) = limited (are_digits 1 longest_head value) (nat_lt longest_body (number_of value)) (number_of value) refl
 announced_short (value ∷ other ∷ values) = tt
@@ -58,8 +59,8 @@ short_if false r s first second = second
 
 size_short : (route : Route) (fields : List (List ℕ × List ℕ)) → Short (size_of route fields)
 size_short route fields =
-    short_if (is_post route) (posted fields) (Ok 0)
-    (short_if (length (values_of encoding_field fields) == 0) (announced (values_of length_field fields)) (Err Length)
+    short_if (is_post route) (posted_length fields) (Ok 0)
+    (short_if (length (values_of encoding_field fields) == 0) (announced_length (values_of length_field fields)) (Err Length)
     (announced_short (values_of length_field fields)) tt)
     (omega arith)
 

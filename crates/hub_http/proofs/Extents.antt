@@ -16,7 +16,7 @@ use Rattle.http_messages.proofs.Reading.{head_unique}
 use Rattle.hub_parties.specs.Rows.{RegisterRows, role_of}
 use Rattle.hub_parties.specs.declared.role.Role.{Role}
 use Rattle.hub_http.specs.Asked.{Asked, asked_by, at_route, by_keys, by_number, by_role, is_single, key_field}
-use Rattle.hub_http.specs.Asked.{posted, route_in, size_of, with_size}
+use Rattle.hub_http.specs.Asked.{posted_length, route_in, size_of, with_size}
 use Rattle.hub_http.specs.Extent.{TakesBody, TellsBody, TellsEnd, body_size, has_no_body}
 use Rattle.hub_http.specs.Parts.{first, second}
 use Rattle.hub_http.specs.Route.{is_post, may_ask, method_of, number_at}
@@ -149,8 +149,8 @@ zero_if true = refl
 zero_if false = tt
 
 by_method : (head : Heading) (post : Bool) → bytes_eq head.method (if post then codes "POST" else codes "GET") ≡ true
-    → SizedAs head (if post then posted head.fields else Ok 0)
-by_method head true e = rw e (same_ok (posted head.fields))
+    → SizedAs head (if post then posted_length head.fields else Ok 0)
+by_method head true e = rw e (same_ok (posted_length head.fields))
 by_method head false e =
     let other : bytes_eq head.method (codes "POST") ≡ false =
     ap (λ (m : List ℕ). bytes_eq m (codes "POST")) ((bytes_eq-Decides head.method (codes "GET")).0 e) in

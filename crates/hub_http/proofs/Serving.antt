@@ -15,8 +15,8 @@ use Rattle.hub_http.specs.Question.{Question, and_body, question_of, with_body}
 use Rattle.hub_http.specs.Serve.{response}
 use Rattle.hub_http.proofs.Bounds.{both_taken}
 use Rattle.hub_http.proofs.Judging.{passed_first}
-use Rattle.hub_http.specs.declared.answer.Answer.{Answer}
-use Rattle.hub_http.specs.declared.answer.Answered.{Answered}
+use Rattle.hub_http.specs.declared.answer.HttpAnswer.{HttpAnswer}
+use Rattle.hub_http.specs.declared.answer.AnswerAfterRead.{AnswerAfterRead}
 use Rattle.hub_http.specs.declared.refusal.Refusal.{Refusal}
 use Rattle.hub_http.specs.declared.refusal.Refusal.TheVariants.{BadRequest}
 
@@ -44,17 +44,17 @@ module _ (register : RegisterRows) where
 
 module _ (Replies : Question → Reply → Type 0) (Same : Type 0) (register : RegisterRows) where
   -- whoever knows the answer knows the question
-  one_step : (passed : Bool) (question : Result Question Refusal) (answer : Answer)
+  one_step : (passed : Bool) (question : Result Question Refusal) (answer : HttpAnswer)
       → AnswersQuestion Replies Same passed question answer → OneStep Replies Same
   one_step passed (Ok question) answer (inl ends) = inr (question, ends.0, ends.1)
   one_step passed (Err refusal) answer (inl ends) = inl ends.0
   one_step passed question answer (inr stops) = inl stops.1.0
 
-  pub one_asked : (answer : Answer) → AnswersWhatever Replies Same answer → OneStep Replies Same
+  pub one_asked : (answer : HttpAnswer) → AnswersWhatever Replies Same answer → OneStep Replies Same
   one_asked answer one = one_step true one.0 answer one.1
 
   -- without a head
-  pub serves_none : (old new : Option (List ℕ)) (answer : Answer) → Finds old new None → TakesAtMost old new longest_head
+  pub serves_none : (old new : Option (List ℕ)) (answer : HttpAnswer) → Finds old new None → TakesAtMost old new longest_head
       → AnswersQuestion Replies Same false (Err BadRequest) answer
       → IfSome old (λ known. AnswersBytes Replies Same register known new answer)
   serves_none None new answer found taken answers = tt
@@ -67,7 +67,7 @@ module _ (Replies : Question → Reply → Type 0) (Same : Type 0) (register : R
   }
 
   -- with a head, and the bytes after it
-  serves_head : (old new after : Option (List ℕ)) (head : Heading) (answer : Answer) → Finds old new (Some head)
+  serves_head : (old new after : Option (List ℕ)) (head : Heading) (answer : HttpAnswer) → Finds old new (Some head)
       → TakesAtMost old after (longest_head + announced_by register (Some head))
       → IfSome new (λ left. AnswersQuestion Replies Same (is_single head) (question_of register (Some (before left head))) answer)
       → IfSome old (λ known. AnswersBytes Replies Same register known after answer)
@@ -80,7 +80,7 @@ module _ (Replies : Question → Reply → Type 0) (Same : Type 0) (register : R
     taken = taken;
   }
 
-  pub serves_some : {E : Type 0} (old new after : Option (List ℕ)) (head : Heading) (r : Result Answered E)
+  pub serves_some : {E : Type 0} (old new after : Option (List ℕ)) (head : Heading) (r : Result AnswerAfterRead E)
       → Finds old new (Some head)
       → TakesAtMost old new longest_head
       → TakesAtMost new after (announced_by register (Some head))
@@ -93,7 +93,7 @@ module _ (Replies : Question → Reply → Type 0) (Same : Type 0) (register : R
 
   -- the answer to a head with the bytes after it is the answer to the bytes of the connection
   pub answers_head : {E : Type 0} (known : Option (List ℕ)) (head : Heading) (asked : Asked) (rest : List ℕ)
-      (r : Result Answered E)
+      (r : Result AnswerAfterRead E)
       → Ok asked ≡ asked_by register head
       → rest ≡ head.rest
       → IfOk r (λ answered. IfSome known (λ left.
@@ -110,19 +110,19 @@ module _ (Replies : Question → Reply → Type 0) (Same : Type 0) (register : R
       (subst (λ (q : Result Question Refusal). AnswersQuestion Replies Same true q answered.answer) is answers)
 
   -- a prefix of the response was written
-  pub ended_cut : (known after was is : Option (List ℕ)) (answer : Answer)
+  pub ended_cut : (known after was is : Option (List ℕ)) (answer : HttpAnswer)
       → IfSome known (λ bytes. AnswersBytes Replies Same register bytes after answer)
       → AppendsFront was is (response answer)
-      → IfSome known (λ bytes. (a : Answer) × AnswersBytes Replies Same register bytes after a × AppendsFront was is (response a))
+      → IfSome known (λ bytes. (a : HttpAnswer) × AnswersBytes Replies Same register bytes after a × AppendsFront was is (response a))
   ended_cut None after was is answer serves front = tt
   ended_cut (Some bytes) after was is answer serves front = (answer, serves, front)
 
   -- the whole response was written
-  pub ended_whole : (known after was is : Option (List ℕ)) (answer : Answer) (status : ℕ)
+  pub ended_whole : (known after was is : Option (List ℕ)) (answer : HttpAnswer) (status : ℕ)
       → IfSome known (λ bytes. AnswersBytes Replies Same register bytes after answer)
       → Appends was is (response answer)
       → status ≡ answer.status
-      → IfSome known (λ bytes. (a : Answer) × AnswersBytes Replies Same register bytes after a × Appends was is (response a)
+      → IfSome known (λ bytes. (a : HttpAnswer) × AnswersBytes Replies Same register bytes after a × Appends was is (response a)
       × (status ≡ a.status))
   ended_whole None after was is answer status serves whole e = tt
   ended_whole (Some bytes) after was is answer status serves whole e = (answer, serves, whole, e)

@@ -15,7 +15,7 @@ use Rattle.hub_http.specs.declared.route.Route.{Route}
 use Rattle.hub_http.specs.declared.route.Route.TheVariants.{Interchanges, MailAfter, MailItem, MailTaken, Status}
 use Rattle.hub_http.specs.declared.route.Route.TheVariants.{StatusOf, Cancellations}
 use Rattle.std.proofs.lemmas.Bool.{ltb-true, ltb-false}
-use Rattle.hub_http.proofs.Among.{Each, each_placed, found_holds}
+use Rattle.hub_http.proofs.Among.{EachKey, each_placed, found_holds}
 
 -- a route takes these parts
 abbrev pub Takes : RouteOf Route → Type 0
@@ -73,7 +73,8 @@ abbrev pub TakesRead : Result Scan InsertError → Route → Type 0
 TakesRead (Ok s) route = Takes (route_from s route)
 TakesRead (Err e) route = Unit {0}
 
-each_added : (read : Result Scan InsertError) (route : Route) (routes : Routes) → TakesRead read route → Each Takes routes → Each Takes
+each_added : (read : Result Scan InsertError) (route : Route) (routes : Routes) → TakesRead read route → EachKey Takes routes
+    → EachKey Takes
     (added_scan read route routes)
 each_added (Ok s) route routes takes each = each_placed Takes (s.pattern, route_from s route) routes takes each
 each_added (Err e) route routes takes each = each
@@ -125,7 +126,7 @@ unfolding matchit_on_literals
 cancellations_takes path = one (codes "/p/" ++ 256 ∷ codes "/cancellations") (codes "/p/{gln}/cancellations") path (4, 7) 3
     (begin 3 (length path) 0) (literals (codes "/p/") (256 ∷ codes "/cancellations") (length path) 0 0 refl)
 
-pub each_seven : Each Takes seven
+pub each_seven : EachKey Takes seven
 unfolding seven
 each_seven =
     each_added _ Cancellations _ cancellations_takes

@@ -6,7 +6,7 @@ use Rattle.std.specs.Io.KnownBytes.{IsAtEnd}
 use Rattle.std.proofs.lemmas.Bool.{le-ltb, lt-ltb}
 use Rattle.std.proofs.lemmas.List.{length-append}
 use Rattle.edi_base.specs.Source.{TakesAtMost}
-use Rattle.edi_tokens.specs.Lender.{AtEnd, Came, Fed, HasCause, IsBegun, ReadsAway, TakesOf, room_of}
+use Rattle.edi_tokens.specs.Lender.{AtEnd, Came, Fed, HasCause, HasReadNothing, ReadsAway, TakesOf, room_of}
 use Rattle.edi_tokens.specs.declared.lender.Lender.{Lender}
 use Rattle.edi_segments.specs.declared.fault.TokenFault.{TokenFault}
 use Rattle.edi_segments.specs.declared.fault.TokenFault.TheVariants as token
@@ -14,7 +14,7 @@ use Rattle.edi_tokens.proofs.Lending.{takes_then}
 use Rattle.edi_envelope.specs.declared.fault.OpenFault.{OpenFault}
 use Rattle.edi_envelope.specs.declared.fault.OpenFault.TheVariants.{Token, Envelope}
 use Rattle.edi_envelope.specs.declared.interchange.Interchange.{Interchange}
-use Rattle.edi_envelope.specs.Gathered.{Flagged}
+use Rattle.edi_envelope.specs.Gathered.{OpenFaultHasCause}
 use Rattle.edi_envelope.specs.Opened.{opened, Opens}
 use Rattle.hub_requests.specs.declared.reply.Reply.{Reply}
 use Rattle.http_messages.specs.Body.{TakesExactly, body_in}
@@ -22,7 +22,7 @@ use Rattle.hub_http.specs.Answer.{AnswersQuestion, AnswersWhatever, RepliesTo}
 use Rattle.hub_http.specs.Asked.{Asked}
 use Rattle.hub_http.specs.Question.{Question, of_asker, request_for, uploading, with_body}
 use Rattle.hub_http.specs.Upload.{IsUpload}
-use Rattle.hub_http.specs.declared.answer.Answer.{Answer}
+use Rattle.hub_http.specs.declared.answer.HttpAnswer.{HttpAnswer}
 use Rattle.hub_http.specs.declared.refusal.Refusal.{Refusal}
 use Rattle.hub_http.specs.declared.refusal.Refusal.TheVariants.{BadRequest}
 use Rattle.hub_http.specs.declared.route.Route.{Route}
@@ -40,7 +40,7 @@ cause_kept token.Read old new read cause = absurd (read refl)
 cause_kept token.Memory old new read cause = absurd cause
 
 pub flag_kept : (upload : Result Interchange OpenFault) (old new : Bool) → upload ≢ Err (Token token.Read)
-    → Flagged upload old new → new ≡ old
+    → OpenFaultHasCause upload old new → new ≡ old
 flag_kept (Ok interchange) old new read flag = flag
 flag_kept (Err (Token fault)) old new read flag = cause_kept fault old new (λ is. read (ap (λ f. Err (Token f)) is)) flag
 flag_kept (Err (Envelope fault)) old new read flag = flag
@@ -86,7 +86,7 @@ away_takes before after l (Ok missing) away = (missing, away.0)
 away_takes before after l (Err e) away = away
 
 module _ {E : Type 0} (before between after : Option (List ℕ)) (old new : Lender) (size : ℕ) (front : List ℕ) (result : Result ℕ E)
-    (begun : IsBegun old (size - length front)) (first : TakesOf before between (room_of old) (room_of new))
+    (begun : HasReadNothing old (size - length front)) (first : TakesOf before between (room_of old) (room_of new))
     (away : ReadsAway between after new result) where
   pub read_at_most : TakesAtMost before after (size - length front)
   read_at_most =
@@ -135,7 +135,7 @@ module _ (Replies : Question → Reply → Type 0) (Same : Type 0) (asked : Aske
 
   -- the answer to an upload is the answer to what its body asks
   pub answers_upload : (body : List ℕ → Option (List ℕ)) (known : Option (List ℕ)) (upload : Result Interchange OpenFault)
-      (answer : Answer) → asked.route ≡ Interchanges
+      (answer : HttpAnswer) → asked.route ≡ Interchanges
       → IfSome known (λ left. IsUpload (Some upload) (body left))
       → ((bytes : List ℕ) → Opens upload (opened bytes) → RepliesTo Replies Same (Ok (uploading asked bytes)) answer)
       → IfSome known (λ left. AnswersQuestion Replies Same true (with_body asked (body left)) answer)
@@ -144,7 +144,7 @@ module _ (Replies : Question → Reply → Type 0) (Same : Type 0) (asked : Aske
       let same : with_body asked (body left) ≡ Ok (uploading asked is.0) = ap (with_body asked) is.1 ∙ asks_upload is.0 route in
       subst (λ (q : Result Question Refusal). AnswersQuestion Replies Same true q answer) (sym same) (inl (ends is.0 is.2))
 
-  pub answers_cut : (body : List ℕ → Option (List ℕ)) (known : Option (List ℕ)) (answer : Answer)
+  pub answers_cut : (body : List ℕ → Option (List ℕ)) (known : Option (List ℕ)) (answer : HttpAnswer)
       → IfSome known (λ left. IsUpload None (body left))
       → RepliesTo Replies Same (Err BadRequest) answer
       → IfSome known (λ left. AnswersQuestion Replies Same true (with_body asked (body left)) answer)
@@ -152,7 +152,7 @@ module _ (Replies : Question → Reply → Type 0) (Same : Type 0) (asked : Aske
   answers_cut body (Some left) answer is ends =
       subst (λ (q : Result Question Refusal). AnswersQuestion Replies Same true q answer) (sym (ap (with_body asked) is)) (inl ends)
 
-  pub one_upload : (upload : Result Interchange OpenFault) (answer : Answer)
+  pub one_upload : (upload : Result Interchange OpenFault) (answer : HttpAnswer)
       → ((bytes : List ℕ) × Opens upload (opened bytes))
       → ((bytes : List ℕ) → Opens upload (opened bytes) → RepliesTo Replies Same (Ok (uploading asked bytes)) answer)
       → AnswersWhatever Replies Same answer

@@ -12,8 +12,8 @@ use Rattle.http_messages.specs.Head.{Heading, HeadIs, longest_head}
 use Rattle.hub_http.specs.Asked.{Asked, asked_by, is_single}
 use Rattle.hub_http.specs.Question.{Question, AsksQuestion}
 use Rattle.hub_http.specs.Refusal.{status_of, text_of}
-use Rattle.hub_http.specs.declared.answer.Answer.{Answer}
-use Rattle.hub_http.specs.declared.answer.Answered.{Answered}
+use Rattle.hub_http.specs.declared.answer.HttpAnswer.{HttpAnswer}
+use Rattle.hub_http.specs.declared.answer.AnswerAfterRead.{AnswerAfterRead}
 use Rattle.hub_http.specs.declared.answer.Text.{Text}
 use Rattle.hub_http.specs.declared.answer.Text.TheVariants.{Fixed, Made}
 use Rattle.hub_http.specs.declared.refusal.Refusal.{Refusal}
@@ -32,7 +32,7 @@ bytes_of (Fixed bytes) = bytes.now
 bytes_of (Made bytes) = bytes
 
 -- the answer has this status and this body
-pub record StatusAndText (status : ℕ) (text : List ℕ) (answer : Answer) : Type 0 where
+pub record StatusAndText (status : ℕ) (text : List ℕ) (answer : HttpAnswer) : Type 0 where
   pub status_is : answer.status ≡ status
   pub text_is : bytes_of answer.text ≡ text
 
@@ -53,25 +53,25 @@ module _ (Replies : Question → Reply → Type 0) (Same : Type 0) where
   OneStep = Same ⊎ ((question : Question) × (reply : Reply) × Replies question reply)
 
   -- the reply to the question, or the status without one, and then the hub is as before
-  abbrev pub RepliesTo : Result Question Refusal → Answer → Type 0
+  abbrev pub RepliesTo : Result Question Refusal → HttpAnswer → Type 0
   RepliesTo (Ok question) answer =
       (reply : Reply) × Replies question reply × StatusAndText (outcome_status reply.outcome) reply.body answer
   RepliesTo (Err refusal) answer = Same × StatusAndText (status_of refusal) (text_of refusal) answer
 
   -- memory was refused before a question was asked
-  abbrev pub LacksMemory : Answer → Type 0
+  abbrev pub LacksMemory : HttpAnswer → Type 0
   LacksMemory answer = Same × StatusAndText 503 stopped_line answer
 
   -- memory is only needed after the first check
-  abbrev pub AnswersQuestion : Bool → Result Question Refusal → Answer → Type 0
+  abbrev pub AnswersQuestion : Bool → Result Question Refusal → HttpAnswer → Type 0
   AnswersQuestion passed question answer = RepliesTo question answer ⊎ ((passed ≡ true) × LacksMemory answer)
 
   -- the answer to some question, or to some refusal, or to memory that was refused
-  abbrev pub AnswersWhatever : Answer → Type 0
+  abbrev pub AnswersWhatever : HttpAnswer → Type 0
   AnswersWhatever answer = (question : Result Question Refusal) × AnswersQuestion true question answer
 
   -- such an answer, and the reader's flag stays; or a read failed, and the hub is as before
-  abbrev pub AnswersOrFails : {E : Type 0} → Bool → Bool → Result Answered E → Type 0
+  abbrev pub AnswersOrFails : {E : Type 0} → Bool → Bool → Result AnswerAfterRead E → Type 0
   AnswersOrFails failed_before failed (Ok answered) = AnswersWhatever answered.answer × (failed ≡ failed_before)
   AnswersOrFails failed_before failed (Err fault) = Same × (failed ≡ true)
 
@@ -91,7 +91,7 @@ announced_by register (Some head) = size_asked (asked_by register head)
 
 -- The answer to what the bytes of a connection ask. At most a head and the announced body were taken of them.
 pub record AnswersBytes (Replies : Question → Reply → Type 0) (Same : Type 0) (register : RegisterRows) (bytes : List ℕ)
-    (after : Option (List ℕ)) (answer : Answer) : Type 0 where
+    (after : Option (List ℕ)) (answer : HttpAnswer) : Type 0 where
   pub question : Result Question Refusal
   pub asks : AsksQuestion register bytes question
   pub answers : AnswersQuestion Replies Same (passes asks.head) question answer

@@ -56,19 +56,19 @@ size_in value =
     else Ok (number_of value)
 
 -- the length of a body, from the values of all length fields
-abbrev pub announced : List (List ℕ) → Result ℕ Refusal
-announced [] = Err Length
-announced (value ∷ []) = size_in value
-announced (value ∷ other ∷ values) = Err BadRequest
+abbrev pub announced_length : List (List ℕ) → Result ℕ Refusal
+announced_length [] = Err Length
+announced_length (value ∷ []) = size_in value
+announced_length (value ∷ other ∷ values) = Err BadRequest
 
 -- the length of a POST's body, which does not come in pieces
-abbrev pub posted : List (List ℕ × List ℕ) → Result ℕ Refusal
-posted fields =
-    if length (values_of encoding_field fields) == 0 then announced (values_of length_field fields) else Err Length
+abbrev pub posted_length : List (List ℕ × List ℕ) → Result ℕ Refusal
+posted_length fields =
+    if length (values_of encoding_field fields) == 0 then announced_length (values_of length_field fields) else Err Length
 
 -- no other body is read
 abbrev pub size_of : Route → List (List ℕ × List ℕ) → Result ℕ Refusal
-size_of route fields = if is_post route then posted fields else Ok 0
+size_of route fields = if is_post route then posted_length fields else Ok 0
 
 -- what is asked for, by which caller with which key, and how long the body is
 pub record Asked : Type 0 where

@@ -6,7 +6,7 @@ use Rattle.std.specs.Str.{bytes_eq}
 use Rattle.http_messages.specs.Body.{TakesExactly}
 use Rattle.http_messages.specs.Fields.{values_of}
 use Rattle.http_messages.specs.Head.{Heading, HeadIs}
-use Rattle.hub_http.specs.Asked.{encoding_field, length_field, posted, size_in}
+use Rattle.hub_http.specs.Asked.{encoding_field, length_field, posted_length, size_in}
 use Rattle.hub_http.specs.declared.refusal.Refusal.{Refusal}
 
 abbrev pub is_zero : Result ℕ Refusal → Bool
@@ -28,7 +28,7 @@ has_no_body fields =
 -- has none, unless its head announces a body, which is not read.
 abbrev pub body_size : Heading → Option ℕ
 body_size head =
-    if bytes_eq head.method (codes "POST") then result_ok (posted head.fields)
+    if bytes_eq head.method (codes "POST") then result_ok (posted_length head.fields)
     else if has_no_body head.fields then Some 0 else None
 
 -- of what follows a head, exactly a body of this size was taken

@@ -20,12 +20,12 @@ use crate::paths::Paths;
 use crate::question::request_of;
 use crate::refusal::Refusal;
 use crate::route::Route;
-use crate::upload::{Opened, open_body};
+use crate::upload::{OpenResult, open_body};
 use edi_base::{Items, ReadFault, Source};
 use edi_envelope::{Moment, OpenFault};
 use edi_tokens::TokenFault;
 use http::StatusCode;
-use http_messages::{Head, HeadFault, read_body, read_head};
+use http_messages::{HeadFault, HttpHead, read_body, read_head};
 use hub_core::{Hub, Outcome, Reply, Request, STOPPED};
 use hub_store::Store;
 use std::alloc::Global;
@@ -39,33 +39,33 @@ pub(crate) enum Text {
 
 /// A response without its head.
 #[derive(Drop)]
-pub(crate) struct Answer {
+pub(crate) struct HttpAnswer {
     pub status: StatusCode,
     pub text: Text,
 }
 
 /// The answer to a request, and whether exactly the request was read.
 #[derive(Drop)]
-pub(crate) struct Answered {
-    pub answer: Answer,
+pub(crate) struct AnswerAfterRead {
+    pub answer: HttpAnswer,
     pub read_to_end: bool,
 }
 
 // Returns the answer if nothing is asked of the hub.
-fn refusal_answer(refusal: Refusal) -> Answer
+fn refusal_answer(refusal: Refusal) -> HttpAnswer
     ensures { spec.StatusAndText (refusal_status refusal) (text_of refusal) result }
 {
-    Answer {
+    HttpAnswer {
         status: refusal.status(),
         text: Text::Fixed(refusal.text()),
     }
 }
 
 // Returns the answer if memory was refused before anything was asked.
-fn stopped_answer() -> Answer
+fn stopped_answer() -> HttpAnswer
     ensures { spec.StatusAndText 503 stopped_line result }
 {
-    Answer {
+    HttpAnswer {
         status: StatusCode::SERVICE_UNAVAILABLE,
         text: Text::Fixed(STOPPED),
     }
@@ -85,17 +85,22 @@ fn status_of(outcome: Outcome) -> StatusCode
 }
 
 // Returns the answer with a reply.
-fn reply_answer(reply: Reply) -> Answer
+fn reply_answer(reply: Reply) -> HttpAnswer
     ensures { spec.StatusAndText (spec.outcome_status reply.outcome) reply.body result }
 {
-    Answer {
+    HttpAnswer {
         status: status_of(reply.outcome),
         text: Text::Made(reply.body),
     }
 }
 
 // Asks the hub, and returns its answer.
-fn ask<S: Store>(hub: &mut Hub<S>, moment: Moment, asked: &Asked<'_>, request: Request) -> Answer
+fn ask<S: Store>(
+    hub: &mut Hub<S>,
+    moment: Moment,
+    asked: &Asked<'_>,
+    request: Request,
+) -> HttpAnswer
     requires { IsNoJoin request }
     ensures asked { spec.RepliesTo (spec.HubReplies S.Store moment hub.old hub.new)
         (hub.new ≡ hub.old) (Ok (question_as (asked_as asked.now) request)) result }
@@ -112,7 +117,7 @@ fn answer_body<S: Store>(
     moment: Moment,
     asked: &Asked<'_>,
     body: Option<Items<u8>>,
-) -> Answer
+) -> HttpAnswer
     ensures answers { spec.AnswersQuestion (spec.HubReplies S.Store moment hub.old hub.new)
         (hub.new ≡ hub.old)
         true (with_body (asked_as asked.now) body) result }
@@ -132,8 +137,8 @@ fn ask_opened<S: Store>(
     hub: &mut Hub<S>,
     moment: Moment,
     asked: &Asked<'_>,
-    upload: Opened,
-) -> Answer
+    upload: OpenResult,
+) -> HttpAnswer
     requires { upload ≢ Err (OpenFault.Token TokenFault.Read) }
     ensures asked { (bytes : List ℕ) → Opens upload (opened bytes) →
         spec.RepliesTo (spec.HubReplies S.Store moment hub.old hub.new) (hub.new ≡ hub.old)
@@ -155,7 +160,7 @@ fn answer_upload<R: Source, S: Store>(
     front: &[u8],
     sent: Option<usize>,
     asked: &Asked<'_>,
-) -> Result<Answered, HeadFault>
+) -> Result<AnswerAfterRead, HeadFault>
     requires route { asked.now.route ≡ Route.Interchanges }
     requires short { asked.now.size ≤ longest_body }
     requires sized { IfSome sent (λ size. size ≡ asked.now.size) }
@@ -171,16 +176,16 @@ fn answer_upload<R: Source, S: Store>(
         TellsBody sent front.now (R.remaining reader.old) (R.remaining reader.new) answered.read_to_end) }
 {
     match open_body(alloc, reader, front, asked.size) {
-        Ok(Some(upload)) => Ok(Answered {
+        Ok(Some(upload)) => Ok(AnswerAfterRead {
             answer: ask_opened(hub, moment, asked, upload),
             read_to_end: is_whole(sent, front.len().max(asked.size)),
         }),
-        Ok(None) => Ok(Answered {
+        Ok(None) => Ok(AnswerAfterRead {
             answer: refusal_answer(Refusal::BadRequest),
             read_to_end: false,
         }),
         Err(ReadFault::Read) => Err(HeadFault),
-        Err(ReadFault::Memory) => Ok(Answered {
+        Err(ReadFault::Memory) => Ok(AnswerAfterRead {
             answer: stopped_answer(),
             read_to_end: is_whole(sent, front.len()),
         }),
@@ -196,7 +201,7 @@ fn answer_asked<R: Source, S: Store>(
     front: &[u8],
     sent: Option<usize>,
     asked: &Asked<'_>,
-) -> Result<Answered, HeadFault>
+) -> Result<AnswerAfterRead, HeadFault>
     requires short { asked.now.size ≤ longest_body }
     requires sized { IfSome sent (λ size. size ≡ asked.now.size) }
     ensures answers { IfOk result (λ answered. IfSome (R.remaining reader.old) (λ left.
@@ -214,12 +219,12 @@ fn answer_asked<R: Source, S: Store>(
         return answer_upload(alloc, hub, moment, reader, front, sent, asked);
     }
     match read_body(alloc, reader, front, asked.size) {
-        Ok(body) => Ok(Answered {
+        Ok(body) => Ok(AnswerAfterRead {
             read_to_end: is_read(&body, sent, front.len().max(asked.size)),
             answer: answer_body(alloc, hub, moment, asked, body),
         }),
         Err(ReadFault::Read) => Err(HeadFault),
-        Err(ReadFault::Memory) => Ok(Answered {
+        Err(ReadFault::Memory) => Ok(AnswerAfterRead {
             answer: stopped_answer(),
             read_to_end: is_whole(sent, front.len()),
         }),
@@ -233,8 +238,8 @@ fn answer_head<R: Source, S: Store>(
     hub: &mut Hub<S>,
     moment: Moment,
     reader: &mut R,
-    head: &Head,
-) -> Result<Answered, HeadFault>
+    head: &HttpHead,
+) -> Result<AnswerAfterRead, HeadFault>
     ensures answers { IfOk result (λ answered. IfSome (R.remaining reader.old) (λ left.
         spec.AnswersQuestion (spec.HubReplies S.Store moment hub.old hub.new) (hub.new ≡ hub.old)
         (is_single head.now) (question_of hub.old.0 (Some (before left head.now))) answered.answer)) }
@@ -249,7 +254,7 @@ fn answer_head<R: Source, S: Store>(
     let sent = body_size(head);
     match check_head(paths, hub, head) {
         Ok(asked) => answer_asked(alloc, hub, moment, reader, head.rest(), sent, &asked),
-        Err(refusal) => Ok(Answered {
+        Err(refusal) => Ok(AnswerAfterRead {
             answer: refusal_answer(refusal),
             read_to_end: is_whole(sent, head.rest().len()),
         }),
@@ -263,7 +268,7 @@ pub(crate) fn answer_one<R: Source, S: Store>(
     hub: &mut Hub<S>,
     moment: Moment,
     reader: &mut R,
-) -> Result<Answered, HeadFault>
+) -> Result<AnswerAfterRead, HeadFault>
     ensures answered { IfOk result (λ answered. IfSome (R.remaining reader.old) (λ known.
         spec.AnswersBytes (spec.HubReplies S.Store moment hub.old hub.new)
         (hub.new ≡ hub.old) hub.old.0 known
@@ -280,7 +285,7 @@ pub(crate) fn answer_one<R: Source, S: Store>(
 {
     match read_head(reader)? {
         Some(head) => answer_head(alloc, paths, hub, moment, reader, &head),
-        None => Ok(Answered {
+        None => Ok(AnswerAfterRead {
             answer: refusal_answer(Refusal::BadRequest),
             read_to_end: false,
         }),

@@ -12,7 +12,7 @@ use crate::route::Route;
 use edi_base::{are_digits, value_of};
 use edi_tokens::TEXT_LIMIT;
 use gs1_ids::Gln;
-use http_messages::{Head, LONGEST_HEAD, Values};
+use http_messages::{HttpHead, LONGEST_HEAD, Values};
 use hub_core::{Hub, Role};
 use hub_store::Store;
 
@@ -37,7 +37,7 @@ pub(crate) struct Asked<'h> {
 }
 
 // Whether a field occurs fewer than two times.
-fn is_once(head: &Head, name: &[u8]) -> bool
+fn is_once(head: &HttpHead, name: &[u8]) -> bool
     ensures { result ≡ spec.at_most_once (values_of name.now head.now.fields) }
 {
     match head.values(name) {
@@ -47,7 +47,7 @@ fn is_once(head: &Head, name: &[u8]) -> bool
 }
 
 // Whether the key and the length occur at most once. Takes no memory.
-fn is_single(head: &Head) -> bool
+fn is_single(head: &HttpHead) -> bool
     ensures { result ≡ spec.is_single head.now }
 {
     is_once(head, b"X-Hub-Key") && is_once(head, b"Content-Length")
@@ -83,8 +83,8 @@ pub(crate) fn size_in(value: &[u8]) -> Result<usize, Refusal>
 }
 
 // Returns how many bytes a body has, from the only length in the head.
-fn announced(head: &Head) -> Result<usize, Refusal>
-    ensures { result ≡ spec.announced (values_of spec.length_field head.now.fields) }
+fn announced_length(head: &HttpHead) -> Result<usize, Refusal>
+    ensures { result ≡ spec.announced_length (values_of spec.length_field head.now.fields) }
 {
     match head.values(b"Content-Length") {
         Values::Absent => Err(Refusal::Length),
@@ -94,25 +94,29 @@ fn announced(head: &Head) -> Result<usize, Refusal>
 }
 
 /// Returns how many bytes the body of a POST has. It may not come in pieces.
-pub(crate) fn posted(head: &Head) -> Result<usize, Refusal>
-    ensures { result ≡ spec.posted head.now.fields }
+pub(crate) fn posted_length(head: &HttpHead) -> Result<usize, Refusal>
+    ensures { result ≡ spec.posted_length head.now.fields }
 {
     match head.values(b"Transfer-Encoding") {
-        Values::Absent => announced(head),
+        Values::Absent => announced_length(head),
         _ => Err(Refusal::Length),
     }
 }
 
 // Returns how many bytes of a body are read: none for a GET.
-fn size_of(route: Route, head: &Head) -> Result<usize, Refusal>
+fn size_of(route: Route, head: &HttpHead) -> Result<usize, Refusal>
     ensures { result ≡ spec.size_of route head.now.fields }
 {
-    if route.is_post() { posted(head) } else { Ok(0) }
+    if route.is_post() {
+        posted_length(head)
+    } else {
+        Ok(0)
+    }
 }
 
 // Returns what is asked for by a known caller, if its role may ask for it and the length of the body is right.
 fn by_role<'h>(
-    head: &'h Head,
+    head: &'h HttpHead,
     route: Route,
     part: &'h [u8],
     number: u64,
@@ -140,7 +144,7 @@ fn by_role<'h>(
 // Returns what the party in the path asks for with this key.
 fn by_party<'h, S: Store>(
     hub: &Hub<S>,
-    head: &'h Head,
+    head: &'h HttpHead,
     route: Route,
     found: PathParts<'h>,
     number: u64,
@@ -162,7 +166,7 @@ fn by_party<'h, S: Store>(
 // Returns what is asked for with the only key of the head.
 fn by_key<'h, S: Store>(
     hub: &Hub<S>,
-    head: &'h Head,
+    head: &'h HttpHead,
     route: Route,
     found: PathParts<'h>,
     number: u64,
@@ -178,7 +182,11 @@ fn by_key<'h, S: Store>(
 }
 
 // Returns what is asked for on this route.
-fn by_route<'h, S: Store>(hub: &Hub<S>, head: &'h Head, route: Route) -> Result<Asked<'h>, Refusal>
+fn by_route<'h, S: Store>(
+    hub: &Hub<S>,
+    head: &'h HttpHead,
+    route: Route,
+) -> Result<Asked<'h>, Refusal>
     ensures { asked_or_refused result
         ≡ spec.by_route hub.now.0 head.now route (party head.now.target) (part_in route head.now.target) }
 {
@@ -196,7 +204,7 @@ fn by_route<'h, S: Store>(hub: &Hub<S>, head: &'h Head, route: Route) -> Result<
 pub(crate) fn check_head<'h, S: Store>(
     paths: &Paths,
     hub: &Hub<S>,
-    head: &'h Head,
+    head: &'h HttpHead,
 ) -> Result<Asked<'h>, Refusal>
     ensures { asked_or_refused result ≡ spec.asked_by hub.now.0 head.now }
 {

@@ -4,11 +4,11 @@ ghost use Rattle.hub_http.specs.Extent as spec;
 ghost use Rattle.http_messages.specs.Fields.{values_of};
 ghost use Rattle.hub_http.specs.Asked.{length_field};
 
-use crate::asked::{posted, size_in};
-use http_messages::{Head, Values};
+use crate::asked::{posted_length, size_in};
+use http_messages::{HttpHead, Values};
 
 // Whether the lengths in the head announce no body.
-fn is_none_announced(head: &Head) -> bool
+fn is_none_announced(head: &HttpHead) -> bool
     ensures { result ≡ spec.none_announced (values_of length_field head.now.fields) }
 {
     match head.values(b"Content-Length") {
@@ -19,7 +19,7 @@ fn is_none_announced(head: &Head) -> bool
 }
 
 // Whether a head announces no body: it has no length above 0, and no pieces.
-fn has_no_body(head: &Head) -> bool
+fn has_no_body(head: &HttpHead) -> bool
     ensures { result ≡ spec.has_no_body head.now.fields }
 {
     match head.values(b"Transfer-Encoding") {
@@ -30,11 +30,11 @@ fn has_no_body(head: &Head) -> bool
 
 /// Returns how many bytes the body of a request has, or `None` if that is not known: for a POST without a right length,
 /// and for any other request whose head announces a body, because such a body is not read.
-pub(crate) fn body_size(head: &Head) -> Option<usize>
+pub(crate) fn body_size(head: &HttpHead) -> Option<usize>
     ensures { result ≡ spec.body_size head.now }
 {
     if head.method() == b"POST".as_slice() {
-        return posted(head).ok();
+        return posted_length(head).ok();
     }
     if has_no_body(head) { Some(0) } else { None }
 }

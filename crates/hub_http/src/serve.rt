@@ -10,7 +10,7 @@ ghost use Rattle.hub_http.specs.Asked.{longest_body};
 ghost use Rattle.hub_http.specs.Extent.{TellsEnd};
 ghost use Rattle.hub_http.specs.Serve as spec;
 
-use crate::answer::{Answer, Answered, Text, answer_one};
+use crate::answer::{AnswerAfterRead, HttpAnswer, Text, answer_one};
 use crate::paths::Paths;
 use edi_base::{Sink, Source, WriteFault};
 use edi_envelope::Moment;
@@ -57,7 +57,7 @@ impl fmt::Display for IoFault {
 impl Error for IoFault {}
 
 // Writes an answer.
-fn write_answer<W: Sink>(writer: &mut W, answer: &Answer) -> Result<(), WriteFault>
+fn write_answer<W: Sink>(writer: &mut W, answer: &HttpAnswer) -> Result<(), WriteFault>
     ensures bytes { Writes result (W.contents writer.old) (W.contents writer.new) (spec.response answer.now) }
     ensures flag { Flags result (W.failed writer.old) (W.failed writer.new) }
 {
@@ -113,7 +113,7 @@ pub fn serve_one<S: Store, R: Source, W: Sink>(
     let Ok(answered) = answer_one(alloc, paths, hub, moment, reader) else {
         return Err(IoFault::Read);
     };
-    let Answered {
+    let AnswerAfterRead {
         answer,
         read_to_end,
     } = answered;

@@ -12,10 +12,10 @@ use edi_tokens::{Lender, TokenFault};
 use std::alloc::Global;
 
 /// What a text was opened as, or why it has no interchange.
-pub(crate) type Opened = Result<Interchange, OpenFault>;
+pub(crate) type OpenResult = Result<Interchange, OpenFault>;
 
 // Whether a read failed.
-fn is_unread(upload: &Opened) -> bool
+fn is_unread(upload: &OpenResult) -> bool
     ensures { (result ≡ true) ↔ (upload.now ≡ Err (OpenFault.Token TokenFault.Read)) }
 {
     match upload {
@@ -31,7 +31,7 @@ pub(crate) fn open_body<R: Source>(
     reader: &mut R,
     front: &[u8],
     size: usize,
-) -> Result<Option<Opened>, ReadFault>
+) -> Result<Option<OpenResult>, ReadFault>
     requires { size ≤ longest_body }
     ensures body { IfOk result (λ upload. IfSome (R.remaining reader.old) (λ left.
         IsUpload upload (body_in size (front.now ++ left)))) }

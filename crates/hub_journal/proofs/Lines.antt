@@ -9,7 +9,7 @@ use Rattle.hub_journal.specs.Front.{kept, room}
 use Rattle.hub_journal.specs.Line.{moment_text, reply_text, request_text, spaced}
 use Rattle.hub_journal.specs.Moment.{century, date_of, rfc3339, time_of, year_2000}
 use Rattle.hub_journal.specs.Reply.{cut, longest_reply, reply_in, shown, without_end, body_in}
-use Rattle.hub_journal.specs.Request.{Words, is_told}
+use Rattle.hub_journal.specs.Request.{MethodAndTarget, is_told}
 
 pub spaced_some : (text : List ℕ) → (length text == 0) ≡ false → spaced text ≡ codes " " ++ text
 spaced_some text some = rw some refl
@@ -17,11 +17,11 @@ spaced_some text some = rw some refl
 pub spaced_none : (text : List ℕ) → (length text == 0) ≡ true → spaced text ≡ []
 spaced_none text none = rw none refl
 
-pub reply_told : (request : Words) (sent : List ℕ) → is_told request ≡ true
+pub reply_told : (request : MethodAndTarget) (sent : List ℕ) → is_told request ≡ true
     → reply_text (Some request) sent ≡ spaced (reply_in sent)
 reply_told request sent told = rw told refl
 
-pub reply_untold : (request : Words) (sent : List ℕ) → is_told request ≡ false → reply_text (Some request) sent ≡ []
+pub reply_untold : (request : MethodAndTarget) (sent : List ℕ) → is_told request ≡ false → reply_text (Some request) sent ≡ []
 reply_untold request sent untold = rw untold refl
 
 -- the greatest length of each part
@@ -46,7 +46,7 @@ pub moment_within : (moment : Option ℕ) → length (moment_text moment) ≤ 20
 moment_within None = omega arith
 moment_within (Some moment) = omega (arith, rfc3339_length moment)
 
-pub request_within : (request : Option Words) → length (request_text request) ≤ 200
+pub request_within : (request : Option MethodAndTarget) → length (request_text request) ≤ 200
 request_within None = omega arith
 request_within (Some (method, target)) = omega (arith, length-take 200 (shown method ++ (codes " " ++ shown target)))
 
@@ -75,7 +75,7 @@ told_within : (told : Bool) (sent : List ℕ) → length (if told then spaced (r
 told_within true sent = omega (arith, spaced_within (reply_in sent), reply_in_within sent)
 told_within false sent = omega arith
 
-pub reply_within : (request : Option Words) (sent : List ℕ) → length (reply_text request sent) ≤ 2003
+pub reply_within : (request : Option MethodAndTarget) (sent : List ℕ) → length (reply_text request sent) ≤ 2003
 reply_within None sent = omega arith
 reply_within (Some request) sent = told_within (is_told request) sent
 

@@ -6,11 +6,11 @@ use Rattle.hub_serve.specs.declared.connections.NoConnection.TheVariants as no
 use Rattle.hub_serve.specs.declared.line.Ending.{Ending}
 use Rattle.hub_serve.specs.declared.line.Ending.TheVariants as ended
 use Rattle.hub_journal.specs.Line.{line}
-use Rattle.hub_journal.specs.declared.line.Outcome.{Outcome}
-use Rattle.hub_journal.specs.declared.line.Outcome.TheVariants.{Answered, Gone, ReadFailed, TimedOut, WriteFailed}
+use Rattle.hub_journal.specs.declared.line.ConnectionEnd.{ConnectionEnd}
+use Rattle.hub_journal.specs.declared.line.ConnectionEnd.TheVariants.{Answered, Gone, ReadFailed, TimedOut, WriteFailed}
 
 -- how a connection ended, from its ending and from whether the last failed read timed out
-abbrev pub outcome_of : Ending → Bool → Outcome
+abbrev pub outcome_of : Ending → Bool → ConnectionEnd
 outcome_of (ended.Answered served) timed_out = Answered served.status
 outcome_of ended.Gone timed_out = Gone
 outcome_of ended.ReadFailed timed_out = if timed_out then TimedOut else ReadFailed

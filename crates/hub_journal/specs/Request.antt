@@ -3,7 +3,7 @@ use Rattle.std.specs.Prelude.{ℕ, ◌+◌, Bool, ◌==◌, ◌||◌, ◌&&◌, 
 use Rattle.std.specs.Prelude.{Option, Some, None}
 use Rattle.std.specs.List.{list_all, prefix_len, take_while, ends_with}
 use Rattle.std.specs.Str.{bytes_eq}
-use Rattle.hub_journal.specs.declared.request.Request.{Request}
+use Rattle.hub_journal.specs.declared.request.RequestWords.{RequestWords}
 
 -- a capital letter
 abbrev pub is_capital : ℕ → Bool
@@ -22,28 +22,28 @@ abbrev pub first_line : List ℕ → List ℕ
 first_line bytes = until 0x0D (until 0x0A (drop (prefix_len ends_line bytes) bytes))
 
 -- a method, and a target
-abbrev pub Words : Type 0
-Words = List ℕ × List ℕ
+abbrev pub MethodAndTarget : Type 0
+MethodAndTarget = List ℕ × List ℕ
 
-abbrev pub words_of : Request → Words
+abbrev pub words_of : RequestWords → MethodAndTarget
 words_of request = (request.method.now, request.target.now)
 
 -- The method and the target, if both are valid. A first word that has any byte other than a capital letter, such as the
 -- colon of a header field, is not a method.
-abbrev pub if_request : Words → Option Words
+abbrev pub if_request : MethodAndTarget → Option MethodAndTarget
 if_request (method, target) =
     if length method == 0 || (length target == 0 || not (list_all is_capital method)) then None else Some (method, target)
 
 -- the first two words of a line, separated by a space
-abbrev pub two_words : List ℕ → Words
+abbrev pub two_words : List ℕ → MethodAndTarget
 two_words line = let first = until 0x20 line in (first, until 0x20 (drop (length first + 1) line))
 
 -- the method and the target of the request that a client sent, if its first line has both
-unfoldable pub request_in : List ℕ → Option Words
+unfoldable pub request_in : List ℕ → Option MethodAndTarget
 request_in sent = if_request (two_words (first_line sent))
 
 -- whether the request is an upload or a cancellation
-unfoldable pub is_told : Words → Bool
+unfoldable pub is_told : MethodAndTarget → Bool
 is_told (method, target) =
     bytes_eq method (codes "POST")
     && (ends_with nat_eq target (codes "/interchanges") || ends_with nat_eq target (codes "/cancellations"))

@@ -4,7 +4,7 @@ ghost use Rattle.hub_serve.specs.Connections.{Adds, TakesMoment};
 ghost use Rattle.hub_journal.specs.Journaled as spec;
 ghost use Rattle.hub_journal.specs.Line.{line};
 
-use crate::line::{Entry, Outcome, line_of};
+use crate::line::{ConnectionEnd, Entry, line_of};
 use crate::reader::RecordingReader;
 use crate::writer::RecordingWriter;
 use edi_base::{Sink, Source};
@@ -36,15 +36,15 @@ pub struct Journaled<L, M, J> {
 }
 
 // Returns how a connection ended.
-fn outcome_of(ending: Ending, timed_out: bool) -> Outcome
+fn outcome_of(ending: Ending, timed_out: bool) -> ConnectionEnd
     ensures { result ≡ spec.outcome_of ending timed_out }
 {
     match ending {
-        Ending::Answered(Served { status, .. }) => Outcome::Answered(status),
-        Ending::Gone => Outcome::Gone,
-        Ending::ReadFailed if timed_out => Outcome::TimedOut,
-        Ending::ReadFailed => Outcome::ReadFailed,
-        Ending::WriteFailed => Outcome::WriteFailed,
+        Ending::Answered(Served { status, .. }) => ConnectionEnd::Answered(status),
+        Ending::Gone => ConnectionEnd::Gone,
+        Ending::ReadFailed if timed_out => ConnectionEnd::TimedOut,
+        Ending::ReadFailed => ConnectionEnd::ReadFailed,
+        Ending::WriteFailed => ConnectionEnd::WriteFailed,
     }
 }
 
@@ -96,7 +96,7 @@ impl<L, M: Moments, J: Journal> Journaled<L, M, J> {
     }
 
     // Appends the line of the latest connection to the journal.
-    fn tell(&mut self, read: &[u8], sent: &[u8], outcome: Outcome)
+    fn tell(&mut self, read: &[u8], sent: &[u8], outcome: ConnectionEnd)
         ensures told { Adds (J.lines self.old.journal) (J.lines self.new.journal)
             (line self.old.moment self.old.number read.now sent.now outcome ∷ []) }
         ensures connections { self.new.connections ≡ self.old.connections }
@@ -116,7 +116,7 @@ impl<L, M: Moments, J: Journal> Journaled<L, M, J> {
 }
 
 // Wraps the two sides of a connection.
-fn recorded<R, W>(sides: Sides<R, W>) -> Sides<RecordingReader<R>, RecordingWriter<W>>
+fn recording_sides<R, W>(sides: Sides<R, W>) -> Sides<RecordingReader<R>, RecordingWriter<W>>
     ensures reader { result.reader.reader ≡ sides.reader }
     ensures writer { result.writer.writer ≡ sides.writer }
     ensures read { result.reader.front ≡ [] }
@@ -161,11 +161,11 @@ impl<L: Connections, M: Moments, J: Journal> Connections for Journaled<L, M, J> 
         match self.connections.next() {
             Ok(sides) => {
                 self.count();
-                Ok(recorded(sides))
+                Ok(recording_sides(sides))
             }
             Err(NoConnection::Gone) => {
                 self.count();
-                self.tell(&[], &[], Outcome::Gone);
+                self.tell(&[], &[], ConnectionEnd::Gone);
                 Err(NoConnection::Gone)
             }
             Err(NoConnection::Over) => Err(NoConnection::Over),
@@ -184,7 +184,7 @@ impl<L: Connections, M: Moments, J: Journal> Connections for Journaled<L, M, J> 
         ensures number { self.new.number ≡ self.old.number }
     {
         let Sides { reader, writer } = sides;
-        let outcome = outcome_of(ending, reader.timed_out());
+        let outcome = outcome_of(ending, reader.has_timed_out());
         self.tell(reader.front(), writer.front(), outcome);
         let sides = Sides {
             reader: reader.into_inner(),

@@ -12,6 +12,6 @@ mod writer;
 
 pub use front::Front;
 pub use journaled::{Journal, Journaled};
-pub use line::{Entry, Outcome, line_examples, line_of};
+pub use line::{ConnectionEnd, Entry, line_examples, line_of};
 pub use reader::RecordingReader;
 pub use writer::RecordingWriter;

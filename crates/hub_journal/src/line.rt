@@ -3,17 +3,17 @@ ghost use Rattle.std.specs.Prelude.{◌≡◌, ◌≤◌, [], ◌++◌, length, 
 ghost use Rattle.hub_journal.specs.Front.{kept};
 ghost use Rattle.hub_journal.specs.Line as spec;
 ghost use Rattle.hub_journal.specs.Request.{words_of};
-ghost use Rattle.hub_journal.specs.declared.line.Outcome.TheVariants.{Answered, TimedOut};
+ghost use Rattle.hub_journal.specs.declared.line.ConnectionEnd.TheVariants.{Answered, TimedOut};
 
 use crate::front::Front;
 use crate::moment_text::rfc3339;
 use crate::reply::{keep_shown, reply_in};
-use crate::request::Request;
+use crate::request::RequestWords;
 use edi_moment::Moment;
 
 /// How a connection ended.
 #[derive(Clone, Copy, Debug, PartialEq, Eq)]
-pub enum Outcome {
+pub enum ConnectionEnd {
     /// It got a response with this status.
     Answered(u16),
     /// Its client disconnected before the connection was accepted.
@@ -38,7 +38,7 @@ pub struct Entry<'a> {
     /// The first bytes that were sent to its client.
     pub sent: &'a [u8],
     /// How it ended.
-    pub outcome: Outcome,
+    pub outcome: ConnectionEnd,
 }
 
 /// The most bytes of method and target that are shown.
@@ -64,7 +64,7 @@ fn keep_number(line: &mut Front, number: u64)
 }
 
 // Writes method and target.
-fn keep_request(line: &mut Front, request: Option<Request<'_>>)
+fn keep_request(line: &mut Front, request: Option<RequestWords<'_>>)
     ensures { line.new ≡ kept line.old (spec.request_text (option_map words_of request.entry)) }
 {
     match request {
@@ -81,16 +81,16 @@ fn keep_request(line: &mut Front, request: Option<Request<'_>>)
 }
 
 // Writes the status, or the word for why there was no complete response.
-fn keep_outcome(line: &mut Front, outcome: Outcome)
+fn keep_outcome(line: &mut Front, outcome: ConnectionEnd)
     ensures value { line.new ≡ kept line.old (spec.outcome_text outcome) }
     ensures short { length (spec.outcome_text outcome) ≤ 40 }
 {
     match outcome {
-        Outcome::Answered(status) => keep_number(line, u64::from(status)),
-        Outcome::Gone => line.keep(b"gone"),
-        Outcome::ReadFailed => line.keep(b"read"),
-        Outcome::TimedOut => line.keep(b"timeout"),
-        Outcome::WriteFailed => line.keep(b"write"),
+        ConnectionEnd::Answered(status) => keep_number(line, u64::from(status)),
+        ConnectionEnd::Gone => line.keep(b"gone"),
+        ConnectionEnd::ReadFailed => line.keep(b"read"),
+        ConnectionEnd::TimedOut => line.keep(b"timeout"),
+        ConnectionEnd::WriteFailed => line.keep(b"write"),
     }
 }
 
@@ -105,7 +105,7 @@ fn keep_spaced(line: &mut Front, text: &[u8])
 }
 
 // Writes the reply, if the request is an upload or a cancellation.
-fn keep_reply(line: &mut Front, request: Option<Request<'_>>, sent: &[u8])
+fn keep_reply(line: &mut Front, request: Option<RequestWords<'_>>, sent: &[u8])
     ensures { line.new ≡ kept line.old (spec.reply_text (option_map words_of request.entry) sent.now) }
 {
     let Some(request) = request else {
@@ -121,7 +121,7 @@ fn keep_reply(line: &mut Front, request: Option<Request<'_>>, sent: &[u8])
 pub fn line_of(entry: &Entry<'_>) -> Front
     ensures { result ≡ spec.line entry.now.moment entry.now.number entry.now.read.now entry.now.sent.now entry.now.outcome }
 {
-    let request = Request::read_from(entry.read);
+    let request = RequestWords::read_from(entry.read);
     let mut line = Front::new();
     keep_moment(&mut line, entry.moment);
     line.keep(b" ");

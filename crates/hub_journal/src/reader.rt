@@ -46,7 +46,7 @@ impl<R> RecordingReader<R> {
     }
 
     /// Whether the last failed read timed out.
-    pub fn timed_out(&self) -> bool
+    pub fn has_timed_out(&self) -> bool
         ensures { result ≡ self.now.timed_out }
     {
         self.timed_out

@@ -6,7 +6,7 @@ ghost use Rattle.hub_journal.specs.Request.{is_capital, words_of};
 
 /// The first two words of a request.
 #[derive(Clone, Copy)]
-pub(crate) struct Request<'a> {
+pub(crate) struct RequestWords<'a> {
     pub method: &'a [u8],
     pub target: &'a [u8],
 }
@@ -60,7 +60,7 @@ fn all_capital(bytes: &[u8]) -> bool
 }
 
 // Returns the first two words of a line, separated by a space.
-fn two_words(line: &[u8]) -> Request<'_>
+fn two_words(line: &[u8]) -> RequestWords<'_>
     ensures { words_of result ≡ spec.two_words line.now }
 {
     let method = until(b' ', line);
@@ -68,10 +68,10 @@ fn two_words(line: &[u8]) -> Request<'_>
         Some(rest) => until(b' ', rest),
         None => &[],
     };
-    Request { method, target }
+    RequestWords { method, target }
 }
 
-impl<'a> Request<'a> {
+impl<'a> RequestWords<'a> {
     #[tactic(auto, unfolding(crate::specs::Request::request_in))]
     /// Returns the request that a client sent, if its first line has a method and a target.
     pub fn read_from(sent: &'a [u8]) -> Option<Self>

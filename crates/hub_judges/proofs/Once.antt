@@ -22,16 +22,16 @@ keeps_all : {X : Type 0} (p : X → Bool) (xs : List X) → AllByRecursion (λ x
 keeps_all p [] all = refl
 keeps_all p (x ∷ xs) all = ap₂ (λ v rest. cond v (x ∷ rest) rest) all.0 (keeps_all p xs all.1)
 
-abbrev Comes : List ReceiptLine → List ℕ → Type 0
-Comes lines article = is_some (total_from None article lines) ≡ true
+abbrev ComesAmong : List ReceiptLine → List ℕ → Type 0
+ComesAmong lines article = is_some (total_from None article lines) ≡ true
 
-comes_here : (line : ReceiptLine) (lines : List ReceiptLine) (article : List ℕ) → same line.gtin article ≡ true → Comes
+comes_here : (line : ReceiptLine) (lines : List ReceiptLine) (article : List ℕ) → same line.gtin article ≡ true → ComesAmong
     (line ∷ lines) article
 comes_here line lines article e =
     ap is_some (ap (λ v. total_from (cond v (Some (with_line nothing line)) None) article lines) e
     ∙ from_some (with_line nothing line) article lines)
 
-comes_later : (line : ReceiptLine) (lines : List ReceiptLine) (article : List ℕ) → Comes lines article → Comes
+comes_later : (line : ReceiptLine) (lines : List ReceiptLine) (article : List ℕ) → ComesAmong lines article → ComesAmong
     (line ∷ lines) article
 comes_later line lines article h =
     elim (decide (same line.gtin article)) [
@@ -39,11 +39,11 @@ comes_later line lines article h =
       | inr e ↦ ap (λ v. is_some (total_from (cond v (Some (with_line nothing line)) None) article lines)) e ∙ h
     ]
 
-all_come : (lines : List ReceiptLine) → AllByRecursion (λ line. Comes lines line.gtin) lines
+all_come : (lines : List ReceiptLine) → AllByRecursion (λ line. ComesAmong lines line.gtin) lines
 all_come [] = tt
 all_come (line ∷ lines) = (
   comes_here line lines line.gtin (same_if line.gtin line.gtin refl),
-  all_weaker (λ other. Comes lines other.gtin) (λ other. Comes (line ∷ lines) other.gtin)
+  all_weaker (λ other. ComesAmong lines other.gtin) (λ other. ComesAmong (line ∷ lines) other.gtin)
       (λ other h. comes_later line lines other.gtin h) lines (all_come lines),
 )
 
@@ -53,7 +53,7 @@ pub all_left : (totals : List ℕ → Option Total) (lines : List ReceiptLine)
     → left totals lines ≡ gtins lines
 all_left totals lines are =
     keeps_all (λ gtin. is_some (totals gtin)) (gtins lines) (all_gtins (λ gtin. is_some (totals gtin) ≡ true) lines
-    (all_weaker (λ line. Comes lines line.gtin) (λ line. is_some (totals line.gtin) ≡ true)
+    (all_weaker (λ line. ComesAmong lines line.gtin) (λ line. is_some (totals line.gtin) ≡ true)
     (λ line h. ap is_some (are line.gtin) ∙ h) lines (all_come lines)))
 
 -- the receipt of an article is made from its total

@@ -16,14 +16,14 @@ use edi_base::{Items, MemoryFault};
 use edi_orders::{AnswerLine, LineAnswer};
 use hub_order_lines::{Book, LineFacts, copied_row};
 use hub_rules::{Code, Verdict};
-use hub_tables::{Answered, Change, Column, LineRow};
+use hub_tables::{Change, Column, LineRow, LineState};
 use std::alloc::Global;
 
 // Whether the line waits for an answer.
 fn is_waiting(line: &LineFacts) -> bool
     ensures { result ≡ waits line.now.row }
 {
-    line.row.answer.case() == Answered::Waiting
+    line.row.answer.case() == LineState::Waiting
 }
 
 /// Whether some line of the order waits for an answer.
@@ -82,17 +82,17 @@ fn answered_line(
 {
     let mut row = copied_row(alloc, &line.row)?;
     match answer {
-        LineAnswer::Accepted => row.answer = Column::of(Answered::Accepted),
+        LineAnswer::Accepted => row.answer = Column::of(LineState::Accepted),
         LineAnswer::Refused => {
             row.refused += row.open_qty;
             row.open_qty = 0;
-            row.answer = Column::of(Answered::NotAccepted);
+            row.answer = Column::of(LineState::NotAccepted);
         }
         LineAnswer::Changed(quantity) => {
             let open_qty = quantity - line.despatched;
             row.refused += row.open_qty - open_qty;
             row.open_qty = open_qty;
-            row.answer = Column::of(Answered::Changed);
+            row.answer = Column::of(LineState::Changed);
         }
     }
     Ok(row)

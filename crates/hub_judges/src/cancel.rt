@@ -8,7 +8,7 @@ ghost use Rattle.hub_judges.specs.Known.{TellsForCancel};
 use crate::known::Known;
 use crate::party::registered_supplier;
 use crate::remembering::repeats;
-use edi_base::{Items, MemoryFault, copied};
+use edi_base::{Items, MemoryFault, copy_bytes};
 use hub_order_lines::copied_row;
 use hub_parties::SupplierRow;
 use hub_rules::{Cancel, Code, Verdict};
@@ -67,7 +67,7 @@ pub fn judge_cancel(
     changes.push(Change::Remember(RememberedRow {
         supplier: row.gln,
         side: Column::of(Side::Cancellation),
-        control: copied(alloc, cancel.reference.as_slice())?,
+        control: copy_bytes(alloc, cancel.reference.as_slice())?,
         message: Items::new(alloc),
         content,
     }))?;

@@ -17,9 +17,9 @@ ghost use Rattle.hub_judges.specs.Known.{TellsForDespatch};
 
 use crate::earlier::has_come;
 use crate::known::Known;
-use crate::party::admitted;
+use crate::party::admitted_supplier;
 use crate::remembering::{remember, repeats};
-use edi_base::{Items, MemoryFault, Seen, copied};
+use edi_base::{Items, MemoryFault, Seen, copy_bytes};
 use edi_goods::{Despatch, DespatchLine, Unit};
 use gs1_ids::{Gln, Sscc};
 use hub_order_lines::{Book, LineFacts, copied_row};
@@ -76,7 +76,7 @@ fn load(
         let content = ContentRow {
             sscc: unit.sscc,
             place: index as u64 + 1,
-            number: copied(alloc, row.number.as_slice())?,
+            number: copy_bytes(alloc, row.number.as_slice())?,
             line: row.line,
             quantity: said.quantity,
         };
@@ -124,7 +124,7 @@ fn announced_pallet(
     Ok(Change::AddPallet(PalletRow {
         sscc,
         supplier: row.gln,
-        advice: copied(alloc, advice)?,
+        advice: copy_bytes(alloc, advice)?,
         received: Column::of(Arrival::Announced),
     }))
 }
@@ -162,7 +162,7 @@ fn judge_units(
 }
 
 // Returns the first changes for an advice that is accepted: its message is remembered, and its number is recorded.
-fn remembered_with_number(
+fn remember_with_number(
     alloc: Global,
     row: &SupplierRow,
     incoming: IncomingMessage,
@@ -174,7 +174,7 @@ fn remembered_with_number(
 {
     let advice = AdviceRow {
         supplier: row.gln,
-        number: copied(alloc, number)?,
+        number: copy_bytes(alloc, number)?,
     };
     let mut changes = Items::new(alloc);
     changes.push(remember(row.gln, Side::Supplier, incoming))?;
@@ -195,7 +195,7 @@ fn judge_new(
         verdict ≡ joined (Remember (remembered (rules.referred_by row.now Supplier incoming) incoming.content)
         ∷ []) (despatch_from row.now despatch.now known.now)) }
 {
-    let changes = remembered_with_number(alloc, row, incoming, despatch.number.as_slice())?;
+    let changes = remember_with_number(alloc, row, incoming, despatch.number.as_slice())?;
     let book = Book::new(alloc, &known.orders);
     let used = known.used.as_slice();
     let verdict = judge_units(alloc, row, despatch, used, book, changes)?;
@@ -218,7 +218,7 @@ pub fn judge_despatch(
         verdict ≡ rules.judge_despatch retailer.now
         (option_copied supplier.entry) used incoming despatch.now state) }
 {
-    let row = match admitted(retailer, supplier, despatch.buyer, &despatch.supplier) {
+    let row = match admitted_supplier(retailer, supplier, despatch.buyer, &despatch.supplier) {
         Ok(row) => row,
         Err(code) => return Ok(Verdict::Refuse(code)),
     };

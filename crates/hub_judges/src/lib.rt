@@ -22,7 +22,7 @@ pub use despatch::judge_despatch;
 pub use hub_order_lines::{KnownOrders, LineFacts};
 pub use hub_rules::{Cancel, Code, IncomingMessage, Join, Verdict};
 pub use hub_tables::{
-    AdviceRow, Answered, Arrival, Case, Change, Column, ContentRow, LineRow, MailKind, MailRow,
+    AdviceRow, Arrival, Case, Change, Column, ContentRow, LineRow, LineState, MailKind, MailRow,
     OrderRow, PalletRow, ReceiptRow, RememberedRow, Side,
 };
 pub use join::judge_join;

@@ -7,7 +7,7 @@ ghost use Rattle.hub_rules.specs.RepeatRules.{remembered};
 ghost use Rattle.hub_rules.specs.Rules.{referred_by};
 
 use crate::remembering::remember;
-use edi_base::{Items, MemoryFault, copied};
+use edi_base::{Items, MemoryFault, copy_bytes};
 use edi_envelope::LAST_MAIL_NUMBER;
 use gs1_ids::Gln;
 use hub_parties::SupplierRow;
@@ -43,7 +43,7 @@ pub(crate) fn new_mail(
         moment: incoming.moment,
         decimal: incoming.decimal,
         kind: Column::of(kind),
-        document: copied(alloc, document)?,
+        document: copy_bytes(alloc, document)?,
         body,
         taken: Column::of(false),
     }))
@@ -51,7 +51,7 @@ pub(crate) fn new_mail(
 
 /// Returns the first changes for a message of the retailer that is accepted: it is remembered, and mailed to the
 /// supplier, whose mailbox has `mails` entries.
-pub(crate) fn remembered_and_mailed(
+pub(crate) fn remember_and_mail(
     alloc: Global,
     row: &SupplierRow,
     mails: u64,

@@ -11,16 +11,16 @@ ghost use Rattle.hub_rules.specs.Rules as rules;
 ghost use Rattle.hub_judges.specs.Known.{TellsForOrder};
 
 use crate::known::Known;
-use crate::mail::{is_full, remembered_and_mailed};
-use crate::party::admitted;
+use crate::mail::{is_full, remember_and_mail};
+use crate::party::admitted_supplier;
 use crate::remembering::repeats;
-use edi_base::{Items, MemoryFault, copied};
+use edi_base::{Items, MemoryFault, copy_bytes};
 use edi_envelope::LAST_MAIL_NUMBER;
 use edi_orders::Order;
 use gs1_ids::Gln;
 use hub_parties::SupplierRow;
 use hub_rules::{Code, IncomingMessage, Verdict};
-use hub_tables::{Answered, Change, Column, LineRow, MailKind, OrderRow};
+use hub_tables::{Change, Column, LineRow, LineState, MailKind, OrderRow};
 use std::alloc::Global;
 
 // Appends the lines of a new order.
@@ -36,14 +36,14 @@ fn add_lines(
     for line in order.lines.as_slice() {
         changes.push(Change::AddLine(LineRow {
             supplier,
-            number: copied(alloc, order.number.as_slice())?,
+            number: copy_bytes(alloc, order.number.as_slice())?,
             line: line.line,
             gtin: line.gtin,
             ordered: line.quantity,
             open_qty: line.quantity,
             refused: 0,
             cancelled: 0,
-            answer: Column::of(Answered::Waiting),
+            answer: Column::of(LineState::Waiting),
         }))?;
     }
     Ok(())
@@ -68,10 +68,10 @@ fn new_order(
 {
     let number = order.number.as_slice();
     let kind = MailKind::Orders;
-    let mut changes = remembered_and_mailed(alloc, row, mails, incoming, kind, number, body)?;
+    let mut changes = remember_and_mail(alloc, row, mails, incoming, kind, number, body)?;
     changes.push(Change::AddOrder(OrderRow {
         supplier: row.gln,
-        number: copied(alloc, number)?,
+        number: copy_bytes(alloc, number)?,
     }))?;
     add_lines(alloc, row.gln, order, &mut changes)?;
     Ok(changes)
@@ -92,7 +92,7 @@ pub fn judge_order(
         verdict ≡ rules.judge_order retailer.now
         (option_copied supplier.entry) incoming body order.now state) }
 {
-    let row = match admitted(retailer, supplier, Some(order.buyer), &order.supplier) {
+    let row = match admitted_supplier(retailer, supplier, Some(order.buyer), &order.supplier) {
         Ok(row) => row,
         Err(code) => return Ok(Verdict::Refuse(code)),
     };

@@ -36,7 +36,7 @@ pub(crate) fn registered_supplier<'a>(
 
 /// Returns the supplier of a message, if the message names no buyer other than the retailer (B01), and the supplier is
 /// registered and named (B02).
-pub(crate) fn admitted<'a>(
+pub(crate) fn admitted_supplier<'a>(
     retailer: &Gln,
     supplier: Option<&'a SupplierRow>,
     buyer: Option<Gln>,
@@ -72,7 +72,7 @@ pub fn party_fault(
         refuse_if (is_other_buyer retailer.now buyer) Buyer
         (if_registered (option_copied supplier.entry) named.now rest) ≡ rest row)) }
 {
-    match admitted(retailer, supplier, buyer, named) {
+    match admitted_supplier(retailer, supplier, buyer, named) {
         Ok(_) => None,
         Err(code) => Some(code),
     }

@@ -12,11 +12,11 @@ ghost use Rattle.hub_judges.specs.Totals.{RowsHold};
 
 use crate::earlier::has_come;
 use crate::known::Known;
-use crate::mail::{is_full, remembered_and_mailed};
-use crate::party::admitted;
+use crate::mail::{is_full, remember_and_mail};
+use crate::party::admitted_supplier;
 use crate::remembering::repeats;
 use crate::totals::totals_of;
-use edi_base::{Items, MemoryFault, Seen, copied};
+use edi_base::{Items, MemoryFault, Seen, copy_bytes};
 use edi_goods::{Receipt, ReceiptUnit};
 use gs1_ids::Gln;
 use hub_parties::SupplierRow;
@@ -87,7 +87,7 @@ fn receive(
     changes.push(Change::SetPallet(PalletRow {
         sscc: pallet.sscc,
         supplier: pallet.supplier,
-        advice: copied(alloc, pallet.advice.as_slice())?,
+        advice: copy_bytes(alloc, pallet.advice.as_slice())?,
         received: Column::of(arrival),
     }))?;
     if replaces {
@@ -143,7 +143,7 @@ pub fn judge_receipt(
         verdict ≡ rules.judge_receipt retailer.now
         (option_copied supplier.entry) incoming body receipt.now state) }
 {
-    let row = match admitted(retailer, supplier, receipt.buyer, &receipt.supplier) {
+    let row = match admitted_supplier(retailer, supplier, receipt.buyer, &receipt.supplier) {
         Ok(row) => row,
         Err(code) => return Ok(Verdict::Refuse(code)),
     };
@@ -155,7 +155,7 @@ pub fn judge_receipt(
     }
     let number = receipt.number.as_slice();
     let kind = MailKind::Receipt;
-    let changes = remembered_and_mailed(alloc, row, known.mails, incoming, kind, number, body)?;
+    let changes = remember_and_mail(alloc, row, known.mails, incoming, kind, number, body)?;
     let units = receipt.units.as_slice();
     let pallets = known.pallets.as_slice();
     judge_units(alloc, receipt.replaces, units, pallets, changes)

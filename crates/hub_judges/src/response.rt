@@ -12,7 +12,7 @@ ghost use Rattle.hub_judges.specs.Known.{TellsForResponse};
 
 use crate::answers::{answer_all, answer_lines, any_waits};
 use crate::known::Known;
-use crate::party::admitted;
+use crate::party::admitted_supplier;
 use crate::remembering::{remember, repeats};
 use edi_base::{Items, MemoryFault};
 use edi_orders::{Answer, LineAnswer, Response};
@@ -92,7 +92,12 @@ pub fn judge_response(
         verdict ≡ rules.judge_response retailer.now
         (option_copied supplier.entry) incoming response.now state) }
 {
-    let row = match admitted(retailer, supplier, Some(response.buyer), &response.supplier) {
+    let row = match admitted_supplier(
+        retailer,
+        supplier,
+        Some(response.buyer),
+        &response.supplier,
+    ) {
         Ok(row) => row,
         Err(code) => return Ok(Verdict::Refuse(code)),
     };

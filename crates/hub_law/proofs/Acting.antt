@@ -12,7 +12,7 @@ pub record Alike {A : Type 0} (suppliers : List SupplierRow) (s : SupplierRow) (
   pub apart : Apart suppliers s t shared.1 own.1
 
 -- the tables stay sound, with the same register
-pub record Stays (suppliers : List SupplierRow) (t after : Tables) : Type 0 where
+pub record ActStaysSound (suppliers : List SupplierRow) (t after : Tables) : Type 0 where
   pub sound : Sound suppliers after
   pub parties : PartiesStay t after
 
@@ -32,5 +32,5 @@ suppliers_same t after stay = λ i. map (row_in (stay.prefixes i)) (stay.keys i)
 pub register_same : (t after : Tables) → PartiesStay t after → register_of after ≡ register_of t
 register_same t after stay = λ i. register_by (hub_in (stay.hubs i)) (suppliers_same t after stay i)
 
-pub stays_same : (suppliers : List SupplierRow) (t : Tables) → Sound suppliers t → Stays suppliers t t
+pub stays_same : (suppliers : List SupplierRow) (t : Tables) → Sound suppliers t → ActStaysSound suppliers t t
 stays_same suppliers t sound = record { sound = sound; parties = parties_same t }

@@ -30,20 +30,20 @@ use Rattle.hub_requests.specs.declared.reply.Reply.{Reply}
 use Rattle.hub_requests.specs.declared.request.Input.{Input}
 use Rattle.hub_requests.specs.declared.request.Request.{Request}
 use Rattle.hub_requests.specs.declared.request.Request.TheVariants as requests
-use Rattle.hub_law.proofs.Acting.{Stays, suppliers_same, register_same}
+use Rattle.hub_law.proofs.Acting.{ActStaysSound, suppliers_same, register_same}
 use Rattle.hub_law.proofs.Callers.{step_by, is_retailers, step_is, as_retailer}
 use Rattle.hub_law.proofs.Retailers.{messages_stay, cancelled_stays}
 use Rattle.hub_law.proofs.Steps.{supplier_alike}
 
-pub record Goes (t after : Tables) : Type 0 where
+pub record KeepsSuppliers (t after : Tables) : Type 0 where
   pub sound : SoundHub after
   pub hubs : after.hubs ≡ t.hubs
   pub stays : (gln : List ℕ) (s : SupplierRow) → row_at gln t ≡ Some s → row_at gln after ≡ Some s
 
-pub goes_same : (t : Tables) → SoundHub t → Goes t t
+pub goes_same : (t : Tables) → SoundHub t → KeepsSuppliers t t
 goes_same t here = record { sound = here; hubs = refl; stays = λ gln s known. known }
 
-goes_on : (t u v : Tables) → Goes t u → Goes u v → Goes t v
+goes_on : (t u v : Tables) → KeepsSuppliers t u → KeepsSuppliers u v → KeepsSuppliers t v
 goes_on t u v one next = record {
   sound = next.sound;
   hubs = next.hubs ∙ one.hubs;
@@ -61,7 +61,7 @@ holds_on t after stay holds = record {
   right = subst IsRegister (sym (register_same t after stay)) holds.right;
 }
 
-goes_kept : (t after : Tables) → SoundHub t → Stays (suppliers_of t) t after → Goes t after
+goes_kept : (t after : Tables) → SoundHub t → ActStaysSound (suppliers_of t) t after → KeepsSuppliers t after
 goes_kept t after here kept =
     let suppliers = suppliers_same t after kept.parties in
     record {
@@ -73,7 +73,7 @@ goes_kept t after here kept =
       stays = λ gln s known. ap (λ suppliers. supplier_row suppliers gln) suppliers ∙ known;
     }
 
-goes_joined : (row : SupplierRow) (t after : Tables) → JoinedBy row t after → Goes t after
+goes_joined : (row : SupplierRow) (t after : Tables) → JoinedBy row t after → KeepsSuppliers t after
 goes_joined row t after by = record { sound = by.sound; hubs = by.hubs; stays = by.stays }
 
 module _ (t : Tables) (here : SoundHub t) where
@@ -81,26 +81,26 @@ module _ (t : Tables) (here : SoundHub t) where
   R = register_of t
 
   -- what is done unless it was stopped
-  unless_goes : (mark : Mark) (after : Told × Tables) → Goes t after.1 → Goes t (answered mark after t).1
+  unless_goes : (mark : Mark) (after : Told × Tables) → KeepsSuppliers t after.1 → KeepsSuppliers t (answered mark after t).1
   unless_goes Whole after goes = goes
   unless_goes StoppedEmpty after goes = goes_same t here
   unless_goes StoppedBare after goes = goes_same t here
   unless_goes (StoppedAfter k) after goes = goes_same t here
 
-  pub join_goes : (row : SupplierRow) → is_join row ≡ true → Goes t (join R row t).1
-  join_goes row may = elim (judge_join R row) as (λ v. judge_join R row ≡ v → Goes t (act v t).1) [
+  pub join_goes : (row : SupplierRow) → is_join row ≡ true → KeepsSuppliers t (join R row t).1
+  join_goes row may = elim (judge_join R row) as (λ v. judge_join R row ≡ v → KeepsSuppliers t (act v t).1) [
     | Accept changes ↦ λ e. goes_joined row t (apply_all changes t) (joined_by row t here may changes e)
     | Refuse code ↦ λ e. goes_same t here
   ] refl
 
-  joined_goes : (mark : Mark) (row : SupplierRow) → Goes t (joined R mark row t).1
+  joined_goes : (mark : Mark) (row : SupplierRow) → KeepsSuppliers t (joined R mark row t).1
   joined_goes mark row = elim (is_join row) as (λ v. is_join row ≡ v
-      → Goes t (if v then answered mark (join R row t) t else replied mark denied t).1) [
+      → KeepsSuppliers t (if v then answered mark (join R row t) t else replied mark denied t).1) [
         | true ↦ λ may. unless_goes mark (join R row t) (join_goes row may)
         | false ↦ λ never. goes_same t here
       ] refl
 
-  pub retailer_goes : (moment : ℕ) (mark : Mark) (request : Request) → Goes t (retailer_request R moment mark request t).1
+  pub retailer_goes : (moment : ℕ) (mark : Mark) (request : Request) → KeepsSuppliers t (retailer_request R moment mark request t).1
   retailer_goes moment mark (requests.Upload bytes) =
       goes_kept t _ here (messages_stay R here.register.right.prefixes_free
       (looked_at moment mark (from_retailer (parties_of R) bytes)) t here.sound)
@@ -115,32 +115,32 @@ module _ (t : Tables) (here : SoundHub t) where
 
   goes_by : (input : Input) (mark : Mark) (o : Option SupplierRow)
       → supplier_row (suppliers_of t) input.caller ≡ o
-      → Goes t (step_by R o input mark t).1
+      → KeepsSuppliers t (step_by R o input mark t).1
   goes_by input mark (Some w) h =
       let whose = gln_found (suppliers_of t) input.caller w h in
       let alike = supplier_alike (suppliers_of t) here.register.right.prefixes_free (parties_of R) w
       (ap (supplier_row (suppliers_of t)) whose ∙ h) input mark t here.sound in
       goes_kept t _ here (record { sound = alike.apart.sound; parties = alike.apart.parties })
   goes_by input mark None h =
-      elim (is_retailers R input) as (λ v. Goes t
+      elim (is_retailers R input) as (λ v. KeepsSuppliers t
       (if v then retailer_request R input.moment mark input.request t else replied mark denied t).1) [
         | true ↦ retailer_goes input.moment mark input.request
         | false ↦ goes_same t here
       ]
 
-  pub step_goes : (input : Input) (mark : Mark) → Goes t (shared_step t input mark).1
+  pub step_goes : (input : Input) (mark : Mark) → KeepsSuppliers t (shared_step t input mark).1
   step_goes input mark =
-      subst (λ (after : Reply × Tables). Goes t after.1) (sym (step_is R input mark t))
+      subst (λ (after : Reply × Tables). KeepsSuppliers t after.1) (sym (step_is R input mark t))
       (goes_by input mark (supplier_row (suppliers_of t) input.caller) refl)
 
-pub run_goes : (inputs : Inputs) (t : Tables) → SoundHub t → Goes t (shared_run t inputs).1
+pub run_goes : (inputs : Inputs) (t : Tables) → SoundHub t → KeepsSuppliers t (shared_run t inputs).1
 run_goes [] t here = goes_same t here
 run_goes ((input, mark) ∷ inputs) t here =
     let one = step_goes t here input mark in
     goes_on t (shared_step t input mark).1 (shared_run t ((input, mark) ∷ inputs)).1 one
     (run_goes inputs (shared_step t input mark).1 one.sound)
 
-pub parties_stay : (t after : Tables) → Goes t after → parties_in after ≡ parties_in t
+pub parties_stay : (t after : Tables) → KeepsSuppliers t after → parties_in after ≡ parties_in t
 parties_stay t after goes = λ i. record { hub = (hub_in (goes.hubs i)).hub; retailer = (hub_in (goes.hubs i)).retailer }
 
 -- the retailer is not a supplier

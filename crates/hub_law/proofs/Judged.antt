@@ -12,7 +12,7 @@ use Rattle.hub_rules.specs.Sound.{Sound}
 use Rattle.hub_rules.specs.declared.verdict.Verdict.{Verdict}
 use Rattle.hub_rules.specs.declared.verdict.Verdict.TheVariants.{Accept, Refuse}
 use Rattle.hub_rules.specs.Laws.{Apart}
-use Rattle.hub_rules.proofs.Belonging.{Keeps}
+use Rattle.hub_rules.proofs.Belonging.{KeepsSupplier}
 use Rattle.hub_rules.proofs.OwnChanges.{after_changes}
 use Rattle.hub_law.specs.Told.{Told, Refused, told, act, read_act}
 use Rattle.hub_law.proofs.Acting.{Alike, parties_same}
@@ -37,7 +37,7 @@ module _ (suppliers : List SupplierRow) (free : PrefixFree (company_prefixes sup
   -- one verdict, for the tables and for the supplier's rows
   pub same_verdict : (shared own : Verdict)
       → shared ≡ own
-      → ((changes : List Change) → own ≡ Accept changes → Keeps s (view s.gln t) changes)
+      → ((changes : List Change) → own ≡ Accept changes → KeepsSupplier s (view s.gln t) changes)
       → Alike suppliers s t (act shared t) (act own (view s.gln t))
   same_verdict (Refuse code) own e keeps =
       subst (λ v. Alike suppliers s t (act (Refuse code) t) (act v (view s.gln t))) e
@@ -49,7 +49,7 @@ module _ (suppliers : List SupplierRow) (free : PrefixFree (company_prefixes sup
   -- what is read, then one verdict on it
   pub same_reading : {X : Type 0} (read : Result X MessageFault) (shared own : X → Verdict)
       → ((x : X) → shared x ≡ own x)
-      → ((x : X) → read ≡ Ok x → (changes : List Change) → own x ≡ Accept changes → Keeps s (view s.gln t) changes)
+      → ((x : X) → read ≡ Ok x → (changes : List Change) → own x ≡ Accept changes → KeepsSupplier s (view s.gln t) changes)
       → Alike suppliers s t (read_act read shared t) (read_act read own (view s.gln t))
   same_reading (Err fault) shared own agree keeps = nothing_done suppliers s t sound (Refused (message_faults.code_text fault))
   same_reading (Ok x) shared own agree keeps = same_verdict (shared x) (own x) (agree x) (keeps x refl)

@@ -40,7 +40,7 @@ use Rattle.hub_law.proofs.Cutting.{well_opened, whole_upload, behind_some}
 use Rattle.hub_law.proofs.Remembering.{named_remembered, suppliers_remembered, cancellation_remembered}
 use Rattle.hub_law.proofs.Repeated.{named_repeated, suppliers_repeated, cancellation_repeated, nobody_accepted}
 use Rattle.hub_law.proofs.Callers.{is_retailers, retailer_asks}
-use Rattle.hub_law.proofs.Going.{Goes, run_goes, parties_stay, retailer_has_no_row}
+use Rattle.hub_law.proofs.Going.{KeepsSuppliers, run_goes, parties_stay, retailer_has_no_row}
 use Rattle.hub_law.proofs.Retailers.{message_stays}
 use Rattle.hub_law.proofs.Staying.{all_retailers_stay, all_suppliers_stay, run_stays}
 
@@ -345,8 +345,8 @@ module _ (t : Tables) (before between : Inputs) (first : Input) (mark : Mark) (p
       abbrev there : Tables
       there = tables_before at_second second other.upload later
 
-      goes : Goes at_first at_second
-      goes = subst (Goes at_first) (sym (run_of_both t before ((first, mark) ∷ between)))
+      goes : KeepsSuppliers at_first at_second
+      goes = subst (KeepsSuppliers at_first) (sym (run_of_both t before ((first, mark) ∷ between)))
           (run_goes ((first, mark) ∷ between) at_first start)
 
       -- the caller's row is the same as before
@@ -454,8 +454,8 @@ module _ (c : Cancel) where
         step_cancels after_run second asked_again
         ∙ ap (λ (after : Told × Tables). (act_reply after.0, after.1)) (by_row (row_at c.supplier when_first) refl)
       where
-        ran : Goes when_first after_run
-        ran = subst (Goes when_first) (sym (run_of_both t before ((first, Whole) ∷ between)))
+        ran : KeepsSuppliers when_first after_run
+        ran = subst (KeepsSuppliers when_first) (sym (run_of_both t before ((first, Whole) ∷ between)))
             (run_goes ((first, Whole) ∷ between) when_first start)
 
         by_row : (o : Option SupplierRow)

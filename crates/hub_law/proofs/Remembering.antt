@@ -41,36 +41,36 @@ use Rattle.hub_law.specs.Requests.{deliver_named}
 use Rattle.hub_law.specs.Told.{Told, Accepted, Refused, act, read_act}
 
 -- if a verdict accepts something new, the row exists afterwards
-abbrev Puts : Tables → RememberedRow → Verdict → Type 0
-Puts t row verdict =
+abbrev PutsRemembered : Tables → RememberedRow → Verdict → Type 0
+PutsRemembered t row verdict =
     (change : Change) (changes : List Change)
     → verdict ≡ Accept (change ∷ changes)
     → Has (apply_all (change ∷ changes) t).remembered row
 
 -- the same, for the result of an act and what it left
-abbrev Leaves : RememberedRow → Told × Tables → Type 0
-Leaves row after = after.0 ≡ Accepted → Has after.1.remembered row
+abbrev LeavesRemembered : RememberedRow → Told × Tables → Type 0
+LeavesRemembered row after = after.0 ≡ Accepted → Has after.1.remembered row
 
 module _ (t : Tables) (row : RememberedRow) where
-  act_leaves : (verdict : Verdict) → Puts t row verdict → Leaves row (act verdict t)
+  act_leaves : (verdict : Verdict) → PutsRemembered t row verdict → LeavesRemembered row (act verdict t)
   act_leaves (Refuse code) f told = cc
   act_leaves (Accept []) f told = cc
   act_leaves (Accept (change ∷ changes)) f told = f change changes refl
 
   read_leaves : {X : Type 0} (read : Result X MessageFault) (judge : X → Verdict)
-      → ((x : X) → Puts t row (judge x))
-      → Leaves row (read_act read judge t)
+      → ((x : X) → PutsRemembered t row (judge x))
+      → LeavesRemembered row (read_act read judge t)
   read_leaves (Err fault) judge f told = cc
   read_leaves (Ok x) judge f told = act_leaves (judge x) (f x) told
 
   either_leaves : (test : Bool) (one other : Told × Tables)
-      → Leaves row one
-      → Leaves row other
-      → Leaves row (cond test one other)
+      → LeavesRemembered row one
+      → LeavesRemembered row other
+      → LeavesRemembered row (cond test one other)
   either_leaves true one other f g = f
   either_leaves false one other f g = g
 
-  refused_never : (code : List ℕ) → Leaves row (Refused code, t)
+  refused_never : (code : List ℕ) → LeavesRemembered row (Refused code, t)
   refused_never code told = cc
 
 -- decided for a supplier with this GLN
@@ -79,7 +79,7 @@ module _ (t : Tables) (gln : List ℕ) (supplier : Option SupplierRow)
   registered_puts : (found : Option SupplierRow)
       → ((s : SupplierRow) → found ≡ Some s → s.gln ≡ gln)
       → (of : List ℕ) (r : List ℕ → Reference) (content : List ℕ) (fresh : SupplierRow → Judge) (state : Tables)
-      → Puts t (remembered (r gln) content)
+      → PutsRemembered t (remembered (r gln) content)
       (if_registered found of (λ s. judge_once (r s.gln) content (fresh s) state))
   registered_puts None whose of r content fresh state change changes h = cc
   registered_puts (Some s) whose of r content fresh state change changes h =
@@ -90,7 +90,7 @@ module _ (t : Tables) (gln : List ℕ) (supplier : Option SupplierRow)
 
   message_puts : (retailer : List ℕ) (side : Side) (incoming : IncomingMessage) (buyer : Option (List ℕ)) (of : List ℕ)
       (fresh : SupplierRow → Judge) (state : Tables)
-      → Puts t (remembered (record {
+      → PutsRemembered t (remembered (record {
         supplier = gln;
         side = side;
         control = incoming.control;
@@ -108,7 +108,7 @@ module _ (t : Tables) (gln : List ℕ) (supplier : Option SupplierRow)
       }) incoming.content fresh state change changes passed.1
 
   cancel_leaves : (c : Cancel)
-      → Leaves (remembered (record { supplier = gln; side = sides.Cancellation; control = c.reference; message = [] })
+      → LeavesRemembered (remembered (record { supplier = gln; side = sides.Cancellation; control = c.reference; message = [] })
       (cancel_text c)) (cancel (view gln) supplier c t)
   cancel_leaves c =
       act_leaves t _ (judge_cancel supplier (cancel_text c) c (view gln t))

@@ -28,7 +28,7 @@ use Rattle.hub_law.specs.Requests.{looked_at, from_retailer, deliver_named, canc
 use Rattle.hub_law.specs.Told.{Act, act, in_row}
 use Rattle.hub_requests.specs.declared.request.Request.{Request}
 use Rattle.hub_requests.specs.declared.request.Request.TheVariants as requests
-use Rattle.hub_law.proofs.Acting.{Alike, Stays, parties_on, suppliers_same, stays_same}
+use Rattle.hub_law.proofs.Acting.{Alike, ActStaysSound, parties_on, suppliers_same, stays_same}
 use Rattle.hub_law.proofs.Acts.{retailers_act, cancel_act, nobodys_message, nobodys_cancellation}
 use Rattle.hub_law.proofs.Steps.{unlike}
 
@@ -54,15 +54,15 @@ by_name suppliers gln act = act (view gln) (supplier_row suppliers gln)
 
 module _ (suppliers : List SupplierRow) (t : Tables) (sound : Sound suppliers t) (act : ActFor)
     (apart : IsApart suppliers t act) (gln : List ℕ) where
-  named_stays : Stays suppliers t (by_name suppliers gln act t).1
+  named_stays : ActStaysSound suppliers t (by_name suppliers gln act t).1
   named_stays = by_whom (supplier_row suppliers gln) refl
     where
-      by_whom : (o : Option SupplierRow) → supplier_row suppliers gln ≡ o → Stays suppliers t (act (view gln) o t).1
-      by_whom None h = subst (Stays suppliers t) (sym (apart.nobodys (view gln) t)) (stays_same suppliers t sound)
+      by_whom : (o : Option SupplierRow) → supplier_row suppliers gln ≡ o → ActStaysSound suppliers t (act (view gln) o t).1
+      by_whom None h = subst (ActStaysSound suppliers t) (sym (apart.nobodys (view gln) t)) (stays_same suppliers t sound)
       by_whom (Some w) h =
           let whose = gln_found suppliers gln w h in
           let alike = apart.ones w (ap (supplier_row suppliers) whose ∙ h) in
-          subst (λ n. Stays suppliers t (act (view n) (Some w) t).1) whose
+          subst (λ n. ActStaysSound suppliers t (act (view n) (Some w) t).1) whose
           (record { sound = alike.apart.sound; parties = alike.apart.parties })
 
   module _ (other : List ℕ) where
@@ -124,12 +124,12 @@ module _ (register : RegisterRows) (free : PrefixFree (company_prefixes register
   }
 
   -- Tables stay sound.
-  pub message_stays : (sent : RawMessage × IncomingMessage) (t : Tables) → Sound S t → Stays S t (deliver_named register sent t).1
+  pub message_stays : (sent : RawMessage × IncomingMessage) (t : Tables) → Sound S t → ActStaysSound S t (deliver_named register sent t).1
   message_stays sent t sound = named_stays S t sound _ (message_apart sent t sound) (named sent.0)
 
   pub messages_stay : (sents : List (RawMessage × IncomingMessage)) (t : Tables)
       → Sound S t
-      → Stays S t (in_row (deliver_named register) sents t).1
+      → ActStaysSound S t (in_row (deliver_named register) sents t).1
   messages_stay [] t sound = stays_same S t sound
   messages_stay (sent ∷ sents) t sound =
       let one = message_stays sent t sound in
@@ -142,7 +142,7 @@ module _ (register : RegisterRows) (free : PrefixFree (company_prefixes register
 
   pub cancelled_stays : (mark : Mark) (c : Cancel) (t : Tables)
       → Sound S t
-      → Stays S t (answered mark (cancel_named register c t) t).1
+      → ActStaysSound S t (answered mark (cancel_named register c t) t).1
   cancelled_stays Whole c t sound = named_stays S t sound _ (cancel_apart c t sound) c.supplier
   cancelled_stays StoppedEmpty c t sound = stays_same S t sound
   cancelled_stays StoppedBare c t sound = stays_same S t sound

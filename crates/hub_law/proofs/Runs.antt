@@ -40,7 +40,7 @@ fold_append_after parties gln [] second state = refl
 fold_append_after parties gln (item ∷ first) second state = fold_append_after parties gln first second (own_step parties gln item state).1
 
 -- after a step the GLN sees its items done; it gets a reply only to its own input, and exactly that reply
-pub record OneStep (gln : List ℕ) (t : Tables) (input : Input) (after : Reply × Tables) (items : List Item) : Type 0 where
+pub record SeesOneStep (gln : List ℕ) (t : Tables) (input : Input) (after : Reply × Tables) (items : List Item) : Type 0 where
   pub seen : view gln after.1 ≡ (fold (parties_in t) gln items (view gln t)).1
   pub told : same input.caller gln ≡ true → (fold (parties_in t) gln items (view gln t)).0 ≡ after.0 ∷ []
   pub silent : same input.caller gln ≡ false → (fold (parties_in t) gln items (view gln t)).0 ≡ []
@@ -55,7 +55,7 @@ module _ (gln : List ℕ) (input : Input) (mark : Mark) (t : Tables) (here : Sou
   quiet : (after : Reply × Tables) (items : List Item)
       → same input.caller gln ≡ false
       → Moves (parties_in t) gln (view gln t) after.1 items
-      → OneStep gln t input after items
+      → SeesOneStep gln t input after items
   quiet after items e moves = record {
     seen = moves.seen;
     told = λ matches. let both : true ≡ false = sym matches ∙ e in absurd (cc);
@@ -69,7 +69,7 @@ module _ (gln : List ℕ) (input : Input) (mark : Mark) (t : Tables) (here : Sou
       → (after : Reply × Tables)
       → view gln after.1 ≡ (own_request (parties_in t) o input mark (view gln t)).1
       → after.0 ≡ (own_request (parties_in t) o input mark (view gln t)).0
-      → OneStep gln t input after (Own input mark ∷ [])
+      → SeesOneStep gln t input after (Own input mark ∷ [])
   its_own o known e after seen told =
       let row : o ≡ row_at gln (view gln t) = sym known ∙ sym (own_row gln t) in
       record {
@@ -82,12 +82,12 @@ module _ (gln : List ℕ) (input : Input) (mark : Mark) (t : Tables) (here : Sou
       → same input.caller gln ≡ true
       → (o : Option SupplierRow)
       → row_at gln t ≡ o
-      → OneStep gln t input (step_by R o input mark t) (items_by gln R o input mark)
+      → SeesOneStep gln t input (step_by R o input mark t) (items_by gln R o input mark)
   asks_itself other e (Some w) known =
       let whose : w.gln ≡ gln = gln_found S gln w known in
       let found : supplier_row S w.gln ≡ Some w = ap (supplier_row S) whose ∙ known in
       let alike = supplier_alike S here.register.right.prefixes_free (parties_in t) w found input mark t here.sound in
-      subst (λ v. OneStep gln t input (step_by R (Some w) input mark t) (if v then Own input mark ∷ [] else [])) (sym e)
+      subst (λ v. SeesOneStep gln t input (step_by R (Some w) input mark t) (if v then Own input mark ∷ [] else [])) (sym e)
       (its_own (Some w) known e (step_by R (Some w) input mark t)
       (subst (λ n. view n (step_by R (Some w) input mark t).1 ≡ (own_request (parties_in t) (Some w) input mark (view n t)).1)
       whose alike.apart.seen)
@@ -96,12 +96,12 @@ module _ (gln : List ℕ) (input : Input) (mark : Mark) (t : Tables) (here : Sou
   asks_itself other e None known =
       let is : input.caller ≡ gln = same_is input.caller gln e in
       elim (is_retailers R input) as (λ v. is_retailers R input ≡ v
-      → OneStep gln t input
+      → SeesOneStep gln t input
       (if v then retailer_request R input.moment mark input.request t else replied mark denied t)
       (if v then retailer_items gln R input.moment mark input.request else own_items gln input mark)) [
         | true ↦ λ retailers. absurd (other (sym is ∙ sym (retailer_asks R input retailers)))
         | false ↦ λ _.
-            subst (λ v. OneStep gln t input (replied mark denied t) (if v then Own input mark ∷ [] else [])) (sym e)
+            subst (λ v. SeesOneStep gln t input (replied mark denied t) (if v then Own input mark ∷ [] else [])) (sym e)
             (its_own None known e (replied mark denied t) refl refl)
       ] refl
 
@@ -127,21 +127,21 @@ module _ (gln : List ℕ) (input : Input) (mark : Mark) (t : Tables) (here : Sou
       ]
 
   by_its_row : IsOther gln t
-      → OneStep gln t input (step_by R (supplier_row S input.caller) input mark t)
+      → SeesOneStep gln t input (step_by R (supplier_row S input.caller) input mark t)
       (items_by gln R (supplier_row S input.caller) input mark)
   by_its_row other =
       elim (decide (same input.caller gln)) [
         | inl e ↦
             let one : supplier_row S input.caller ≡ row_at gln t = ap (supplier_row S) (same_is input.caller gln e) in
-            subst (λ o. OneStep gln t input (step_by R o input mark t) (items_by gln R o input mark)) (sym one)
+            subst (λ o. SeesOneStep gln t input (step_by R o input mark t) (items_by gln R o input mark)) (sym one)
             (asks_itself other e (row_at gln t) refl)
         | inr e ↦ quiet _ _ e (anothers e (supplier_row S input.caller) refl)
       ]
 
-  pub one_step : IsOther gln t → OneStep gln t input (shared_step t input mark) (items_of_input gln t input mark)
+  pub one_step : IsOther gln t → SeesOneStep gln t input (shared_step t input mark) (items_of_input gln t input mark)
   one_step other =
-      subst (λ all. OneStep gln t input (shared_step t input mark) all) (sym (items_are R input mark gln))
-      (subst (λ after. OneStep gln t input after (items_by gln R (supplier_row S input.caller) input mark))
+      subst (λ all. SeesOneStep gln t input (shared_step t input mark) all) (sym (items_are R input mark gln))
+      (subst (λ after. SeesOneStep gln t input after (items_by gln R (supplier_row S input.caller) input mark))
       (sym (step_is R input mark t)) (by_its_row other))
 
 -- the retailer stays the same

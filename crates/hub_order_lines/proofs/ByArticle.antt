@@ -17,7 +17,7 @@ use Rattle.hub_order_lines.specs.declared.by_article.ArticleLines.{ArticleLines}
 use Rattle.hub_order_lines.specs.declared.by_article.ArticleLines.TheVariants.{One, Several}
 use Rattle.hub_order_lines.specs.declared.facts.LineFacts.{LineFacts}
 use Rattle.hub_order_lines.proofs.FirstLine.{same_order}
-use Rattle.hub_order_lines.proofs.ArticleLines.{Tells, told}
+use Rattle.hub_order_lines.proofs.ArticleLines.{TellsArticle, told}
 
 filter-filter : {X : Type 0} (p q : X → Bool) (xs : List X) → filter p (filter q xs) ≡ filter (λ x. q x && p x) xs
 filter-filter p q [] = refl
@@ -70,15 +70,15 @@ module _ (lines : List LineFacts) (order gtin : List ℕ) (rise : Rises facts_cm
           (same_if line.row.number line.row.number refl) in
           ap (λ v. v && same line.row.gtin gtin) (sym (same_order lines line.row.number order rise itself some))
 
-  tells : list_any of_order lines ≡ true → Tells lines facts 0 known
-  tells some = subst (λ ys. Tells lines ys 0 known) (sym (alike some)) (told key_of bears 0 lines)
+  tells : list_any of_order lines ≡ true → TellsArticle lines facts 0 known
+  tells some = subst (λ ys. TellsArticle lines ys 0 known) (sym (alike some)) (told key_of bears 0 lines)
 
   no_order : list_any of_order lines ≡ false → the_only facts ≡ None
   no_order none = ap (λ kept. the_only (filter (λ (line : LineFacts). same line.row.gtin gtin) kept)) (none_kept of_order lines none)
 
   pub within : (place : ℕ) → known ≡ Some (One place) → place < length lines
   within place is =
-      let one = subst (Tells lines (filter (λ line. bears (key_of line)) lines) 0) is (told key_of bears 0 lines) in
+      let one = subst (TellsArticle lines (filter (λ line. bears (key_of line)) lines) 0) is (told key_of bears 0 lines) in
       let bound : one.0 < length lines = slice_get_within lines one.0 one.1 one.3 in
       let at : place ≡ one.0 + 0 = one.2 in
       omega arith
@@ -91,7 +91,7 @@ module _ (lines : List LineFacts) (order gtin : List ℕ) (rise : Rises facts_cm
       → the_only facts ≡ slice_get lines place
   only_is place line is read its =
       let some = list_any_at of_order lines place line (within place is) (ap of_order (sym read) ∙ its) in
-      let one = subst (Tells lines facts 0) is (tells some) in
+      let one = subst (TellsArticle lines facts 0) is (tells some) in
       let here : one.0 ≡ place = (let e : place ≡ one.0 + 0 = one.2 in omega arith) in
       ap the_only one.4 ∙ sym one.3 ∙ ap (slice_get lines) here
 
@@ -104,7 +104,7 @@ module _ (lines : List LineFacts) (order gtin : List ℕ) (rise : Rises facts_cm
   other_order place line is read other =
       elim (decide (list_any of_order lines)) [
         | inl some ↦
-            let one = subst (Tells lines facts 0) is (tells some) in
+            let one = subst (TellsArticle lines facts 0) is (tells some) in
             let here : one.0 ≡ place = (let e : place ≡ one.0 + 0 = one.2 in omega arith) in
             let at : slice_get lines place ≡ Some line = slice_get-get_or lines place line (within place is) ∙ ap Some (sym read) in
             let it : one.1 ≡ line = same_Some one.1 line (sym one.3 ∙ ap (slice_get lines) here ∙ at) in
@@ -119,9 +119,9 @@ module _ (lines : List LineFacts) (order gtin : List ℕ) (rise : Rises facts_cm
   pub no_line : known ≡ None → the_only facts ≡ None
   no_line is =
       elim (decide (list_any of_order lines))
-      [ inl some ↦ ap the_only (subst (Tells lines facts 0) is (tells some)) | inr none ↦ no_order none ]
+      [ inl some ↦ ap the_only (subst (TellsArticle lines facts 0) is (tells some)) | inr none ↦ no_order none ]
 
   pub several_lines : known ≡ Some Several → the_only facts ≡ None
   several_lines is =
       elim (decide (list_any of_order lines))
-      [ inl some ↦ subst (Tells lines facts 0) is (tells some) | inr none ↦ no_order none ]
+      [ inl some ↦ subst (TellsArticle lines facts 0) is (tells some) | inr none ↦ no_order none ]

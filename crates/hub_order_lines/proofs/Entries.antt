@@ -20,12 +20,12 @@ use Rattle.hub_order_lines.specs.declared.known_orders.KnownOrder.{KnownOrder}
 abbrev pub seen : List ℕ → KnownOrder → Bool × List LineFacts
 seen order known = (known.is_there, facts_of known.lines order)
 
-abbrev pub Entry : Type 0 → Type 0
-Entry Z = Vec ℕ Z × KnownOrder
+abbrev pub OrderEntry : Type 0 → Type 0
+OrderEntry Z = Vec ℕ Z × KnownOrder
 
 module _ {Z : Type 0} where
   -- an entry, as contracts see it
-  abbrev pub shown : Entry Z → List ℕ × (Bool × List LineFacts)
+  abbrev pub shown : OrderEntry Z → List ℕ × (Bool × List LineFacts)
   shown e = (e.0.items, seen e.0.items e.1)
 
   -- the test that searches for an order
@@ -35,7 +35,7 @@ module _ {Z : Type 0} where
   pub at_is : (order : List ℕ) (key : Vec ℕ Z) → at order key ≡ same order key.items
   at_is order key = is_eq-slice_cmp order key.items
 
-  pub look : (order : List ℕ) (es : List (Entry Z)) → order_in (map shown es) order ≡ option_map (seen order) (lookup (at order) es)
+  pub look : (order : List ℕ) (es : List (OrderEntry Z)) → order_in (map shown es) order ≡ option_map (seen order) (lookup (at order) es)
   look order [] = refl
   look order (e ∷ es) =
       let rest = look order es in
@@ -54,19 +54,19 @@ module _ {Z : Type 0} where
       ]
 
   -- what the search finds
-  pub found_is : (order : List ℕ) (es : List (Entry Z)) (found : Option KnownOrder)
+  pub found_is : (order : List ℕ) (es : List (OrderEntry Z)) (found : Option KnownOrder)
       → lookup (at order) es ≡ found
       → order_in (map shown es) order ≡ option_map (seen order) found
   found_is order es found is = look order es ∙ ap (option_map (seen order)) is
 
-  pub kept_is : (order : List ℕ) (es : List (Entry Z)) → is_some (order_in (map shown es) order) ≡ is_some (lookup (at order) es)
+  pub kept_is : (order : List ℕ) (es : List (OrderEntry Z)) → is_some (order_in (map shown es) order) ≡ is_some (lookup (at order) es)
   kept_is order es = ap is_some (look order es) ∙ by (lookup (at order) es)
     where
       by : (found : Option KnownOrder) → is_some (option_map (seen order) found) ≡ is_some found
       by None = refl
       by (Some known) = refl
 
-  pub has_is : (order : List ℕ) (es : List (Entry Z)) (found : Option KnownOrder)
+  pub has_is : (order : List ℕ) (es : List (OrderEntry Z)) (found : Option KnownOrder)
       → lookup (at order) es ≡ found
       → has_order (map shown es) order ≡ unwrap_or (option_map (λ known. known.is_there) found) false
   has_is order es found is =
@@ -78,7 +78,7 @@ module _ {Z : Type 0} where
       by None = refl
       by (Some known) = refl
 
-  pub lines_are : (order : List ℕ) (es : List (Entry Z)) (found : Option KnownOrder)
+  pub lines_are : (order : List ℕ) (es : List (OrderEntry Z)) (found : Option KnownOrder)
       → lookup (at order) es ≡ found
       → lines_in (map shown es) order ≡ unwrap_or (option_map (λ known. facts_of known.lines order) found) []
   lines_are order es found is =
@@ -95,7 +95,7 @@ module _ {Z : Type 0} where
 
   -- an order that is added is found, and the others stay the same
   module _ (key : Vec ℕ Z) (known : KnownOrder) (order : List ℕ) where
-    abbrev with_it : List (Entry Z) → Option KnownOrder
+    abbrev with_it : List (OrderEntry Z) → Option KnownOrder
     with_it es = cond (same order key.items) (Some known) (lookup (at order) es)
 
     equal_items : (other : Vec ℕ Z) → key_cmp key other ≡ Equal → key.items ≡ other.items
@@ -113,7 +113,7 @@ module _ {Z : Type 0} where
           | inr apart ↦ apart
         ]
 
-    put_found : (es : List (Entry Z)) → lookup (at order) (insert_entry key_cmp es key known) ≡ with_it es
+    put_found : (es : List (OrderEntry Z)) → lookup (at order) (insert_entry key_cmp es key known) ≡ with_it es
     put_found [] = ap (λ (v : Bool). cond v (Some known) None) (at_is order key)
     put_found (e ∷ es) =
         elim (key_cmp key e.0) as (λ o. key_cmp key e.0 ≡ o
@@ -144,14 +144,14 @@ module _ {Z : Type 0} where
         twice true a b = refl
         twice false a b = refl
 
-  pub put_known : (key : Vec ℕ Z) (known : KnownOrder) (order : List ℕ) (es : List (Entry Z))
+  pub put_known : (key : Vec ℕ Z) (known : KnownOrder) (order : List ℕ) (es : List (OrderEntry Z))
       → same order key.items ≡ true
       → order_in (map shown (insert_entry key_cmp es key known)) order ≡ Some (seen order known)
   put_known key known order es its =
       found_is order (insert_entry key_cmp es key known) (Some known)
       (put_found key known order es ∙ ap (λ (v : Bool). cond v (Some known) (lookup (at order) es)) its)
 
-  pub put_others : (key : Vec ℕ Z) (known : KnownOrder) (order : List ℕ) (es : List (Entry Z))
+  pub put_others : (key : Vec ℕ Z) (known : KnownOrder) (order : List ℕ) (es : List (OrderEntry Z))
       → same order key.items ≡ false
       → order_in (map shown (insert_entry key_cmp es key known)) order ≡ order_in (map shown es) order
   put_others key known order es other =
@@ -161,7 +161,7 @@ module _ {Z : Type 0} where
 
 -- an order that is removed
 module _ {Z : Type 0} (order other : List ℕ) (apart : same other order ≡ false) where
-  remove_other : (es : List (Entry Z)) → lookup (at other) (remove_entry (at order) es) ≡ lookup (at other) es
+  remove_other : (es : List (OrderEntry Z)) → lookup (at other) (remove_entry (at order) es) ≡ lookup (at other) es
   remove_other [] = refl
   remove_other (e ∷ es) =
       let rest = remove_other es in
@@ -177,12 +177,12 @@ module _ {Z : Type 0} (order other : List ℕ) (apart : same other order ≡ fal
             ∙ ap (cond (at other e.0) (Some e.1)) rest
       ]
 
-  pub removed_others : (es : List (Entry Z)) → order_in (map shown (remove_entry (at order) es)) other ≡ order_in (map shown es) other
+  pub removed_others : (es : List (OrderEntry Z)) → order_in (map shown (remove_entry (at order) es)) other ≡ order_in (map shown es) other
   removed_others es = found_is other (remove_entry (at order) es) (lookup (at other) es) (remove_other es) ∙ sym (look other es)
 
 -- an order that is replaced
 module _ {Z : Type 0} where
-  pub set_itself : (order : List ℕ) (known : KnownOrder) (es : List (Entry Z))
+  pub set_itself : (order : List ℕ) (known : KnownOrder) (es : List (OrderEntry Z))
       → lookup (at order) es ≡ Some known
       → set_value (at order) es known ≡ es
   set_itself order known [] found = refl
@@ -193,7 +193,7 @@ module _ {Z : Type 0} where
         | false ↦ λ is. ap (λ rest. e ∷ rest) (set_itself order known es is)
       ] found
 
-  pub set_found : (order other : List ℕ) (known w : KnownOrder) (es : List (Entry Z))
+  pub set_found : (order other : List ℕ) (known w : KnownOrder) (es : List (OrderEntry Z))
       → lookup (at order) es ≡ Some known
       → lookup (at other) (set_value (at order) es w) ≡ cond (same other order) (Some w) (lookup (at other) es)
   set_found order other known w [] found = absurd (cc)

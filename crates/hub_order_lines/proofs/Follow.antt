@@ -17,11 +17,12 @@ use Rattle.hub_order_lines.specs.Book.{Orders, facts_of, has_order, lines_in, or
 use Rattle.hub_order_lines.specs.KnownLines.{AddsUp}
 use Rattle.hub_order_lines.specs.KnownOrders.{is_kept, rows_after, adds_lines, AddsOrder, Follows, ForgetsOrder}
 use Rattle.hub_order_lines.specs.declared.known_orders.KnownOrder.{KnownOrder}
-use Rattle.hub_order_lines.proofs.Entries.{Entry, shown, at, key_cmp, kept_is, has_is, lines_are, put_known, put_others, removed_others}
+use Rattle.hub_order_lines.proofs.Entries.{OrderEntry, shown, at, key_cmp, kept_is, has_is, lines_are, put_known, put_others}
+use Rattle.hub_order_lines.proofs.Entries.{removed_others}
 use Rattle.hub_order_lines.proofs.Entries.{set_found}
 use Rattle.hub_order_lines.proofs.RowsOfOrder.{set_of_order, other_untouched}
 
-module _ {Z : Type 0} (row : LineRow) (es : List (Entry Z)) where
+module _ {Z : Type 0} (row : LineRow) (es : List (OrderEntry Z)) where
   untouched : (order : List ℕ) → same order row.number ≡ false
       → rows (lines_in (map shown es) order) ≡ replace (same_line row) row (rows (lines_in (map shown es) order))
   untouched order apart = by (lookup (at order) es) refl
@@ -53,7 +54,7 @@ module _ {Z : Type 0} (row : LineRow) (es : List (Entry Z)) where
   }
 
   -- if it is kept, its lines are set
-  pub kept_set : (known w : KnownOrder) (new : List (Entry Z))
+  pub kept_set : (known w : KnownOrder) (new : List (OrderEntry Z))
       → lookup (at row.number) es ≡ Some known
       → new ≡ set_value (at row.number) es w
       → w.is_there ≡ known.is_there
@@ -116,7 +117,7 @@ module _ {Z : Type 0} (row : LineRow) (es : List (Entry Z)) where
           ∙ sym (lines_are order es (lookup (at order) es) refl))) add
 
 -- an order that is removed
-pub taken_out : {Z : Type 0} (order : List ℕ) (es new : List (Entry Z))
+pub taken_out : {Z : Type 0} (order : List ℕ) (es new : List (OrderEntry Z))
     → new ≡ remove_entry (at order) es
     → lookup (at order) new ≡ None
     → ForgetsOrder order (map shown es) (map shown new)
@@ -126,7 +127,7 @@ taken_out order es new becomes none = record {
 }
 
 -- an order that is added
-pub put_ok : {Z : Type 0} (order : List ℕ) (is_there : Bool) (given : List LineRow) (es new : List (Entry Z)) (key : Vec ℕ Z)
+pub put_ok : {Z : Type 0} (order : List ℕ) (is_there : Bool) (given : List LineRow) (es new : List (OrderEntry Z)) (key : Vec ℕ Z)
     (known : KnownOrder)
     → key.items ≡ order
     → new ≡ insert_entry key_cmp es key known

@@ -16,7 +16,7 @@ use Rattle.hub_order_lines.specs.Book.{facts_cmp, facts_of, facts_among, lines_i
 use Rattle.hub_order_lines.specs.KnownOrders.{IsKnownOnce, AreKnownOnce}
 use Rattle.hub_order_lines.specs.declared.facts.LineFacts.{LineFacts}
 use Rattle.hub_order_lines.specs.declared.known_orders.KnownOrder.{KnownOrder}
-use Rattle.hub_order_lines.proofs.Entries.{Entry, shown, at, key_cmp, lines_are}
+use Rattle.hub_order_lines.proofs.Entries.{OrderEntry, shown, at, key_cmp, lines_are}
 
 own_lines : (order : List ℕ) (lines : List LineFacts) → AllByRecursion (λ line. line.row.number ≡ order) (facts_of lines order)
 own_lines order lines =
@@ -35,7 +35,7 @@ module _ {Z : Type 0} where
 
   module _ (orders : BTreeMap (Vec ℕ Z) KnownOrder) (ordered : IsOrdered key_cmp orders) where
     -- each of the remaining entries is found by its key
-    each_once : (before after : List (Entry Z)) → orders.entries ≡ before ++ after
+    each_once : (before after : List (OrderEntry Z)) → orders.entries ≡ before ++ after
         → AllByRecursion (IsKnownOnce (map shown orders.entries)) (map shown after)
     each_once before [] parts = tt
     each_once before (e ∷ after) parts =
@@ -56,7 +56,7 @@ pub lines_rise : (lines : List LineFacts) (order : List ℕ) → Rises facts_cmp
 lines_rise lines order rise = rises_filter facts_cmp (λ line. same line.row.number order) lines rise
 
 -- the lines known of an order rise
-pub known_rise : {Z : Type 0} (order : List ℕ) (es : List (Entry Z)) (known : KnownOrder)
+pub known_rise : {Z : Type 0} (order : List ℕ) (es : List (OrderEntry Z)) (known : KnownOrder)
     → lookup (at order) es ≡ Some known
     → Rises facts_cmp known.lines
     → Rises facts_cmp (lines_in (map shown es) order)

@@ -68,10 +68,10 @@ module _ (make : LineFacts → LineFacts) where
       by (Some known) = refl
 
   -- if each line keeps its line number and its article, it is found as before
-  abbrev pub Keeps : LineFacts → Type 0
-  Keeps line = ((make line).row.line ≡ line.row.line) × ((make line).row.gtin ≡ line.row.gtin)
+  abbrev pub KeepsLineKeys : LineFacts → Type 0
+  KeepsLineKeys line = ((make line).row.line ≡ line.row.line) × ((make line).row.gtin ≡ line.row.gtin)
 
-  found_made : (number : ℕ) (lines : List LineFacts) → AllByRecursion Keeps lines
+  found_made : (number : ℕ) (lines : List LineFacts) → AllByRecursion KeepsLineKeys lines
       → find (λ line. line.row.line == number) (map make lines) ≡ option_map make (find (λ line. line.row.line == number) lines)
   found_made number [] all = refl
   found_made number (line ∷ lines) all =
@@ -80,7 +80,7 @@ module _ (make : LineFacts → LineFacts) where
       ≡ option_map make (cond v (Some line) (find (λ line. line.row.line == number) lines)))
       [ true ↦ refl | false ↦ found_made number lines all.1 ]
 
-  filter_made : (gtin : List ℕ) (lines : List LineFacts) → AllByRecursion Keeps lines
+  filter_made : (gtin : List ℕ) (lines : List LineFacts) → AllByRecursion KeepsLineKeys lines
       → filter (λ line. same line.row.gtin gtin) (map make lines) ≡ map make (filter (λ line. same line.row.gtin gtin) lines)
   filter_made gtin [] all = refl
   filter_made gtin (line ∷ lines) all =
@@ -96,7 +96,7 @@ module _ (make : LineFacts → LineFacts) where
   only_made (line ∷ []) = refl
   only_made (line ∷ other ∷ lines) = refl
 
-  pub among_made : (lines : List LineFacts) (number : Option ℕ) (gtin : List ℕ) → AllByRecursion Keeps lines
+  pub among_made : (lines : List LineFacts) (number : Option ℕ) (gtin : List ℕ) → AllByRecursion KeepsLineKeys lines
       → facts_among (map make lines) number gtin ≡ option_map make (facts_among lines number gtin)
   among_made lines (Some number) gtin all = found_made number lines all
   among_made lines None gtin all =
@@ -270,7 +270,7 @@ none_set changed empty (known ∷ orders) = (each known.1.1, none_set changed em
 -- what is looked up is the current form of the line
 keeps_one : (changed : SetLines) (line : LineFacts)
     → IfSome (set_at changed line.row.number line.row.line) (IsSetOf line)
-    → Keeps (now_of changed) line
+    → KeepsLineKeys (now_of changed) line
 keeps_one changed line = by (set_at changed line.row.number line.row.line)
   where
     by : (o : Option LineFacts) → IfSome o (IsSetOf line)
@@ -285,7 +285,7 @@ pub now_found : (orders : Orders) (changed : SetLines) → KeepKeys changed orde
 now_found orders changed keep order number gtin =
     ap (λ lines. facts_among lines number gtin) (lines_made (now_of changed) orders order)
     ∙ among_made (now_of changed) (lines_in orders order) number gtin
-    (all_weaker (λ line. IfSome (set_at changed line.row.number line.row.line) (IsSetOf line)) (Keeps (now_of changed))
+    (all_weaker (λ line. IfSome (set_at changed line.row.number line.row.line) (IsSetOf line)) (KeepsLineKeys (now_of changed))
     (λ line its. keeps_one changed line its) (lines_in orders order)
     (all_in (λ line. IfSome (set_at changed line.row.number line.row.line) (IsSetOf line)) orders order keep))
 

@@ -39,7 +39,7 @@ impl Model for KnownLines {
 // Returns the despatched quantity: what is neither open nor refused nor cancelled. `None` if these exceed the ordered
 // quantity.
 #[tactic(auto, using(crate::proofs::Passing::uncovered))]
-fn despatched_of(row: &LineRow) -> Option<u32>
+fn despatched_quantity(row: &LineRow) -> Option<u32>
     ensures adds_up { IfSome result (λ despatched.
         row.now.ordered ≡ row.now.open_qty + row.now.refused + row.now.cancelled + despatched) }
     ensures uncovered { IfNone result (is_covered row.now ≡ false) }
@@ -55,7 +55,7 @@ fn fact_of(row: LineRow) -> Option<LineFacts>
     ensures adds_up { IfSome result AddsUp }
     ensures uncovered { IfNone result (is_covered row ≡ false) }
 {
-    let despatched = despatched_of(&row)?;
+    let despatched = despatched_quantity(&row)?;
     Some(LineFacts { row, despatched })
 }
 
@@ -145,7 +145,7 @@ impl KnownLines {
         let Some(place) = place_by_number(self.lines.as_slice(), number, row.line) else {
             return false;
         };
-        let Some(despatched) = despatched_of(row) else {
+        let Some(despatched) = despatched_quantity(row) else {
             return false;
         };
         let line = &mut self.lines[place];

@@ -1,7 +1,7 @@
 //! Copies rows of order lines.
 ghost use Rattle.std.specs.Prelude.{◌≡◌, IfOk};
 
-use edi_base::{Items, MemoryFault, copied};
+use edi_base::{Items, MemoryFault, copy_bytes};
 use hub_tables::{Column, LineRow};
 use std::alloc::Global;
 
@@ -11,7 +11,7 @@ pub fn copied_row(alloc: Global, row: &LineRow) -> Result<LineRow, MemoryFault>
 {
     Ok(LineRow {
         supplier: row.supplier,
-        number: copied(alloc, row.number.as_slice())?,
+        number: copy_bytes(alloc, row.number.as_slice())?,
         line: row.line,
         gtin: row.gtin,
         ordered: row.ordered,

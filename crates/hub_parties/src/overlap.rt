@@ -6,7 +6,7 @@ use crate::prefixes::CompanyPrefixes;
 use gs1_ids::overlap_some;
 
 // Returns the position of the first of `others` of which some prefix overlaps one of `ours`.
-fn overlapped(ours: &CompanyPrefixes, others: &[CompanyPrefixes]) -> Option<usize>
+fn find_overlap(ours: &CompanyPrefixes, others: &[CompanyPrefixes]) -> Option<usize>
     ensures { result ≡ position (overlap_some ours.now) others.now }
 {
     others
@@ -23,7 +23,7 @@ pub fn first_overlap(suppliers: &[CompanyPrefixes]) -> Option<(usize, usize)>
     ensures free { IsNone result ↔ PrefixFree suppliers.now }
 {
     for (first, ours) in suppliers.iter().enumerate() {
-        if let Some(offset) = overlapped(ours, &suppliers[first + 1..]) {
+        if let Some(offset) = find_overlap(ours, &suppliers[first + 1..]) {
             return Some((first, first + 1 + offset));
         }
     }

@@ -41,7 +41,7 @@ fn flag<'a>(alloc: Global, name: &'a str, help: &'a str) -> Arg<'a>
 }
 
 // A command that has no options yet.
-fn named<'a>(
+fn bare_command<'a>(
     alloc: Global,
     name: &'a str,
     about: &'a str,
@@ -110,7 +110,11 @@ static RELAY_OPTIONS: [Choice; 4] = [
 fn relay_command<'a>(alloc: Global) -> Result<Command<'a>, AllocError>
     ensures { IfOk result (IsCommand relay) }
 {
-    choosing(named(alloc, "relay", RELAY, STATUS), alloc, &RELAY_OPTIONS)
+    choosing(
+        bare_command(alloc, "relay", RELAY, STATUS),
+        alloc,
+        &RELAY_OPTIONS,
+    )
 }
 
 const CHECK: &str =
@@ -152,7 +156,7 @@ fn check_command<'a>(alloc: Global) -> Result<Command<'a>, AllocError>
     ensures { IfOk result (IsCommand check) }
 {
     choosing(
-        named(alloc, "check", CHECK, CHECK_HELP),
+        bare_command(alloc, "check", CHECK, CHECK_HELP),
         alloc,
         &CHECK_OPTIONS,
     )
@@ -186,7 +190,7 @@ Exit status: 0 nothing is refused; 1 the text, the interchange or a message is r
 fn show_command<'a>(alloc: Global) -> Result<Command<'a>, AllocError>
     ensures { IfOk result (IsCommand show) }
 {
-    named(alloc, "show", SHOW, SHOW_HELP)
+    bare_command(alloc, "show", SHOW, SHOW_HELP)
 }
 
 const INIT: &str = "Founds a hub: makes its database, with the parties of a register";
@@ -224,7 +228,11 @@ static INIT_OPTIONS: [Choice; 2] = [
 fn init_command<'a>(alloc: Global) -> Result<Command<'a>, AllocError>
     ensures { IfOk result (IsCommand init) }
 {
-    choosing(named(alloc, "init", INIT, INIT_HELP), alloc, &INIT_OPTIONS)
+    choosing(
+        bare_command(alloc, "init", INIT, INIT_HELP),
+        alloc,
+        &INIT_OPTIONS,
+    )
 }
 
 static HUB_OPTIONS: [Choice; 5] = [
@@ -260,7 +268,7 @@ fn hub_command<'a>(
 ) -> Result<Command<'a>, AllocError>
     ensures { IfOk result (λ command. IsCommand (over_a_hub name.now []) command) }
 {
-    choosing(named(alloc, name, about, help), alloc, &HUB_OPTIONS)
+    choosing(bare_command(alloc, name, about, help), alloc, &HUB_OPTIONS)
 }
 
 const JOIN: &str = "Registers a new supplier in a hub";
@@ -345,7 +353,7 @@ fn rekey_command<'a>(alloc: Global) -> Result<Command<'a>, AllocError>
     ensures { IfOk result (IsCommand rekey) }
 {
     choosing(
-        named(alloc, "rekey", REKEY, REKEY_HELP),
+        bare_command(alloc, "rekey", REKEY, REKEY_HELP),
         alloc,
         &REKEY_OPTIONS,
     )
@@ -397,7 +405,7 @@ fn verify_command<'a>(alloc: Global) -> Result<Command<'a>, AllocError>
     ensures { IfOk result (IsCommand verify) }
 {
     choosing(
-        named(alloc, "verify", VERIFY, VERIFY_HELP),
+        bare_command(alloc, "verify", VERIFY, VERIFY_HELP),
         alloc,
         &VERIFY_OPTIONS,
     )
@@ -607,7 +615,7 @@ fn serve_command<'a>(alloc: Global) -> Result<Command<'a>, AllocError>
     ensures { IfOk result (IsCommand serve) }
 {
     choosing(
-        named(alloc, "serve", SERVE, SERVE_HELP),
+        bare_command(alloc, "serve", SERVE, SERVE_HELP),
         alloc,
         &SERVE_OPTIONS,
     )

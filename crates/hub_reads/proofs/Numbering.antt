@@ -21,7 +21,7 @@ use Rattle.hub_rows.specs.Asks.{OnlyReads, Asks}
 use Rattle.hub_reads.specs.Numbered.{TellsNumber}
 use Rattle.hub_rows.proofs.Asking.{reads_no_commit}
 use Rattle.hub_rows.proofs.Causes.{IsBare, disk_has_cause, one_table}
-use Rattle.hub_rows.proofs.Finding.{all_of, no_limit, passes, Finds, finds}
+use Rattle.hub_rows.proofs.Finding.{all_of, no_limit, passes, FindsRows, finds}
 use Rattle.hub_rows.proofs.Looking.{SelectsFrom}
 use Rattle.hub_rows.proofs.Selecting.{only_reads}
 
@@ -70,7 +70,7 @@ module _ (n : ℕ) where
     abbrev db : Trees
     db = old.now.trees
 
-    found : Finds (db 0) [] (col 1 1 ∷ []) [] no_limit [] rows
+    found : FindsRows (db 0) [] (col 1 1 ∷ []) [] no_limit [] rows
     found =
         let answer = (reads_as number_text [] old new schema has _ it.is it.plain it.unlisted rows h).answer Null in
         finds db 0 [] (col 1 1 ∷ []) [] no_limit [] rows refl answer

@@ -30,7 +30,7 @@ use Rattle.hub_rows.specs.Asks.{Asks}
 use Rattle.hub_reads.specs.Mail.{is_low, is_above, low_of}
 use Rattle.hub_reads.proofs.Comparing.{cell_above, rank_above}
 use Rattle.hub_rows.proofs.Counting.{cell_bytes, all_such}
-use Rattle.hub_rows.proofs.Finding.{some_of, passes, Finds, finds}
+use Rattle.hub_rows.proofs.Finding.{some_of, passes, FindsRows, finds}
 use Rattle.hub_rows.proofs.Joining.{looks_on, looks_then}
 use Rattle.hub_rows.proofs.Listing.{shown_say, sources_have, sources_pass, sources_spoil, filter_both, all_both}
 use Rattle.hub_rows.proofs.Looking.{looks}
@@ -167,7 +167,7 @@ module _ (s : State) (hub : IsHub s) (supplier : List ℕ) (rows : List Row)
   passed row it = ap₂ (λ v w. v && w) (cell_bytes (column row 1) supplier it.0)
       (and_true _ ∙ cell_above (column row 2) 0 (omega arith) it.1.0)
 
-  found : Finds (s.now.trees 16) tests (col 1 2 ∷ []) order one params rows
+  found : FindsRows (s.now.trees 16) tests (col 1 2 ∷ []) order one params rows
   found = finds s.now.trees 16 tests (col 1 2 ∷ []) order one params rows refl answer
 
   told : map shown_number rows ≡ take 1 (map number (map mail_in found.sources))

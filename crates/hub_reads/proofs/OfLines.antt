@@ -28,7 +28,7 @@ use Rattle.hub_rows.specs.Asks.{Asks}
 use Rattle.hub_rows.proofs.Asking.{reads_more}
 use Rattle.hub_rows.specs.Shown.{shown_line}
 use Rattle.hub_rows.proofs.Counting.{cell_bytes, cell_number, all_such}
-use Rattle.hub_rows.proofs.Finding.{all_of, no_limit, passes, Finds, finds}
+use Rattle.hub_rows.proofs.Finding.{all_of, no_limit, passes, FindsRows, finds}
 use Rattle.hub_rows.proofs.Listing.{shown_say, sources_have, sources_are, sources_sorted, sources_spoil, all_of_map}
 use Rattle.hub_rows.proofs.Listing.{all_both, all_then, filter_both}
 use Rattle.hub_rows.proofs.Looking.{looks}
@@ -39,10 +39,11 @@ use Rattle.hub_rows.proofs.Unclean.{lines_unclean}
 use Rattle.sql_rows.proofs.Answers.{and_true}
 
 -- a row whose cells have the types of its columns, with a line number
-abbrev Numbered : Row → Type 0
-Numbered row = AreOf line_kinds 0 row × ((line_in row).line < 2 ^ 64)
+abbrev IsNumberedLine : Row → Type 0
+IsNumberedLine row = AreOf line_kinds 0 row × ((line_in row).line < 2 ^ 64)
 
-ranked : (params x y : Row) → Numbered x → Numbered y → sort_cmp line_order (params ∷ x ∷ []) (params ∷ y ∷ []) ≡ line_cmp (line_in x)
+ranked : (params x y : Row) → IsNumberedLine x → IsNumberedLine y
+    → sort_cmp line_order (params ∷ x ∷ []) (params ∷ y ∷ []) ≡ line_cmp (line_in x)
     (line_in y)
 ranked params x y a b =
     ap₂ ordering_then (rank_bytes (column x 1) (column y 1) a.0.0 b.0.0)
@@ -63,7 +64,7 @@ module _ (s : State) (hub : IsHub s) (tests : List Term) (params : Row) (rows : 
   cells : AllByRecursion (AreOf line_kinds 0) (s.now.trees 3)
   cells = line_cells s.now hub.schema hub.sound hub.ordered
 
-  found : Finds (s.now.trees 3) tests line_columns line_order no_limit params rows
+  found : FindsRows (s.now.trees 3) tests line_columns line_order no_limit params rows
   found = finds s.now.trees 3 tests line_columns line_order no_limit params rows refl answer
 
   told : map shown_line rows ≡ map line_in found.sources
@@ -78,7 +79,7 @@ module _ (s : State) (hub : IsHub s) (tests : List Term) (params : Row) (rows : 
       (all_of_map (λ line. line.line < 2 ^ 64) line_in found.sources (subst (AllByRecursion (λ line. line.line < 2 ^ 64)) told numbered)) in
       told ∙ sources_are line_total line_in (s.now.trees 3) tests params found.sources found.same p
       (all_such _ _ passed (s.now.trees 3) cells)
-      (sources_sorted line_total line_in (s.now.trees 3) tests params found.sources found.same line_order Numbered
+      (sources_sorted line_total line_in (s.now.trees 3) tests params found.sources found.same line_order IsNumberedLine
       (ranked params) known found.sorted)
       (hub_rises s hub).lines
 
@@ -88,8 +89,8 @@ module _ (s : State) (hub : IsHub s) (tests : List Term) (params : Row) (rows : 
       (sym (ap (list_all clean_line) told) ∙ spoilt) in
       lines_unclean (tables_in s.now.trees) some
 
-abbrev Reads : List Row → List LineRow → Type 0
-Reads rows items = items ≡ map shown_line rows
+abbrev ReadsLines : List Row → List LineRow → Type 0
+ReadsLines rows items = items ≡ map shown_line rows
 
 abbrev AreClean : List LineRow → Type 0
 AreClean lines = list_all clean_line lines ≡ true
@@ -98,7 +99,7 @@ abbrev Spoil : List Row → Type 0
 Spoil rows = list_all clean_line (map shown_line rows) ≡ false
 
 pub lines_look : (old new : State) (supplier number : List ℕ) (result : Result (List LineRow) StoreFault) → IfOk result AreClean
-    → Asks Reads Spoil lines_text (Blob supplier ∷ Blob number ∷ []) old new result
+    → Asks ReadsLines Spoil lines_text (Blob supplier ∷ Blob number ∷ []) old new result
     → LooksUp (λ t. lines_of (view supplier t) number) old new result
 lines_look old new supplier number result clean asks =
     let params = Blob supplier ∷ Blob number ∷ [] in
@@ -111,7 +112,7 @@ lines_look old new supplier number result clean asks =
     (λ hub rows answer spoilt. lines_spoil old hub _ params rows answer spoilt) result (reads_more AreClean result clean asks)
 
 pub numbered_look : (old new : State) (supplier number : List ℕ) (n : ℕ) → n < 2 ^ 32 → (result : Result (List LineRow) StoreFault)
-    → IfOk result AreClean → Asks Reads Spoil numbered_text (Blob supplier ∷ Blob number ∷ Int (pos n) ∷ []) old new result
+    → IfOk result AreClean → Asks ReadsLines Spoil numbered_text (Blob supplier ∷ Blob number ∷ Int (pos n) ∷ []) old new result
     → LooksUp (λ t. lines_numbered (view supplier t) number n) old new result
 numbered_look old new supplier number n low result clean asks =
     let params = Blob supplier ∷ Blob number ∷ Int (pos n) ∷ [] in
@@ -130,7 +131,7 @@ numbered_look old new supplier number n low result clean asks =
     (λ hub rows answer spoilt. lines_spoil old hub _ params rows answer spoilt) result (reads_more AreClean result clean asks)
 
 pub all_lines_look : (old new : State) (supplier : List ℕ) (result : Result (List LineRow) StoreFault) → IfOk result AreClean
-    → Asks Reads Spoil all_lines_text (Blob supplier ∷ []) old new result → LooksUp (λ t. (view supplier t).lines) old new result
+    → Asks ReadsLines Spoil all_lines_text (Blob supplier ∷ []) old new result → LooksUp (λ t. (view supplier t).lines) old new result
 all_lines_look old new supplier result clean asks =
     let params = Blob supplier ∷ [] in
     let passed : (row : Row) → AreOf line_kinds 0 row → passes (given_at 1 0 ∷ []) params row ≡ same (line_in row).supplier supplier =

@@ -36,7 +36,7 @@ use Rattle.hub_reads.specs.Mail.{is_low, is_above, low_of, above_of}
 use Rattle.hub_rows.specs.Shown.{shown_mail}
 use Rattle.hub_reads.proofs.Comparing.{cell_low, cell_above}
 use Rattle.hub_rows.proofs.Counting.{cell_bytes, cell_number, any_shown, some_found, all_such}
-use Rattle.hub_rows.proofs.Finding.{all_of, no_limit, passes, Finds, finds}
+use Rattle.hub_rows.proofs.Finding.{all_of, no_limit, passes, FindsRows, finds}
 use Rattle.hub_rows.proofs.Joining.{looks_on, looks_spoilt}
 use Rattle.hub_rows.proofs.Listing.{rows_moved, rows_spoil, filter_both}
 use Rattle.hub_rows.proofs.Looking.{looks}
@@ -97,7 +97,7 @@ entry_look old new supplier number low =
     λ row it. ap₂ (λ v w. v && w) (cell_bytes (column row 1) supplier it.0)
     (and_true _ ∙ cell_number (column row 2) number (omega (arith, low)) it.1.0) in
     let found : (rows : List Row) → IsAnswer (all_of 16 tests mail_columns []) (overlay db []) params rows
-    → Finds (db 16) tests mail_columns [] no_limit params rows =
+    → FindsRows (db 16) tests mail_columns [] no_limit params rows =
     λ rows answer. finds db 16 tests mail_columns [] no_limit params rows refl answer in
     looks entry_selects _ _ _ params old new
     (λ hub rows answer first is.

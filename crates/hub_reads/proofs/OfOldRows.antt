@@ -38,7 +38,7 @@ use Rattle.hub_rows.specs.Asks.{Asks}
 use Rattle.hub_reads.specs.Fitting.{registered_in, pallet_fits, orders_fit, lines_fit, advices_fit, pallets_fit, remembered_fit, mail_fits}
 use Rattle.hub_reads.specs.Fitting.{TellsOld}
 use Rattle.hub_rows.proofs.Causes.{IsBare, disk_has_cause, one_table}
-use Rattle.hub_rows.proofs.Finding.{all_of, no_limit, Finds, finds}
+use Rattle.hub_rows.proofs.Finding.{all_of, no_limit, FindsRows, finds}
 use Rattle.hub_rows.proofs.Listing.{all_clean, clean_all}
 use Rattle.hub_rows.proofs.Looking.{SelectsFrom, looks_among}
 use Rattle.hub_reads.proofs.Numbering.{all_pass}
@@ -86,7 +86,7 @@ all_moved p xs ys moved = elim (cases_Bool (list_all p xs)) [
 
 -- A query that shows some columns of all rows of a table: what holds of the columns holds of the rows, and conversely.
 module _ {X : Type 0} (cmp : X → X → Ordering) (f : Row → X) (columns : List Term) (stored rows : List Row)
-    (found : Finds stored [] columns [] no_limit [] rows) (p : Row → Bool) (q : X → Bool)
+    (found : FindsRows stored [] columns [] no_limit [] rows) (p : Row → Bool) (q : X → Bool)
     (says : (row : Row) → p (eval_all columns ([] ∷ row ∷ [])) ≡ q (f row)) where
   each_shown : (sources : List Row) → list_all p (map (λ row. eval_all columns ([] ∷ row ∷ [])) sources) ≡ list_all q (map f sources)
   each_shown [] = refl

@@ -23,7 +23,7 @@ use Rattle.hub_schema.proofs.Single.{pallet_kinds, pallet_cells, hub_rises}
 use Rattle.hub_rows.specs.Asks.{Asks}
 use Rattle.hub_rows.specs.Shown.{shown_pallet}
 use Rattle.hub_rows.proofs.Counting.{cell_bytes, all_such}
-use Rattle.hub_rows.proofs.Finding.{all_of, no_limit, passes, Finds, finds}
+use Rattle.hub_rows.proofs.Finding.{all_of, no_limit, passes, FindsRows, finds}
 use Rattle.hub_rows.proofs.Listing.{shown_say, sources_have, sources_are, sources_sorted, sources_spoil}
 use Rattle.hub_rows.proofs.Looking.{looks}
 use Rattle.hub_rows.proofs.Ranking.{then_none, rank_bytes}
@@ -55,7 +55,7 @@ module _ (s : State) (hub : IsHub s) where
 
   module _ (tests : List Term) (order : List (Term × Key)) (params : Row) (rows : List Row)
       (answer : IsAnswer (all_of 7 tests pallet_columns order) (overlay s.now.trees []) params rows) where
-    found : Finds (s.now.trees 7) tests pallet_columns order no_limit params rows
+    found : FindsRows (s.now.trees 7) tests pallet_columns order no_limit params rows
     found = finds s.now.trees 7 tests pallet_columns order no_limit params rows refl answer
 
     told : map shown_pallet rows ≡ map pallet_in found.sources

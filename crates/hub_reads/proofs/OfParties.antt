@@ -22,7 +22,7 @@ use Rattle.hub_schema.specs.State.{HasTables, LooksIn}
 use Rattle.hub_schema.proofs.Single.{hub_kinds, hub_cells, key_kinds, key_cells, prefix_kinds, prefix_cells, held_rise}
 use Rattle.hub_rows.specs.Asks.{Asks}
 use Rattle.hub_rows.specs.Shown.{shown_hub, shown_key, shown_prefix}
-use Rattle.hub_rows.proofs.Finding.{all_of, no_limit, Finds, finds}
+use Rattle.hub_rows.proofs.Finding.{all_of, no_limit, FindsRows, finds}
 use Rattle.hub_rows.proofs.Listing.{rows_are, rows_spoil, all_any}
 use Rattle.hub_rows.proofs.Looking.{looks_in}
 use Rattle.hub_rows.proofs.Ranking.{then_none, rank_bytes}
@@ -35,7 +35,7 @@ all_pass (x ∷ xs) = ap (λ more. x ∷ more) (all_pass xs)
 -- all rows of a table
 module _ {X : Type 0} {cmp : X → X → Ordering} (total : IsTotalOrder cmp) (f shown : Row → X) (columns : List Term)
     (stored rows : List Row) (says : (row : Row) → shown (eval_all columns ([] ∷ row ∷ [])) ≡ f row)
-    (found : Finds stored [] columns (rising 1 ∷ []) no_limit [] rows) where
+    (found : FindsRows stored [] columns (rising 1 ∷ []) no_limit [] rows) where
   all_are : (P : Row → Type 0)
       → ((x y : Row) → P x → P y → sort_cmp (rising 1 ∷ []) ([] ∷ x ∷ []) ([] ∷ y ∷ []) ≡ cmp (f x) (f y))
       → AllByRecursion P stored → Rises cmp (in_key_order cmp (map f stored))
@@ -54,7 +54,7 @@ hub_columns = col 1 1 ∷ col 1 2 ∷ col 1 3 ∷ []
 
 module _ (s : State) (hub : HasTables s) (rows : List Row)
     (answer : IsAnswer (all_of 18 [] hub_columns (rising 1 ∷ [])) (overlay s.now.trees []) [] rows) where
-  hub_found : Finds (s.now.trees 18) [] hub_columns (rising 1 ∷ []) no_limit [] rows
+  hub_found : FindsRows (s.now.trees 18) [] hub_columns (rising 1 ∷ []) no_limit [] rows
   hub_found = finds s.now.trees 18 [] hub_columns (rising 1 ∷ []) no_limit [] rows refl answer
 
   hubs_are : map shown_hub rows ≡ (tables_in s.now.trees).hubs
@@ -81,7 +81,7 @@ key_columns = col 1 1 ∷ col 1 2 ∷ []
 
 module _ (s : State) (hub : HasTables s) (rows : List Row)
     (answer : IsAnswer (all_of 20 [] key_columns (rising 1 ∷ [])) (overlay s.now.trees []) [] rows) where
-  key_found : Finds (s.now.trees 20) [] key_columns (rising 1 ∷ []) no_limit [] rows
+  key_found : FindsRows (s.now.trees 20) [] key_columns (rising 1 ∷ []) no_limit [] rows
   key_found = finds s.now.trees 20 [] key_columns (rising 1 ∷ []) no_limit [] rows refl answer
 
   keys_are : map shown_key rows ≡ (tables_in s.now.trees).keys
@@ -108,7 +108,7 @@ prefix_columns = col 1 1 ∷ col 1 2 ∷ []
 
 module _ (s : State) (hub : HasTables s) (rows : List Row)
     (answer : IsAnswer (all_of 22 [] prefix_columns (rising 1 ∷ [])) (overlay s.now.trees []) [] rows) where
-  prefix_found : Finds (s.now.trees 22) [] prefix_columns (rising 1 ∷ []) no_limit [] rows
+  prefix_found : FindsRows (s.now.trees 22) [] prefix_columns (rising 1 ∷ []) no_limit [] rows
   prefix_found = finds s.now.trees 22 [] prefix_columns (rising 1 ∷ []) no_limit [] rows refl answer
 
   prefixes_are : map shown_prefix rows ≡ (tables_in s.now.trees).prefixes

@@ -36,7 +36,7 @@ use Rattle.hub_schema.proofs.Single.{remembered_kinds, remembered_cells, hub_ris
 use Rattle.hub_rows.specs.Asks.{Asks}
 use Rattle.hub_rows.specs.Shown.{shown_bytes}
 use Rattle.hub_rows.proofs.Counting.{cell_bytes, cell_number, all_such}
-use Rattle.hub_rows.proofs.Finding.{all_of, no_limit, passes, Finds, finds}
+use Rattle.hub_rows.proofs.Finding.{all_of, no_limit, passes, FindsRows, finds}
 use Rattle.hub_rows.proofs.Listing.{shown_say, sources_have, sources_moved, sources_spoil, filter_both}
 use Rattle.hub_rows.proofs.Looking.{looks}
 use Rattle.hub_rows.proofs.Single.{found_first, both_tied, bytes_tied, numbers_tied, shown_first, all_through, spoils_more}
@@ -86,7 +86,7 @@ content_clean x h =
 
 -- the first row that is found is the one that is remembered
 module _ (old : State) (hub : IsHub old) (supplier : List ℕ) (side : Side) (control message : List ℕ) (shown : List Term) (rows : List Row)
-    (it : Finds (old.now.trees 14) remembered_tests shown [] no_limit
+    (it : FindsRows (old.now.trees 14) remembered_tests shown [] no_limit
     (Blob supplier ∷ Int (pos (side_letter side)) ∷ Blob control ∷ Blob message ∷ []) rows) where
   first_is : slice_get (map remembered_in it.sources) 0
       ≡ remembered_of (view supplier (tables_in old.now.trees)) side control message
@@ -115,9 +115,9 @@ remembered_look old new supplier side control message =
     let db = old.now.trees in
     let content : RememberedRow → List ℕ = λ row. row.content in
     let found : (rows : List Row) → IsAnswer (all_of 14 remembered_tests (col 1 5 ∷ []) []) (overlay db []) params rows
-    → Finds (db 14) remembered_tests (col 1 5 ∷ []) [] no_limit params rows =
+    → FindsRows (db 14) remembered_tests (col 1 5 ∷ []) [] no_limit params rows =
     λ rows answer. finds db 14 remembered_tests (col 1 5 ∷ []) [] no_limit params rows refl answer in
-    let told : (rows : List Row) (it : Finds (db 14) remembered_tests (col 1 5 ∷ []) [] no_limit params rows)
+    let told : (rows : List Row) (it : FindsRows (db 14) remembered_tests (col 1 5 ∷ []) [] no_limit params rows)
     → map shown_bytes rows ≡ map content (map remembered_in it.sources) =
     λ rows it. ap (map shown_bytes) it.is ∙ shown_say (λ row. (remembered_in row).content) shown_bytes (col 1 5 ∷ []) params it.sources
     (λ row. refl) ∙ sym (map_twice content remembered_in it.sources) in

@@ -40,7 +40,7 @@ use Rattle.hub_reads.specs.Mail.{is_low, is_above, low_of, above_of}
 use Rattle.hub_rows.specs.Shown.{shown_head}
 use Rattle.hub_reads.proofs.Comparing.{cell_above, cell_untaken, rank_above}
 use Rattle.hub_rows.proofs.Counting.{cell_bytes, all_such}
-use Rattle.hub_rows.proofs.Finding.{some_of, passes, Finds, finds}
+use Rattle.hub_rows.proofs.Finding.{some_of, passes, FindsRows, finds}
 use Rattle.hub_rows.proofs.Joining.{looks_on, looks_spoilt, looks_then}
 use Rattle.hub_rows.proofs.Listing.{shown_say, sources_have, sources_pass, sources_are, sources_sorted, sources_spoil}
 use Rattle.hub_rows.proofs.Listing.{filter_both, all_both, all_clean, all_then, all_to_map, clean_all}
@@ -155,7 +155,7 @@ module _ (s : State) (hub : IsHub s) (supplier : List ℕ) (bound : ℕ) (low : 
       ap₂ (λ v w. v && w) (cell_bytes (column row 1) supplier it.0)
       (ap₂ (λ v w. v && w) (cell_above (column row 2) bound low it.1.0) (and_true _ ∙ cell_untaken (column row 8) it.1.1.1.1.1.1.1.0))
 
-  found : Finds (s.now.trees 16) tests head_columns order (col 0 2) params rows
+  found : FindsRows (s.now.trees 16) tests head_columns order (col 0 2) params rows
   found = finds s.now.trees 16 tests head_columns order (col 0 2) params rows refl answer
 
   told : map shown_head rows ≡ limited (as_count most) (map head_of (map mail_in found.sources))

@@ -152,7 +152,7 @@ fn first_above<S: Alter>(
 }
 
 // Like `first_above`, above any number.
-fn untaken_above<S: Alter>(
+fn untaken_heads_above<S: Alter>(
     conn: &mut Connection<S>,
     alloc: Global,
     supplier: &Gln,
@@ -192,7 +192,7 @@ pub fn mail_after<S: Alter>(
     if low {
         return Err(StoreFault::Unclean);
     }
-    untaken_above(conn, alloc, supplier, number, limit)
+    untaken_heads_above(conn, alloc, supplier, number, limit)
 }
 
 // Returns the number of the last entry above zero.

@@ -19,8 +19,8 @@ use Rattle.hub_parties.specs.Rows.{IsRegister, rows_by, company_prefixes, most_s
 use Rattle.hub_parties.specs.declared.row.SupplierRow.{SupplierRow}
 use Rattle.hub_register.specs.InOrder.{put, put_all}
 use Rattle.hub_register.specs.Kept.{is_valid, goes_before, are_in_order, is_other, are_others, keep_all}
-use Rattle.hub_register.proofs.Ordered.{Apart}
-use Rattle.hub_register.proofs.Right.{Differ, Free, not_among, once, free, prefix_free}
+use Rattle.hub_register.proofs.Ordered.{Pairwise}
+use Rattle.hub_register.proofs.Right.{GlnsDiffer, HaveFreePrefixes, not_among, once, free, prefix_free}
 
 -- Rising rows, inserted one after another.
 abbrev pub Below : SupplierRow → SupplierRow → Type 0
@@ -82,21 +82,21 @@ rises (row ∷ rows) h =
         let parts = and_parts (goes_before row other) (list_all (goes_before row) others) all in
         (is_less (bytes_cmp row.gln other.gln) (and_parts (is_lt (bytes_cmp row.gln other.gln)) _ parts.0).0, below others parts.1)
 
-differ_in_order : (rows : List SupplierRow) → are_in_order rows ≡ true → Apart Differ rows
+differ_in_order : (rows : List SupplierRow) → are_in_order rows ≡ true → Pairwise GlnsDiffer rows
 differ_in_order [] h = tt
 differ_in_order (row ∷ rows) h =
     let parts = and_parts (list_all (goes_before row) rows) (are_in_order rows) h in (
-      each (goes_before row) (Differ row) (λ other before.
+      each (goes_before row) (GlnsDiffer row) (λ other before.
           sym (is_eq-slice_cmp row.gln other.gln)
           ∙ ap is_eq (is_less (bytes_cmp row.gln other.gln) (and_parts (is_lt (bytes_cmp row.gln other.gln)) _ before).0)) rows parts.0,
       differ_in_order rows parts.1,
     )
 
-free_in_order : (rows : List SupplierRow) → are_in_order rows ≡ true → Apart Free rows
+free_in_order : (rows : List SupplierRow) → are_in_order rows ≡ true → Pairwise HaveFreePrefixes rows
 free_in_order [] h = tt
 free_in_order (row ∷ rows) h =
     let parts = and_parts (list_all (goes_before row) rows) (are_in_order rows) h in (
-      each (goes_before row) (Free row) (λ other before.
+      each (goes_before row) (HaveFreePrefixes row) (λ other before.
           (apart-iff row.prefixes other.prefixes _ refl).0
           (not-true _ (and_parts (is_lt (bytes_cmp row.gln other.gln)) _ before).1)) rows parts.0,
       free_in_order rows parts.1,
@@ -161,13 +161,14 @@ module _ (hub retailer key : List ℕ) (rows : List SupplierRow) where
   kept_stand kept = as_they_stand rows (rises rows (kept_order kept))
 
 -- and the converse
-pub in_order : (rows : List SupplierRow) → Rises bytes_cmp (map (λ r. r.gln) rows) → Apart Free rows → are_in_order rows ≡ true
+pub in_order : (rows : List SupplierRow) → Rises bytes_cmp (map (λ r. r.gln) rows) → Pairwise HaveFreePrefixes rows
+    → are_in_order rows ≡ true
 in_order [] rising apart = refl
 in_order (row ∷ rows) rising apart = and_from _ _ (before rows rising.0 apart.0) (in_order rows rising.1 apart.1)
   where
     before : (others : List SupplierRow)
         → AllByRecursion (λ gln. bytes_cmp row.gln gln ≡ Less) (map (λ r. r.gln) others)
-        → AllByRecursion (Free row) others
+        → AllByRecursion (HaveFreePrefixes row) others
         → list_all (goes_before row) others ≡ true
     before [] below free = refl
     before (other ∷ others) below free =

@@ -113,15 +113,15 @@ rise_in_order rows = glns_rise (put_all rows []) (rises-put_all rows [] tt)
 
 -- a relation of every two rows
 module _ (R : SupplierRow → SupplierRow → Type 0) where
-  abbrev pub Apart : List SupplierRow → Type 0
-  Apart [] = Unit {0}
-  Apart (row ∷ rows) = AllByRecursion (R row) rows × Apart rows
+  abbrev pub Pairwise : List SupplierRow → Type 0
+  Pairwise [] = Unit {0}
+  Pairwise (row ∷ rows) = AllByRecursion (R row) rows × Pairwise rows
 
 module _ (R : SupplierRow → SupplierRow → Type 0) (turned : (r s : SupplierRow) → R r s → R s r) where
-  apart-put : (row : SupplierRow) (rows : List SupplierRow) → AllByRecursion (R row) rows → Apart R rows → Apart R (put row rows)
+  apart-put : (row : SupplierRow) (rows : List SupplierRow) → AllByRecursion (R row) rows → Pairwise R rows → Pairwise R (put row rows)
   apart-put row [] here there = (tt, tt)
   apart-put row (r ∷ rs) here there =
-      by_place (Apart R) (slice_cmp nat_cmp row.gln r.gln) (row ∷ r ∷ rs) (row ∷ rs) (r ∷ put row rs)
+      by_place (Pairwise R) (slice_cmp nat_cmp row.gln r.gln) (row ∷ r ∷ rs) (row ∷ rs) (r ∷ put row rs)
       (here, there) (here.1, there.1) (every-put (R r) row rs (turned row r here.0) there.0, apart-put row rs here.1 there.1)
 
   next : (row : SupplierRow) (rows done : List SupplierRow)
@@ -132,10 +132,10 @@ module _ (R : SupplierRow → SupplierRow → Type 0) (turned : (r s : SupplierR
   next row (r ∷ rs) done here there = (every-put (R r) row done (turned row r here.0) there.0, next row rs done here.1 there.1)
 
   apart-put_all : (rows done : List SupplierRow)
-      → Apart R rows
-      → Apart R done
+      → Pairwise R rows
+      → Pairwise R done
       → AllByRecursion (λ r. AllByRecursion (R r) done) rows
-      → Apart R (put_all rows done)
+      → Pairwise R (put_all rows done)
   apart-put_all [] done waiting put between = put
   apart-put_all (row ∷ rows) done waiting put between =
       apart-put_all rows _ waiting.1 (apart-put row done between.0 put) (next row rows done waiting.0 between.1)
@@ -144,5 +144,5 @@ module _ (R : SupplierRow → SupplierRow → Type 0) (turned : (r s : SupplierR
   from_none [] = tt
   from_none (row ∷ rows) = (tt, from_none rows)
 
-  pub apart_in_order : (rows : List SupplierRow) → Apart R rows → Apart R (put_all rows [])
+  pub apart_in_order : (rows : List SupplierRow) → Pairwise R rows → Pairwise R (put_all rows [])
   apart_in_order rows apart = apart-put_all rows [] apart tt (from_none rows)

@@ -23,8 +23,8 @@ use Rattle.hub_register.specs.Register.{register_of_rows, unless_faulty, HasRows
 use Rattle.hub_register.specs.InOrder.{put, put_all, with_sorted_prefixes, in_gln_order}
 use Rattle.hub_register.specs.declared.fault.RegisterFault.{RegisterFault}
 use Rattle.hub_register.specs.declared.fault.RegisterFault.TheVariants.{Many, Gln, Twice, Prefix, Key, Overlap}
-use Rattle.hub_register.proofs.Ordered.{every-put, Apart}
-use Rattle.hub_register.proofs.Right.{Differ, differ-turned, differ}
+use Rattle.hub_register.proofs.Ordered.{every-put, Pairwise}
+use Rattle.hub_register.proofs.Right.{GlnsDiffer, differ-turned, differ}
 use Rattle.hub_register.proofs.SortedPrefixes.{same_glns, each_the_same}
 
 -- inserting a row gives that row and the others, if none of them has its GLN
@@ -36,23 +36,24 @@ put-case Greater row r rs more differs ih =
     IsPermutation-trans (row ∷ r ∷ rs) (r ∷ row ∷ rs) (r ∷ more) (IsPermutation-middle (row ∷ []) r rs)
     (IsPermutation-cons r (row ∷ rs) more ih)
 
-put-permutes : (row : SupplierRow) (rows : List SupplierRow) → AllByRecursion (Differ row) rows → IsPermutation (row ∷ rows) (put row rows)
+put-permutes : (row : SupplierRow) (rows : List SupplierRow) → AllByRecursion (GlnsDiffer row) rows
+    → IsPermutation (row ∷ rows) (put row rows)
 put-permutes row [] differs = IsPermutation-refl (row ∷ [])
 put-permutes row (r ∷ rs) differs =
     put-case (slice_cmp nat_cmp row.gln r.gln) row r rs (put row rs) (is_eq-slice_cmp row.gln r.gln ∙ differs.0)
     (put-permutes row rs differs.1)
 
 between-next : (row : SupplierRow) (rows done : List SupplierRow)
-    → AllByRecursion (Differ row) rows
-    → AllByRecursion (λ r. AllByRecursion (Differ r) done) rows
-    → AllByRecursion (λ r. AllByRecursion (Differ r) (put row done)) rows
+    → AllByRecursion (GlnsDiffer row) rows
+    → AllByRecursion (λ r. AllByRecursion (GlnsDiffer r) done) rows
+    → AllByRecursion (λ r. AllByRecursion (GlnsDiffer r) (put row done)) rows
 between-next row [] done here there = tt
 between-next row (r ∷ rs) done here there =
-    (every-put (Differ r) row done (differ-turned row r here.0) there.0, between-next row rs done here.1 there.1)
+    (every-put (GlnsDiffer r) row done (differ-turned row r here.0) there.0, between-next row rs done here.1 there.1)
 
 put_all-permutes : (rows done : List SupplierRow)
-    → Apart Differ rows
-    → AllByRecursion (λ r. AllByRecursion (Differ r) done) rows
+    → Pairwise GlnsDiffer rows
+    → AllByRecursion (λ r. AllByRecursion (GlnsDiffer r) done) rows
     → IsPermutation (rows ++ done) (put_all rows done)
 put_all-permutes [] done apart between = IsPermutation-refl done
 put_all-permutes (row ∷ rows) done apart between =
@@ -62,7 +63,7 @@ put_all-permutes (row ∷ rows) done apart between =
     (IsPermutation-append_right rows (row ∷ done) (put row done) (put-permutes row done between.0))
     (put_all-permutes rows (put row done) apart.1 (between-next row rows done apart.0 between.1)))
 
-none : (rows : List SupplierRow) → AllByRecursion (λ r. AllByRecursion (Differ r) []) rows
+none : (rows : List SupplierRow) → AllByRecursion (λ r. AllByRecursion (GlnsDiffer r) []) rows
 none [] = tt
 none (row ∷ rows) = (tt, none rows)
 

@@ -8,16 +8,16 @@ use Rattle.hub_parties.specs.declared.row.SupplierRow.{SupplierRow}
 use Rattle.hub_register.specs.Document.{row_with}
 use Rattle.hub_register.specs.Entries.{row_in, texts_of}
 use Rattle.hub_register.specs.InOrder.{put, put_all, with_sorted_prefixes}
-use Rattle.hub_register.specs.declared.document.Entry.{Entry}
+use Rattle.hub_register.specs.declared.document.SupplierStrings.{SupplierStrings}
 
-pub same_row : (gln : List ℕ) (prefixes : List (List ℕ)) (key : List ℕ) (entry : Entry)
+pub same_row : (gln : List ℕ) (prefixes : List (List ℕ)) (key : List ℕ) (entry : SupplierStrings)
     → gln ≡ entry.gln.now
     → prefixes ≡ by_bytes (texts_of entry.prefixes.items)
     → key ≡ entry.key.now
     → with_sorted_prefixes (row_in entry) ≡ row_with gln prefixes key
 same_row gln prefixes key entry a b c = rw (a, b, c)
 
-module _ (entries : List Entry) (i : ℕ) (entry : Entry) (within : i < length entries) where
+module _ (entries : List SupplierStrings) (i : ℕ) (entry : SupplierStrings) (within : i < length entries) where
   pub first_is : map row_in (drop i entries) ≡ row_in (get_or entries i entry) ∷ map row_in (drop (i + 1) entries)
   first_is = ap (map row_in) (drop_more entries i entry within)
 

@@ -18,14 +18,14 @@ use Rattle.hub_parties.specs.Prefixes.{are_company_prefixes, by_bytes}
 use Rattle.hub_parties.specs.Rows.{RegisterRows, IsRegister, company_prefixes, glns, keys, most_suppliers}
 use Rattle.hub_parties.specs.declared.row.SupplierRow.{SupplierRow}
 use Rattle.hub_register.specs.InOrder.{put_all, with_sorted_prefixes, in_gln_order}
-use Rattle.hub_register.proofs.Ordered.{length-put_all, all-put_all, every-put_all, Apart, apart_in_order, rise_in_order}
+use Rattle.hub_register.proofs.Ordered.{length-put_all, all-put_all, every-put_all, Pairwise, apart_in_order, rise_in_order}
 use Rattle.hub_register.proofs.SortedPrefixes.{same_glns, same_keys, all_sorted, sorted_free}
 
 -- GLNs that differ
-abbrev pub Differ : SupplierRow → SupplierRow → Type 0
-Differ r s = bytes_eq r.gln s.gln ≡ false
+abbrev pub GlnsDiffer : SupplierRow → SupplierRow → Type 0
+GlnsDiffer r s = bytes_eq r.gln s.gln ≡ false
 
-pub differ-turned : (r s : SupplierRow) → Differ r s → Differ s r
+pub differ-turned : (r s : SupplierRow) → GlnsDiffer r s → GlnsDiffer s r
 differ-turned r s h = bytes_eq-sym s.gln r.gln ∙ h
 
 pub not_among : (text : List ℕ) (rows : List SupplierRow)
@@ -40,11 +40,11 @@ pub each_differs : (text : List ℕ) (rows : List SupplierRow)
 each_differs text [] h = tt
 each_differs text (r ∷ rs) h = let parts = or_parts (bytes_eq text r.gln) _ h in (parts.0, each_differs text rs parts.1)
 
-pub once : (rows : List SupplierRow) → Apart Differ rows → has_twice (map (λ r. r.gln) rows) ≡ false
+pub once : (rows : List SupplierRow) → Pairwise GlnsDiffer rows → has_twice (map (λ r. r.gln) rows) ≡ false
 once [] h = refl
 once (r ∷ rs) h = or_from (is_among r.gln (map (λ s. s.gln) rs)) _ (not_among r.gln rs h.0) (once rs h.1)
 
-pub differ : (rows : List SupplierRow) → has_twice (map (λ r. r.gln) rows) ≡ false → Apart Differ rows
+pub differ : (rows : List SupplierRow) → has_twice (map (λ r. r.gln) rows) ≡ false → Pairwise GlnsDiffer rows
 differ [] h = tt
 differ (r ∷ rs) h = let parts = or_parts (is_among r.gln (map (λ s. s.gln) rs)) _ h in (each_differs r.gln rs parts.0, differ rs parts.1)
 
@@ -61,39 +61,41 @@ glns-apart hub retailer rows h =
     λ text none. not_among text (put_all rows [])
     (every-put_all (λ r. bytes_eq text r.gln ≡ false) rows [] (each_differs text rows none) tt) in
     or_from _ _ (or_from (bytes_eq hub retailer) _ at_hub.0 (other hub at_hub.1))
-    (or_from _ _ (other retailer second.0) (once (put_all rows []) (apart_in_order Differ differ-turned rows (differ rows second.1))))
+    (or_from _ _ (other retailer second.0) (once (put_all rows []) (apart_in_order GlnsDiffer differ-turned rows (differ rows second.1))))
 
 -- prefixes that do not overlap
-abbrev pub Free : SupplierRow → SupplierRow → Type 0
-Free r s = AreApart r.prefixes s.prefixes
+abbrev pub HaveFreePrefixes : SupplierRow → SupplierRow → Type 0
+HaveFreePrefixes r s = AreApart r.prefixes s.prefixes
 
-free-turned : (r s : SupplierRow) → Free r s → Free s r
+free-turned : (r s : SupplierRow) → HaveFreePrefixes r s → HaveFreePrefixes s r
 free-turned r s h =
     λ j e there i d here.
     or_comm (begins (get_or s.prefixes j e) (get_or r.prefixes i d)) (begins (get_or r.prefixes i d) (get_or s.prefixes j e))
     ∙ h i d here j e there
 
-each_free : (r : SupplierRow) (rows : List SupplierRow) → All (AreApart r.prefixes) (company_prefixes rows) → AllByRecursion (Free r) rows
+each_free : (r : SupplierRow) (rows : List SupplierRow) → All (AreApart r.prefixes) (company_prefixes rows)
+    → AllByRecursion (HaveFreePrefixes r) rows
 each_free r [] h = tt
 each_free r (s ∷ rows) h = (h 0 [] (omega arith), each_free r rows (λ k d within. h (suc k) d (omega (arith, within))))
 
-pub free : (rows : List SupplierRow) → PrefixFree (company_prefixes rows) → Apart Free rows
+pub free : (rows : List SupplierRow) → PrefixFree (company_prefixes rows) → Pairwise HaveFreePrefixes rows
 free [] h = tt
 free (r ∷ rows) h = (
   each_free r rows (λ k d within. h 0 (suc k) d (omega arith) (omega (arith, within))),
   free rows (λ i j d before within. h (suc i) (suc j) d (omega (arith, before)) (omega (arith, within))),
 )
 
-all_apart : (r : SupplierRow) (rows : List SupplierRow) → AllByRecursion (Free r) rows → All (AreApart r.prefixes) (company_prefixes rows)
+all_apart : (r : SupplierRow) (rows : List SupplierRow) → AllByRecursion (HaveFreePrefixes r) rows
+    → All (AreApart r.prefixes) (company_prefixes rows)
 all_apart r [] h = All-nil (AreApart r.prefixes)
 all_apart r (s ∷ rows) h = All-cons (AreApart r.prefixes) s.prefixes (company_prefixes rows) h.0 (all_apart r rows h.1)
 
-pub prefix_free : (rows : List SupplierRow) → Apart Free rows → PrefixFree (company_prefixes rows)
+pub prefix_free : (rows : List SupplierRow) → Pairwise HaveFreePrefixes rows → PrefixFree (company_prefixes rows)
 prefix_free [] h = λ i j d before within. absurd (omega arith)
 prefix_free (r ∷ rows) h = AllPairs-cons AreApart r.prefixes (company_prefixes rows) (all_apart r rows h.0) (prefix_free rows h.1)
 
 pub free_in_order : (rows : List SupplierRow) → PrefixFree (company_prefixes rows) → PrefixFree (company_prefixes (put_all rows []))
-free_in_order rows h = prefix_free (put_all rows []) (apart_in_order Free free-turned rows (free rows h))
+free_in_order rows h = prefix_free (put_all rows []) (apart_in_order HaveFreePrefixes free-turned rows (free rows h))
 
 pub register_right : (rows : RegisterRows)
     → length rows.suppliers ≤ most_suppliers

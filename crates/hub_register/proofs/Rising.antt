@@ -9,8 +9,8 @@ use Rattle.hub_parties.specs.KeyOrder.{bytes_cmp, Rises}
 use Rattle.hub_parties.specs.declared.row.SupplierRow.{SupplierRow}
 use Rattle.hub_register.specs.Kept.{are_in_order}
 use Rattle.hub_register.proofs.Kept.{Below, in_order}
-use Rattle.hub_register.proofs.Ordered.{Apart}
-use Rattle.hub_register.proofs.Right.{Free}
+use Rattle.hub_register.proofs.Ordered.{Pairwise}
+use Rattle.hub_register.proofs.Right.{HaveFreePrefixes}
 
 below_all : (row next : SupplierRow) (rows : List SupplierRow)
     → Below row next
@@ -34,13 +34,13 @@ rises_by_neighbours (row ∷ next ∷ rows) below =
 
 free_of_all : (row : SupplierRow) (rows : List SupplierRow)
     → AreApart row.prefixes (flat_map (λ (r : SupplierRow). r.prefixes) rows)
-    → AllByRecursion (Free row) rows
+    → AllByRecursion (HaveFreePrefixes row) rows
 free_of_all row [] apart = tt
 free_of_all row (r ∷ rows) apart =
     let parts = apart-parts row.prefixes r.prefixes (flat_map (λ (r : SupplierRow). r.prefixes) rows) apart in
     (parts.0, free_of_all row rows parts.1)
 
-free_by_all : (rows : List SupplierRow) → NoneOverlap (flat_map (λ (r : SupplierRow). r.prefixes) rows) → Apart Free rows
+free_by_all : (rows : List SupplierRow) → NoneOverlap (flat_map (λ (r : SupplierRow). r.prefixes) rows) → Pairwise HaveFreePrefixes rows
 free_by_all [] none = tt
 free_by_all (row ∷ rows) none =
     let parts = none_overlap-parts row.prefixes (flat_map (λ (r : SupplierRow). r.prefixes) rows) none in

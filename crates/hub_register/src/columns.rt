@@ -13,7 +13,7 @@ ghost use Rattle.hub_register.specs.Entries.{row_in, rows_from, texts_of};
 ghost use Rattle.hub_register.specs.Document.{row_with};
 ghost use Rattle.hub_register.specs.InOrder.{put, put_all, with_sorted_prefixes};
 
-use crate::document::{Document, Entry};
+use crate::document::{RegisterStrings, SupplierStrings};
 use crate::fault::RegisterFault;
 use edi_base::Seen;
 use gs1_ids::{Gln, Prefix};
@@ -44,7 +44,7 @@ pub(crate) fn key_of(text: &str) -> Result<Key, RegisterFault>
 }
 
 /// Returns all GLNs, the hub's and the retailer's first.
-pub(crate) fn glns(alloc: Global, document: &Document<'_>) -> Result<Vec<Gln>, RegisterFault>
+pub(crate) fn glns(alloc: Global, document: &RegisterStrings<'_>) -> Result<Vec<Gln>, RegisterFault>
     ensures ok { IfOk result (λ glns. (glns.items ≡ spec.glns (rows_from document.now))
         × (list_all is_gln (spec.glns (rows_from document.now)) ≡ true)) }
     ensures err { IfErr result (λ fault. fault ≢ RegisterFault.Memory →
@@ -101,7 +101,7 @@ fn company_prefixes(alloc: Global, texts: &[&str]) -> Result<CompanyPrefixes, Re
 /// Returns the prefixes of each supplier.
 pub(crate) fn prefixes(
     alloc: Global,
-    entries: &[Entry<'_>],
+    entries: &[SupplierStrings<'_>],
 ) -> Result<Vec<CompanyPrefixes>, RegisterFault>
     ensures ok { IfOk result (λ prefixes.
         (prefixes.items ≡ map (λ row. by_bytes row.prefixes) (map row_in entries.now))
@@ -157,7 +157,7 @@ fn put_supplier(
 /// Returns the rows of the suppliers by their GLNs, after checking each one's key.
 pub(crate) fn suppliers(
     alloc: Global,
-    entries: &[Entry<'_>],
+    entries: &[SupplierStrings<'_>],
     glns: &[Gln],
     prefixes: &[CompanyPrefixes],
 ) -> Result<BTreeMap<Gln, SupplierRow>, RegisterFault>

@@ -12,7 +12,7 @@ use toml::{Table, Value};
 
 /// The strings of a supplier's table.
 #[derive(Drop)]
-pub(crate) struct Entry<'a> {
+pub(crate) struct SupplierStrings<'a> {
     pub(crate) gln: &'a str,
     pub(crate) prefixes: Vec<&'a str>,
     pub(crate) key: &'a str,
@@ -20,11 +20,11 @@ pub(crate) struct Entry<'a> {
 
 /// The strings of a register text.
 #[derive(Drop)]
-pub(crate) struct Document<'a> {
+pub(crate) struct RegisterStrings<'a> {
     pub(crate) hub: &'a str,
     pub(crate) retailer: &'a str,
     pub(crate) retailer_key: &'a str,
-    pub(crate) suppliers: Vec<Entry<'a>>,
+    pub(crate) suppliers: Vec<SupplierStrings<'a>>,
 }
 
 // Returns the value at a key of a table.
@@ -113,7 +113,7 @@ fn prefixes_in<'a>(alloc: Global, table: &'a Table) -> Result<Vec<&'a str>, Regi
 }
 
 // Reads a supplier's table.
-fn entry_in<'a>(alloc: Global, table: &'a Table) -> Result<Entry<'a>, RegisterFault>
+fn entry_in<'a>(alloc: Global, table: &'a Table) -> Result<SupplierStrings<'a>, RegisterFault>
     ensures ok { IfOk result (λ entry. spec.supplier_in (table_view table.now) ≡ Some (row_in entry)) }
     ensures err { IfErr result (λ fault. fault ≢ RegisterFault.Memory →
         (fault ≡ RegisterFault.Text) × (spec.supplier_in (table_view table.now) ≡ None)) }
@@ -121,14 +121,14 @@ fn entry_in<'a>(alloc: Global, table: &'a Table) -> Result<Entry<'a>, RegisterFa
     let gln = string_at(table, "gln").ok_or(RegisterFault::Text)?;
     let key = string_at(table, "key").ok_or(RegisterFault::Text)?;
     let prefixes = prefixes_in(alloc, table)?;
-    Ok(Entry { gln, prefixes, key })
+    Ok(SupplierStrings { gln, prefixes, key })
 }
 
 // Appends the strings of a supplier's table.
 fn put_entry<'a>(
     alloc: Global,
     value: &'a Value,
-    entries: &mut Vec<Entry<'a>>,
+    entries: &mut Vec<SupplierStrings<'a>>,
 ) -> Result<(), RegisterFault>
     ensures ok { OnOk result (option_map (λ row. map row_in entries.old.items ++ row ∷ [])
         (spec.supplier_from (view value.now)) ≡ Some (map row_in entries.new.items)) }
@@ -144,7 +144,10 @@ fn put_entry<'a>(
 }
 
 // Reads the suppliers' tables.
-fn entries_in<'a>(alloc: Global, values: &'a [Value]) -> Result<Vec<Entry<'a>>, RegisterFault>
+fn entries_in<'a>(
+    alloc: Global,
+    values: &'a [Value],
+) -> Result<Vec<SupplierStrings<'a>>, RegisterFault>
     ensures ok { IfOk result (λ entries.
         spec.suppliers_in (items_view values.now) ≡ Some (map row_in entries.items)) }
     ensures err { IfErr result (λ fault. fault ≢ RegisterFault.Memory →
@@ -158,7 +161,10 @@ fn entries_in<'a>(alloc: Global, values: &'a [Value]) -> Result<Vec<Entry<'a>>, 
 }
 
 // Reads all suppliers' tables; there are none if there is no key `supplier`.
-fn suppliers_in<'a>(alloc: Global, table: &'a Table) -> Result<Vec<Entry<'a>>, RegisterFault>
+fn suppliers_in<'a>(
+    alloc: Global,
+    table: &'a Table,
+) -> Result<Vec<SupplierStrings<'a>>, RegisterFault>
     ensures ok { IfOk result (λ entries.
         spec.suppliers_at (codes "supplier") (table_view table.now) ≡ Some (map row_in entries.items)) }
     ensures err { IfErr result (λ fault. fault ≢ RegisterFault.Memory →
@@ -173,9 +179,12 @@ fn suppliers_in<'a>(alloc: Global, table: &'a Table) -> Result<Vec<Entry<'a>>, R
     entries_in(alloc, values.as_slice())
 }
 
-impl<'a> Document<'a> {
+impl<'a> RegisterStrings<'a> {
     /// Reads the table of a text.
-    pub(crate) fn read(alloc: Global, table: &'a Table) -> Result<Document<'a>, RegisterFault>
+    pub(crate) fn read(
+        alloc: Global,
+        table: &'a Table,
+    ) -> Result<RegisterStrings<'a>, RegisterFault>
         ensures ok { IfOk result (λ document.
             spec.rows_in (table_view table.now) ≡ Some (rows_from document)) }
         ensures err { IfErr result (λ fault. fault ≢ RegisterFault.Memory →
@@ -186,7 +195,7 @@ impl<'a> Document<'a> {
         let retailer = string_at(party, "gln").ok_or(RegisterFault::Text)?;
         let retailer_key = string_at(party, "key").ok_or(RegisterFault::Text)?;
         let suppliers = suppliers_in(alloc, table)?;
-        Ok(Document {
+        Ok(RegisterStrings {
             hub,
             retailer,
             retailer_key,

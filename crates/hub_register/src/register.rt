@@ -20,7 +20,7 @@ ghost use Rattle.hub_register.specs.Register.{register_of, register_of_rows, Reg
 
 use crate::caller::Caller;
 use crate::columns;
-use crate::document::Document;
+use crate::document::RegisterStrings;
 use crate::fault::RegisterFault;
 use crate::rows::{MOST_SUPPLIERS, by_gln, keep_all};
 use edi_base::MemoryFault;
@@ -54,7 +54,7 @@ impl Model for Register {
 }
 
 // Makes the register of these parties, for which all facts of a register hold.
-fn assembled(
+fn register_of_parties(
     hub: Gln,
     retailer: Gln,
     retailer_key: Key,
@@ -90,11 +90,11 @@ fn held(
     let _retailer = retailer.digits();
     let _key = retailer_key.bytes();
     let suppliers = by_gln(alloc, suppliers)?;
-    Ok(assembled(hub, retailer, retailer_key, suppliers))
+    Ok(register_of_parties(hub, retailer, retailer_key, suppliers))
 }
 
 // Returns all GLNs of a document, the hub's and the retailer's first, if it does not have too many suppliers.
-fn glns_of(alloc: Global, document: &Document<'_>) -> Result<Vec<Gln>, RegisterFault>
+fn glns_of(alloc: Global, document: &RegisterStrings<'_>) -> Result<Vec<Gln>, RegisterFault>
     ensures few { IfOk result (λ glns.
         nat_lt most_suppliers (length (rows_from document.now).suppliers) ≡ false) }
     ensures ok { IfOk result (λ glns. (glns.items ≡ spec.glns (rows_from document.now))
@@ -122,7 +122,10 @@ fn overlap_in(suppliers: &[CompanyPrefixes]) -> Option<RegisterFault>
 }
 
 // Makes the register of a document.
-fn register_of_document(alloc: Global, document: &Document<'_>) -> Result<Register, RegisterFault>
+fn register_of_document(
+    alloc: Global,
+    document: &RegisterStrings<'_>,
+) -> Result<Register, RegisterFault>
     ensures ok { IfOk result (λ register. register_of_rows (Some (rows_from document.now)) ≡ Ok register) }
     ensures err { IfErr result (λ fault.
         fault ≢ RegisterFault.Memory → register_of_rows (Some (rows_from document.now)) ≡ Err fault) }
@@ -140,7 +143,7 @@ fn register_of_document(alloc: Global, document: &Document<'_>) -> Result<Regist
     if let Some(fault) = overlap_in(prefixes) {
         return Err(fault);
     }
-    Ok(assembled(glns[0], glns[1], retailer_key, suppliers))
+    Ok(register_of_parties(glns[0], glns[1], retailer_key, suppliers))
 }
 
 // Reads a text as a TOML table.
@@ -189,7 +192,7 @@ impl Register {
         ensures register { IfOk result IsRegister }
     {
         let table = table_of(alloc, text)?;
-        let document = Document::read(alloc, &table)?;
+        let document = RegisterStrings::read(alloc, &table)?;
         register_of_document(alloc, &document)
     }
 

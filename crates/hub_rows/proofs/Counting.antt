@@ -21,7 +21,7 @@ use Rattle.sql_rows.proofs.Answers.{same_bytes, is_truth, length_map}
 use Rattle.sqlite_value.specs.declared.keys.Key.{Key}
 use Rattle.sqlite_value.specs.Order.{Row}
 use Rattle.sqlite_sql.specs.Term.{Term}
-use Rattle.hub_rows.proofs.Finding.{no_limit, passes, Finds}
+use Rattle.hub_rows.proofs.Finding.{no_limit, passes, FindsRows}
 use Rattle.hub_tables.specs.Rows.{same}
 use Rattle.hub_schema.specs.Cells.{bytes_in, natural, number_in}
 
@@ -86,7 +86,7 @@ all_take p (suc n) (x ∷ xs) all =
 
 -- the query has rows exactly if some stored row passes
 pub some_found : (stored : List Row) (tests shown : List Term) (order : List (Term × Key)) (params : Row) (rows : List Row)
-    → Finds stored tests shown order no_limit params rows
+    → FindsRows stored tests shown order no_limit params rows
     → not (length rows == 0) ≡ list_any (passes tests params) stored
 some_found stored tests shown order params rows it =
     ap (λ n. not (n == 0)) (ap length it.is ∙ length_map _ it.sources ∙ length_permutation _ it.sources it.same)

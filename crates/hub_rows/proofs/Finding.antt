@@ -69,7 +69,7 @@ abbrev pub passes : List Term → Row → Row → Bool
 passes tests params row = list_all (holds (params ∷ row ∷ [])) tests
 
 -- the stored rows that pass, in an order that the query allows, and the columns that it shows
-pub record Finds (stored : List Row) (tests shown : List Term) (order : List (Term × Key)) (limit : Term) (params : Row)
+pub record FindsRows (stored : List Row) (tests shown : List Term) (order : List (Term × Key)) (limit : Term) (params : Row)
     (rows : List Row) : Type 0 where
   pub sources : List Row
   pub same : IsPermutation (filter (passes tests params) stored) sources
@@ -78,7 +78,7 @@ pub record Finds (stored : List Row) (tests shown : List Term) (order : List (Te
 
 pub finds : (db : Trees) (tree : ℕ) (tests shown : List Term) (order : List (Term × Key)) (limit : Term) (params : Row) (rows : List Row)
     → overlay db [] tree ≡ db tree → IsAnswer (some_of tree tests shown order limit) (overlay db []) params rows
-    → Finds (db tree) tests shown order limit params rows
+    → FindsRows (db tree) tests shown order limit params rows
 finds db tree tests shown order limit params rows plain a =
     let env : Row → Env = λ r. params ∷ r ∷ [] in
     let found = filter (passes tests params) (db tree) in

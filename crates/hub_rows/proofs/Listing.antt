@@ -18,7 +18,7 @@ use Rattle.hub_parties.specs.KeyOrder.{Rises}
 use Rattle.hub_tables.proofs.Lists.{all_filter}
 use Rattle.hub_schema.specs.Rows.{in_key_order}
 use Rattle.hub_schema.proofs.InKeyOrder.{listed_filter}
-use Rattle.hub_rows.proofs.Finding.{passes, no_limit, Finds}
+use Rattle.hub_rows.proofs.Finding.{passes, no_limit, FindsRows}
 use Rattle.hub_rows.proofs.Counting.{all_such}
 use Rattle.hub_rows.proofs.Sorting.{listed_moved, rises_filter, sorted_rising, sorted_map, sorted_alike}
 
@@ -127,7 +127,7 @@ filter_both p q (x ∷ xs) = elim (p x) as (λ v. filter q (cond v (x ∷ filter
 module _ {X : Type 0} {cmp : X → X → Ordering} (total : IsTotalOrder cmp) (f shown : Row → X) (columns : List Term)
     (order : List (Term × Key)) (stored : List Row) (tests : List Term) (params : Row) (rows : List Row)
     (says : (row : Row) → shown (eval_all columns (params ∷ row ∷ [])) ≡ f row)
-    (found : Finds stored tests columns order no_limit params rows) where
+    (found : FindsRows stored tests columns order no_limit params rows) where
   told : map shown rows ≡ map f found.sources
   told = ap (map shown) found.is ∙ shown_say f shown columns params found.sources says
 

@@ -6,7 +6,7 @@ ghost use Rattle.sqlite.specs.Values.{bound};
 ghost use Rattle.hub_schema.specs.State.{Never};
 ghost use Rattle.hub_rows.specs.Asks.{Asks};
 
-use crate::shown::{Shown, all_shown, first_shown};
+use crate::shown::{ShownRow, all_shown, first_shown};
 use edi_base::Items;
 use hub_schema::fault_by;
 use hub_store::StoreFault;
@@ -46,7 +46,7 @@ pub fn has_row<S: Alter>(
 }
 
 /// Returns the rows of an answer; `Unclean` if one does not have the form of its kind.
-pub fn rows_of<S: Alter, T: Shown>(
+pub fn rows_of<S: Alter, T: ShownRow>(
     conn: &mut Connection<S>,
     alloc: Global,
     text: &str,
@@ -62,7 +62,7 @@ pub fn rows_of<S: Alter, T: Shown>(
 }
 
 /// Returns the first row of an answer, if there is one; `Unclean` if it does not have the form of its kind.
-pub fn first_of<S: Alter, T: Shown>(
+pub fn first_of<S: Alter, T: ShownRow>(
     conn: &mut Connection<S>,
     text: &str,
     params: &[ValueRef<'_>],

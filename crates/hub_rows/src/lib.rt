@@ -6,5 +6,5 @@ mod shown;
 mod values;
 
 pub use ask::{first_of, has_row, query, rows_of};
-pub use shown::Shown;
+pub use shown::ShownRow;
 pub use values::{blob_at, gln_at, number_at, sscc_at};

@@ -23,7 +23,7 @@ use sqlite::Row;
 use std::alloc::Global;
 
 /// A row of one kind, as a query shows it.
-pub trait Shown: Drop {
+pub trait ShownRow: Drop {
     /// The row that the cells stand for.
     ghost shown: { Values → Self };
 
@@ -41,7 +41,7 @@ pub trait Shown: Drop {
 // The greatest line number, and the greatest place on a pallet.
 const LAST_LINE: u64 = 999_999;
 
-impl Shown for HubRow {
+impl ShownRow for HubRow {
     ghost shown = { shown_hub };
 
     ghost clean = { clean_hub };
@@ -55,7 +55,7 @@ impl Shown for HubRow {
     }
 }
 
-impl Shown for KeyRow {
+impl ShownRow for KeyRow {
     ghost shown = { shown_key };
 
     ghost clean = { clean_key };
@@ -68,7 +68,7 @@ impl Shown for KeyRow {
     }
 }
 
-impl Shown for PrefixRow {
+impl ShownRow for PrefixRow {
     ghost shown = { shown_prefix };
 
     ghost clean = { clean_prefix };
@@ -81,7 +81,7 @@ impl Shown for PrefixRow {
     }
 }
 
-impl Shown for OrderRow {
+impl ShownRow for OrderRow {
     ghost shown = { shown_order };
 
     ghost clean = { clean_order };
@@ -94,7 +94,7 @@ impl Shown for OrderRow {
     }
 }
 
-impl Shown for AdviceRow {
+impl ShownRow for AdviceRow {
     ghost shown = { shown_advice };
 
     ghost clean = { clean_advice };
@@ -107,7 +107,7 @@ impl Shown for AdviceRow {
     }
 }
 
-impl Shown for LineRow {
+impl ShownRow for LineRow {
     ghost shown = { shown_line };
 
     ghost clean = { clean_line };
@@ -137,7 +137,7 @@ impl Shown for LineRow {
     }
 }
 
-impl Shown for PalletRow {
+impl ShownRow for PalletRow {
     ghost shown = { shown_pallet };
 
     ghost clean = { clean_pallet };
@@ -157,7 +157,7 @@ impl Shown for PalletRow {
     }
 }
 
-impl Shown for ContentRow {
+impl ShownRow for ContentRow {
     ghost shown = { shown_content };
 
     ghost clean = { clean_content };
@@ -179,7 +179,7 @@ impl Shown for ContentRow {
     }
 }
 
-impl Shown for ReceiptRow {
+impl ShownRow for ReceiptRow {
     ghost shown = { shown_receipt };
 
     ghost clean = { clean_receipt };
@@ -201,7 +201,7 @@ impl Shown for ReceiptRow {
     }
 }
 
-impl Shown for RememberedRow {
+impl ShownRow for RememberedRow {
     ghost shown = { shown_remembered };
 
     ghost clean = { clean_remembered };
@@ -223,7 +223,7 @@ impl Shown for RememberedRow {
     }
 }
 
-impl Shown for MailRow {
+impl ShownRow for MailRow {
     ghost shown = { shown_mail };
 
     ghost clean = { clean_mail };
@@ -251,7 +251,7 @@ impl Shown for MailRow {
     }
 }
 
-impl Shown for MailHead {
+impl ShownRow for MailHead {
     ghost shown = { shown_head };
 
     ghost clean = { clean_head };
@@ -269,7 +269,7 @@ impl Shown for MailHead {
     }
 }
 
-impl Shown for Items<u8> {
+impl ShownRow for Items<u8> {
     ghost use Rattle.hub_store.specs.Clean.{are_bytes};
     ghost use Rattle.hub_rows.specs.Shown.{shown_bytes};
 
@@ -282,7 +282,7 @@ impl Shown for Items<u8> {
     }
 }
 
-impl Shown for u64 {
+impl ShownRow for u64 {
     ghost use Rattle.edi_envelope.specs.Mail.{last_number};
     ghost use Rattle.hub_store.specs.Clean.{is_within};
     ghost use Rattle.hub_rows.specs.Shown.{shown_number};
@@ -298,7 +298,7 @@ impl Shown for u64 {
 
 /// Reads the rows; `Unclean` if one does not have the form of its kind.
 #[tactic(auto, using(crate::proofs::Counting::one_more))]
-pub(crate) fn all_shown<T: Shown>(alloc: Global, rows: &[Row]) -> Result<Items<T>, StoreFault>
+pub(crate) fn all_shown<T: ShownRow>(alloc: Global, rows: &[Row]) -> Result<Items<T>, StoreFault>
     ensures ok { IfOk result (λ items. items ≡ map T.shown rows.now) }
     ensures clean { IfOk result (λ items. IsTrue (list_all T.clean items)) }
     ensures unclean { result ≡ Err StoreFault.Unclean → list_all T.clean (map T.shown rows.now) ≡ false }
@@ -315,7 +315,7 @@ pub(crate) fn all_shown<T: Shown>(alloc: Global, rows: &[Row]) -> Result<Items<T
 }
 
 /// Reads the first row, if there is one; `Unclean` if it does not have the form of its kind.
-pub(crate) fn first_shown<T: Shown>(rows: &[Row]) -> Result<Option<T>, StoreFault>
+pub(crate) fn first_shown<T: ShownRow>(rows: &[Row]) -> Result<Option<T>, StoreFault>
     ensures ok { IfOk result (λ first. first ≡ slice_get (map T.shown rows.now) 0) }
     ensures clean { IfOk result (λ first. IfSome first (λ x. IsTrue (T.clean x))) }
     ensures unclean { result ≡ Err StoreFault.Unclean → list_all T.clean (map T.shown rows.now) ≡ false }

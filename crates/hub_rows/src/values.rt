@@ -24,7 +24,7 @@ use sqlite::types::ValueRef;
 use sqlite::{Error, ErrorCode, Row};
 
 // Returns the fault of a cell that was not read: out of memory, or a row without the form of its kind.
-fn unread(error: &Error) -> StoreFault
+fn cell_fault(error: &Error) -> StoreFault
     ensures unclean { result ≡ StoreFault.Unclean → error.now ≢ Error.SqliteFailure ErrorCode.OutOfMemory }
     ensures which { (result ≡ StoreFault.Memory) ⊎ (result ≡ StoreFault.Unclean) }
 {
@@ -63,7 +63,7 @@ pub(crate) fn bytes_at(row: &Row, at: usize) -> Result<Items<u8>, StoreFault>
 {
     match row.get::<Vec<u8>>(at) {
         Ok(bytes) => Ok(items_of(bytes)),
-        Err(error) => Err(unread(&error)),
+        Err(error) => Err(cell_fault(&error)),
     }
 }
 
@@ -75,7 +75,7 @@ pub fn number_at(row: &Row, at: usize) -> Result<u64, StoreFault>
 {
     match row.get::<u64>(at) {
         Ok(number) => Ok(number),
-        Err(error) => Err(unread(&error)),
+        Err(error) => Err(cell_fault(&error)),
     }
 }
 

@@ -23,35 +23,35 @@ use Rattle.hub_rules.specs.declared.verdict.Verdict.{Verdict}
 use Rattle.hub_rules.specs.declared.verdict.Verdict.TheVariants.{Accept, Refuse}
 
 -- judges that agree on every state
-abbrev pub Alike : Judge → Judge → Type 0
-Alike judge other = (state : Tables) → judge state ≡ other state
+abbrev pub JudgesAgree : Judge → Judge → Type 0
+JudgesAgree judge other = (state : Tables) → judge state ≡ other state
 
 goes_on_alike : (first : Verdict) (second other : Judge)
-    → Alike second other
+    → JudgesAgree second other
     → (state : Tables)
     → goes_on first second state ≡ goes_on first other state
 goes_on_alike (Refuse code) second other agree state = refl
 goes_on_alike (Accept changes) second other agree state = ap (joined changes) (agree (apply_all changes state))
 
 in_turn_alike : (first other_first second other : Judge)
-    → Alike first other_first
-    → Alike second other
-    → Alike (in_turn first second) (in_turn other_first other)
+    → JudgesAgree first other_first
+    → JudgesAgree second other
+    → JudgesAgree (in_turn first second) (in_turn other_first other)
 in_turn_alike first other_first second other first_agree agree state =
     ap (λ v. goes_on v second state) (first_agree state) ∙ goes_on_alike (other_first state) second other agree state
 
 in_order_alike : {X : Type 0} (judge other : X → Judge)
-    → ((x : X) → Alike (judge x) (other x))
+    → ((x : X) → JudgesAgree (judge x) (other x))
     → (xs : List X)
-    → Alike (in_order judge xs) (in_order other xs)
+    → JudgesAgree (in_order judge xs) (in_order other xs)
 in_order_alike judge other agree [] state = refl
 in_order_alike judge other agree (x ∷ xs) state =
     in_turn_alike (judge x) (other x) (in_order judge xs) (in_order other xs) (agree x) (in_order_alike judge other agree xs)
     state
 
 once_alike : (r : Reference) (content : List ℕ) (fresh other : Judge)
-    → Alike fresh other
-    → Alike (judge_once r content fresh) (judge_once r content other)
+    → JudgesAgree fresh other
+    → JudgesAgree (judge_once r content fresh) (judge_once r content other)
 once_alike r content fresh other agree state =
     ap (once (remembered_of state r.side r.control r.message) content)
     (goes_on_alike (Accept (Remember (remembered r content) ∷ [])) fresh other agree state)
@@ -59,22 +59,22 @@ once_alike r content fresh other agree state =
 module _ (s : SupplierRow) where
   message_alike : (retailer : List ℕ) (side : Side) (incoming : IncomingMessage) (buyer : Option (List ℕ)) (named : List ℕ)
       (rest other : SupplierRow → Judge)
-      → Alike (rest s) (other s)
-      → Alike (judge_message retailer (Some s) side incoming buyer named rest)
+      → JudgesAgree (rest s) (other s)
+      → JudgesAgree (judge_message retailer (Some s) side incoming buyer named rest)
       (judge_message retailer (Some s) side incoming buyer named other)
   message_alike retailer side incoming buyer named rest other agree state =
       ap (λ v. refuse_if (is_other_buyer retailer buyer) codes.Buyer (refuse_if (not (same named s.gln)) codes.Supplier v))
       (once_alike (referred_by s side incoming) incoming.content (rest s) (other s) agree state)
 
   module _ (used other : List ℕ → Bool) (agree : (sscc : List ℕ) → under_some sscc s.prefixes ≡ true → used sscc ≡ other sscc) where
-    unit_alike : (advice : List ℕ) (unit : PalletUnit) → Alike (judge_unit s used advice unit) (judge_unit s other advice unit)
+    unit_alike : (advice : List ℕ) (unit : PalletUnit) → JudgesAgree (judge_unit s used advice unit) (judge_unit s other advice unit)
     unit_alike advice unit state =
         elim (decide (under_some unit.sscc s.prefixes)) [
           | inl e ↦ rw (agree unit.sscc e) refl
           | inr e ↦ rw e refl
         ]
 
-    new_despatch_alike : (despatch : Despatch) → Alike (judge_new_despatch s used despatch) (judge_new_despatch s other despatch)
+    new_despatch_alike : (despatch : Despatch) → JudgesAgree (judge_new_despatch s used despatch) (judge_new_despatch s other despatch)
     new_despatch_alike despatch state =
         ap (refuse_if (knows_advice state despatch.number) codes.AdviceKnown)
         (goes_on_alike (Accept (AddAdvice (record { supplier = s.gln; number = despatch.number }) ∷ []))
@@ -84,7 +84,7 @@ module _ (s : SupplierRow) where
         (unit_alike despatch.number) despatch.units) state)
 
     pub despatch_alike : (retailer : List ℕ) (incoming : IncomingMessage) (despatch : Despatch)
-        → Alike (judge_despatch retailer (Some s) used incoming despatch)
+        → JudgesAgree (judge_despatch retailer (Some s) used incoming despatch)
         (judge_despatch retailer (Some s) other incoming despatch)
     despatch_alike retailer incoming despatch =
         message_alike retailer sides.Supplier incoming despatch.buyer despatch.supplier

@@ -40,14 +40,14 @@ BelongAll s state (change ∷ changes) = Belongs s state change × BelongAll s (
 
 -- The supplier sees its changes applied to what it saw, no one else sees them, the register is the same, and the tables
 -- still keep suppliers apart.
-pub record Follows (suppliers : List SupplierRow) (s : SupplierRow) (t after : Tables) (changes : List Change) : Type 0 where
+pub record ChangesFollow (suppliers : List SupplierRow) (s : SupplierRow) (t after : Tables) (changes : List Change) : Type 0 where
   pub seen : view s.gln after ≡ apply_all changes (view s.gln t)
   pub unseen : (other : List ℕ) → other ≢ s.gln → view other after ≡ view other t
   pub parties : PartiesStay t after
   pub rooted : Rooted suppliers after
 
 -- the changes belong to the supplier, and keep its rows its own and sound
-pub record Keeps (s : SupplierRow) (state : Tables) (changes : List Change) : Type 0 where
+pub record KeepsSupplier (s : SupplierRow) (state : Tables) (changes : List Change) : Type 0 where
   pub belong : BelongAll s state changes
   pub own : IsOwn s.gln (apply_all changes state)
   pub kept : Kept (apply_all changes state)

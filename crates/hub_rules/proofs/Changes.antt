@@ -25,7 +25,7 @@ use Rattle.hub_tables.proofs.KindOrders.{order_total, line_total, advice_total, 
 use Rattle.hub_tables.proofs.KindOrders.{remembered_total, mail_total, line_key, mail_key, ordered_after}
 use Rattle.hub_rules.specs.Laws.{PartiesStay}
 use Rattle.hub_rules.specs.Sound.{IsRooted, Rooted}
-use Rattle.hub_rules.proofs.Belonging.{Belongs, BelongAll, Follows}
+use Rattle.hub_rules.proofs.Belonging.{Belongs, BelongAll, ChangesFollow}
 use Rattle.hub_rules.proofs.OnPallets.{OnPallet, contents_after, receipts_after}
 use Rattle.hub_rules.proofs.Prefixes.{ours, under_held, holds_seen, holds_all, holds_none}
 
@@ -273,7 +273,7 @@ module _ (suppliers : List SupplierRow) (free : PrefixFree (company_prefixes sup
   pub follows : (cs : List Change) (t : Tables)
       → Rooted suppliers t
       → BelongAll s (view s.gln t) cs
-      → Follows suppliers s t (apply_all cs t) cs
+      → ChangesFollow suppliers s t (apply_all cs t) cs
   follows [] t rooted belong = record {
     seen = refl;
     unseen = λ other ne. refl;

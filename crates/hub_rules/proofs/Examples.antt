@@ -15,8 +15,8 @@ use Rattle.hub_tables.specs.Cases.{answer_letter, arrival_number}
 use Rattle.hub_tables.specs.Change.{apply_all}
 use Rattle.hub_tables.specs.State.{knows_order}
 use Rattle.hub_tables.specs.Tables.{Tables, empty}
-use Rattle.hub_tables.specs.declared.cases.Answered.{Answered}
-use Rattle.hub_tables.specs.declared.cases.Answered.TheVariants.{Waiting, Accepted, NotAccepted, Changed}
+use Rattle.hub_tables.specs.declared.cases.LineState.{LineState}
+use Rattle.hub_tables.specs.declared.cases.LineState.TheVariants.{Waiting, Accepted, NotAccepted, Changed}
 use Rattle.hub_tables.specs.declared.cases.Arrival.TheVariants.{Announced, Received}
 use Rattle.hub_tables.specs.declared.change.Change.TheVariants.{AddOrder, AddLine, SetLine, AddAdvice, AddPallet, SetPallet}
 use Rattle.hub_tables.specs.declared.change.Change.TheVariants.{AddContent, AddReceipt, ClearReceipts, Remember, AddMail}
@@ -65,7 +65,7 @@ abbrev theirs : List ℕ
 theirs = codes "387123450000000012"
 
 -- a line of the order, with its open, refused and cancelled quantities and its answer
-abbrev line : ℕ → ℕ → ℕ → ℕ → ℕ → Answered → LineRow
+abbrev line : ℕ → ℕ → ℕ → ℕ → ℕ → LineState → LineRow
 line n ordered open_qty refused cancelled answer = record {
   supplier = gln;
   number = number;

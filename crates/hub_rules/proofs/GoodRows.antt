@@ -12,7 +12,7 @@ use Rattle.hub_tables.specs.declared.rows.LineRow.{LineRow}
 use Rattle.hub_tables.proofs.Lists.{all_filter, all_found, all_only}
 use Rattle.hub_rules.specs.Laws.{KeptOwn}
 use Rattle.hub_rules.specs.Sound.{Balanced, IsOwn, Kept}
-use Rattle.hub_rules.proofs.Belonging.{Belongs, Keeps}
+use Rattle.hub_rules.proofs.Belonging.{Belongs, KeepsSupplier}
 use Rattle.hub_rules.proofs.Keeping.{kept_set_line}
 use Rattle.hub_rules.proofs.Owned.{own_after}
 use Rattle.hub_rules.proofs.Verdicts.{Leaves, leaves_nothing, leaves_next}
@@ -34,7 +34,8 @@ leaves_good s state change belongs own kept =
     leaves_next s (KeptOwn s) state change [] belongs
     (leaves_nothing s (KeptOwn s) (apply change state) (good_after s state change belongs own kept))
 
-pub keeps_from : (s : SupplierRow) (state : Tables) (changes : List Change) → Leaves s (KeptOwn s) state changes → Keeps s state changes
+pub keeps_from : (s : SupplierRow) (state : Tables) (changes : List Change) → Leaves s (KeptOwn s) state changes
+    → KeepsSupplier s state changes
 keeps_from s state changes left = record { belong = left.belong; own = left.after.own; kept = left.after.kept }
 
 -- the line that a rule finds is one of the lines

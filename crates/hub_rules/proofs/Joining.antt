@@ -29,7 +29,7 @@ use Rattle.hub_tables.specs.declared.rows.KeyRow.{KeyRow}
 use Rattle.hub_tables.proofs.Enrolling.{Enrolled, with_row, row_added, row_seen, row_unseen, row_stays, suppliers_after}
 use Rattle.hub_tables.proofs.Enrolling.{enrolled_after, map_put}
 use Rattle.hub_tables.proofs.Founding.{OnlyParties, prefixes_rising, holds_register, nothing_else, founded_rises}
-use Rattle.hub_tables.proofs.Freedom.{Apart, free_from, free_to, free_put}
+use Rattle.hub_tables.proofs.Freedom.{PrefixesApart, free_from, free_to, free_put}
 use Rattle.hub_tables.proofs.KeyOrder.{any_put}
 use Rattle.hub_tables.proofs.KindOrders.{ordered_after_all}
 use Rattle.hub_tables.proofs.Lists.{same_if, all_weaker}
@@ -88,7 +88,7 @@ module _ (cmp : List ℕ → List ℕ → Ordering) (new : List ℕ) where
 -- The register with one more supplier.
 module _ (hub retailer key : List ℕ) (suppliers : List SupplierRow) (row : SupplierRow)
     (before : IsRegister (rows_by hub retailer key suppliers)) (may : is_join row ≡ true)
-    (unknown : is_known (rows_by hub retailer key suppliers) row.gln ≡ false) (apart : AllByRecursion (Apart row) suppliers)
+    (unknown : is_known (rows_by hub retailer key suppliers) row.gln ≡ false) (apart : AllByRecursion (PrefixesApart row) suppliers)
     (room : is_full (rows_by hub retailer key suppliers) ≡ false) where
   abbrev gln_of : SupplierRow → List ℕ
   gln_of s = s.gln
@@ -208,7 +208,7 @@ module _ (row : SupplierRow) (t : Tables) (here : SoundHub t) (may : is_join row
       same_changes : ◌≡◌ {A = Verdict} (Accept (row_changes row)) (Accept changes) → row_changes row ≡ changes
       same_changes e = cc
 
-  apart_each : (s : SupplierRow) → Has (suppliers_of t) s → Apart row s
+  apart_each : (s : SupplierRow) → Has (suppliers_of t) s → PrefixesApart row s
   apart_each s there p q mine theirs =
       none_of (overlap p) s.prefixes (none_of (λ p. list_any (overlap p) s.prefixes) row.prefixes
       (none_of (λ (other : SupplierRow). overlap_some row.prefixes other.prefixes) (suppliers_of t) rules.1 s there) p mine) q theirs
@@ -242,7 +242,7 @@ module _ (row : SupplierRow) (t : Tables) (here : SoundHub t) (may : is_join row
     right = subst IsRegister (sym (by_hub (suppliers_of after) ∙ ap (rows_by hub_row.hub hub_row.retailer hub_row.key) one_more))
         (register_after hub_row.hub hub_row.retailer hub_row.key (suppliers_of t) row
         (subst IsRegister (by_hub (suppliers_of t)) holds.right) may rules.0
-        (all_if (Apart row) (suppliers_of t) apart_each) rules.2);
+        (all_if (PrefixesApart row) (suppliers_of t) apart_each) rules.2);
   }
 
   abbrev ordered : Ordered t

@@ -12,7 +12,7 @@ use Rattle.hub_tables.specs.Change.{apply}
 use Rattle.hub_tables.specs.Rows.{same, order_cmp, line_cmp}
 use Rattle.hub_tables.specs.State.{knows_order, names, despatched}
 use Rattle.hub_tables.specs.Tables.{Tables}
-use Rattle.hub_tables.specs.declared.cases.Answered.TheVariants.{Waiting}
+use Rattle.hub_tables.specs.declared.cases.LineState.TheVariants.{Waiting}
 use Rattle.hub_tables.specs.declared.cases.MailKind.TheVariants as kinds
 use Rattle.hub_tables.specs.declared.cases.Side.TheVariants as sides
 use Rattle.hub_tables.specs.declared.change.Change.{Change}

@@ -12,7 +12,7 @@ use Rattle.hub_rules.specs.OrderRules.{judge_new_order}
 use Rattle.hub_rules.specs.ReceiptRules.{judge_new_receipt}
 use Rattle.hub_rules.specs.ResponseRules.{judge_new_response}
 use Rattle.hub_rules.specs.Rules.{cancelled_by}
-use Rattle.hub_rules.specs.Submissions.{Submission, Of, Cancels, Beside, HasLinesApart, IsRead, IsAdmitted, judge}
+use Rattle.hub_rules.specs.Submissions.{Submission, Of, Cancels, Beside, HasLinesApart, SubmitsLinesApart, IsAdmitted, judge}
 use Rattle.hub_rules.specs.Submissions.{judge_document, reference_of, content_of}
 use Rattle.hub_rules.proofs.KeptByCancels.{leads_cancel}
 use Rattle.hub_rules.proofs.KeptByDespatches.{leads_despatch}
@@ -32,7 +32,7 @@ module _ (s : SupplierRow) where
   leads_document b (Receipt receipt) apart = leads_receipt s b.retailer b.incoming b.body receipt
 
   pub leads : (submission : Submission)
-      → IsRead submission
+      → SubmitsLinesApart submission
       → Leads s (KeptOwn s) (KeptOwn s) (judge (Some s) submission)
   leads (Of b document) read = leads_document b document read
   leads (Cancels content cancel) read = leads_cancel s content cancel

@@ -10,7 +10,7 @@ use Rattle.hub_tables.specs.declared.change.Change.{Change}
 use Rattle.hub_tables.proofs.Lists.{decide, same_is, same_if}
 use Rattle.hub_rules.specs.Laws.{KeptOwn, KeepsApart}
 use Rattle.hub_rules.specs.Sound.{Kept, Sound}
-use Rattle.hub_rules.proofs.Belonging.{Keeps}
+use Rattle.hub_rules.proofs.Belonging.{KeepsSupplier}
 use Rattle.hub_rules.proofs.Changes.{follows}
 use Rattle.hub_rules.proofs.GoodRows.{keeps_from}
 use Rattle.hub_rules.proofs.Verdicts.{Leaves}
@@ -22,7 +22,7 @@ good_view suppliers s t sound = record { own = view_own s.gln t (sound.rooted).o
 
 module _ (suppliers : List SupplierRow) (free : PrefixFree (company_prefixes suppliers)) (s : SupplierRow)
     (known : supplier_row suppliers s.gln ≡ Some s) (t : Tables) (sound : Sound suppliers t) where
-  pub after_changes : (changes : List Change) → Keeps s (view s.gln t) changes → KeepsApart suppliers s t changes
+  pub after_changes : (changes : List Change) → KeepsSupplier s (view s.gln t) changes → KeepsApart suppliers s t changes
   after_changes changes keeps =
       let all = follows suppliers free s known changes t sound.rooted keeps.belong in
       record {

@@ -4,7 +4,7 @@ use Rattle.edi_documents.specs.EdiOrders.declared.order.Order.{Order}
 use Rattle.edi_documents.specs.EdiOrders.declared.order.OrderLine.{OrderLine}
 use Rattle.hub_tables.specs.Cases.{answer_letter}
 use Rattle.hub_tables.specs.State.{knows_order}
-use Rattle.hub_tables.specs.declared.cases.Answered.TheVariants.{Waiting}
+use Rattle.hub_tables.specs.declared.cases.LineState.TheVariants.{Waiting}
 use Rattle.hub_tables.specs.declared.cases.MailKind.TheVariants as kinds
 use Rattle.hub_tables.specs.declared.change.Change.{Change}
 use Rattle.hub_tables.specs.declared.change.Change.TheVariants.{AddOrder, AddLine}

@@ -10,7 +10,7 @@ use Rattle.hub_tables.specs.Cases.{answer_letter}
 use Rattle.hub_tables.specs.Rows.{same}
 use Rattle.hub_tables.specs.State.{knows_order, lines_of, line_of, despatched, waits}
 use Rattle.hub_tables.specs.Tables.{Tables}
-use Rattle.hub_tables.specs.declared.cases.Answered.TheVariants as answers
+use Rattle.hub_tables.specs.declared.cases.LineState.TheVariants as answers
 use Rattle.hub_tables.specs.declared.change.Change.TheVariants.{SetLine}
 use Rattle.hub_tables.specs.declared.rows.LineRow.{LineRow}
 use Rattle.hub_rules.specs.Judging.{Judge, refuse_if, given, in_order}

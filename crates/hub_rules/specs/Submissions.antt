@@ -43,9 +43,9 @@ abbrev pub HasLinesApart : Document → Type 0
 HasLinesApart (Order order) = has_number_twice (map (λ line. line.line) order.lines) ≡ false
 HasLinesApart document = ⊤
 
-abbrev pub IsRead : Submission → Type 0
-IsRead (Of b document) = HasLinesApart document
-IsRead (Cancels content cancel) = ⊤
+abbrev pub SubmitsLinesApart : Submission → Type 0
+SubmitsLinesApart (Of b document) = HasLinesApart document
+SubmitsLinesApart (Cancels content cancel) = ⊤
 
 -- the side that sends messages of this kind
 abbrev pub side_of : Document → Side

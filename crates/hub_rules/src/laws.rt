@@ -13,7 +13,7 @@ ghost use Rattle.hub_tables.specs.declared.change.Change.{Change};
 ghost use Rattle.hub_rules.specs.JoinRules.{is_join, judge_join};
 ghost use Rattle.hub_rules.specs.Laws.{KeptOwn, SoundHub, Registered, PartiesRise, KeepsApart, JoinedBy, Remembers};
 ghost use Rattle.hub_rules.specs.Sound.{Rooted, Sound};
-ghost use Rattle.hub_rules.specs.Submissions.{Submission, IsRead, IsAdmitted, judge, reference_of, content_of};
+ghost use Rattle.hub_rules.specs.Submissions.{Submission, SubmitsLinesApart, IsAdmitted, judge, reference_of, content_of};
 ghost use Rattle.hub_rules.specs.declared.verdict.Verdict.TheVariants.{Accept};
 
 /// An SSCC under a supplier's prefixes belongs to some pallet exactly if it belongs to a pallet of this supplier.
@@ -33,7 +33,7 @@ pub fn empty_tables_are_rooted()
 /// and the ordered quantity of each line is what is open, refused, cancelled and despatched together.
 pub fn rules_keep_rows()
     ensures { (s : SupplierRow) (state : Tables) (submission : Submission) (changes : List Change) →
-        KeptOwn s state → IsRead submission → judge (Some s) submission state ≡ Accept changes →
+        KeptOwn s state → SubmitsLinesApart submission → judge (Some s) submission state ≡ Accept changes →
         KeptOwn s (apply_all changes state) }
 {}
 
@@ -42,7 +42,7 @@ pub fn rules_keep_rows()
 pub fn rules_keep_suppliers_apart()
     ensures { (suppliers : List SupplierRow) (s : SupplierRow) (t : Tables) (submission : Submission)
         (changes : List Change) →
-        Registered suppliers s t → IsRead submission →
+        Registered suppliers s t → SubmitsLinesApart submission →
         judge (Some s) submission (view s.gln t) ≡ Accept changes →
         KeepsApart suppliers s t changes }
 {}
@@ -52,7 +52,7 @@ pub fn rules_keep_suppliers_apart()
 pub fn accepted_changes_fit()
     ensures { (suppliers : List SupplierRow) (s : SupplierRow) (t : Tables) (submission : Submission)
         (changes : List Change) →
-        Registered suppliers s t → PartiesRise t → IsRead submission →
+        Registered suppliers s t → PartiesRise t → SubmitsLinesApart submission →
         judge (Some s) submission (view s.gln t) ≡ Accept changes → Fit changes t }
 {}
 

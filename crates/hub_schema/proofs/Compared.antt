@@ -9,7 +9,7 @@ use Rattle.sqlite_schema.specs.declared.schema.Column.{Column}
 use Rattle.sqlite_schema.specs.declared.schema.Index.{Index}
 use Rattle.hub_schema.specs.Definitions.{all_indexes, columns_of, numbered, own_indexes}
 use Rattle.hub_schema.specs.declared.definitions.Definition.{Definition}
-use Rattle.hub_schema.specs.declared.definitions.Key.{Key}
+use Rattle.hub_schema.specs.declared.definitions.TableKey.{TableKey}
 
 pub none_numbered : (tables : List Table) (tree : ℕ) (definitions : List Definition) (b : Bool) → length tables < 1
     → b ≡ (length definitions == 0)
@@ -18,7 +18,7 @@ none_numbered [] tree [] b low is = (λ _. refl, λ _. is)
 none_numbered [] tree (d ∷ definitions) b low is = (λ so. absurd (grind (arith, nat_tests, so, is)), λ e. absurd cc)
 none_numbered (table ∷ tables) tree definitions b low is = absurd (omega (arith, low))
 
-pub none_own : (indexes : List Index) (table tree : ℕ) (columns : List Column) (keys : List Key) (b : Bool)
+pub none_own : (indexes : List Index) (table tree : ℕ) (columns : List Column) (keys : List TableKey) (b : Bool)
     → length indexes < 1 → b ≡ (length keys == 0)
     → (IsTrue b → indexes ≡ own_indexes table tree columns keys)
     × (indexes ≡ own_indexes table tree columns keys → IsTrue b)
@@ -26,7 +26,7 @@ none_own [] table tree columns [] b low is = (λ _. refl, λ _. is)
 none_own [] table tree columns (key ∷ keys) b low is = (λ so. absurd (grind (arith, nat_tests, so, is)), λ e. absurd cc)
 none_own (index ∷ indexes) table tree columns keys b low is = absurd (omega (arith, low))
 
-own_length : (table tree : ℕ) (columns : List Column) (keys : List Key)
+own_length : (table tree : ℕ) (columns : List Column) (keys : List TableKey)
     → length (own_indexes table tree columns keys) ≡ length keys
 own_length table tree columns [] = refl
 own_length table tree columns (key ∷ keys) = ap suc (own_length table (tree + 1) columns keys)

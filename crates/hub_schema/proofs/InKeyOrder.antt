@@ -20,9 +20,9 @@ abbrev pub put_all : {X : Type 0} → (X → X → Ordering) → List X → List
 put_all cmp xs there = fold (λ sorted row. put cmp row sorted) there xs
 
 -- no two have the same key
-abbrev pub Apart : {X : Type 0} → (X → X → Ordering) → List X → Type 0
-Apart cmp [] = ⊤
-Apart cmp (x ∷ xs) = AllByRecursion (λ y. is_eq (cmp x y) ≡ false) xs × Apart cmp xs
+abbrev pub KeysApart : {X : Type 0} → (X → X → Ordering) → List X → Type 0
+KeysApart cmp [] = ⊤
+KeysApart cmp (x ∷ xs) = AllByRecursion (λ y. is_eq (cmp x y) ≡ false) xs × KeysApart cmp xs
 
 module _ {X : Type 0} (cmp : X → X → Ordering) where
   all_more : (xs : List X) (x : X) (there : List X)
@@ -170,7 +170,7 @@ module _ {X : Type 0} {cmp : X → X → Ordering} (total : IsTotalOrder cmp) wh
   still_differ x [] there a d = tt
   still_differ x (z ∷ zs) there a d = (put_differs z x there a.0 d.0, still_differ x zs there a.1 d.1)
 
-  all_rises : (xs there : List X) → Apart cmp xs → Rises cmp there → Differ xs there → Rises cmp (put_all cmp xs there)
+  all_rises : (xs there : List X) → KeysApart cmp xs → Rises cmp there → Differ xs there → Rises cmp (put_all cmp xs there)
   all_rises [] there a b d = b
   all_rises (x ∷ xs) there a b d =
       all_rises xs (put cmp x there) a.1 (rises_put total x there b (none_equal x there d.0)) (still_differ x xs there
@@ -181,5 +181,5 @@ module _ {X : Type 0} {cmp : X → X → Ordering} (total : IsTotalOrder cmp) wh
   from_none (x ∷ xs) = (tt, from_none xs)
 
   -- rows rise if no two have the same key
-  pub listed_rises : (xs : List X) → Apart cmp xs → Rises cmp (in_key_order cmp xs)
+  pub listed_rises : (xs : List X) → KeysApart cmp xs → Rises cmp (in_key_order cmp xs)
   listed_rises xs apart = all_rises xs [] apart tt (from_none xs)

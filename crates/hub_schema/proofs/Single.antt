@@ -43,7 +43,7 @@ use Rattle.hub_schema.specs.State.{AreOrdered, HasTables, IsHub}
 use Rattle.hub_tables.proofs.Lists.{decide, same_is, same_if}
 use Rattle.sql_rows.proofs.Answers.{is_truth, same_bytes}
 use Rattle.hub_schema.specs.Cells.{bytes_in, number_in, natural}
-use Rattle.hub_schema.proofs.InKeyOrder.{Apart, listed_rises}
+use Rattle.hub_schema.proofs.InKeyOrder.{KeysApart, listed_rises}
 
 -- Cells that stand for the same value are the same.
 
@@ -159,7 +159,7 @@ module _ {X : Type 0} (cmp : X → X → Ordering) (f : Row → X) (places : Lis
   )
 
   pub all_apart : (rows : List Row) → IsTable rows → AllByRecursion IsWhole rows → AllByRecursion Typed rows
-      → Free rows rows → Apart cmp (map f rows)
+      → Free rows rows → KeysApart cmp (map f rows)
   all_apart [] up whole typed free = tt
   all_apart (x ∷ xs) up whole typed free = (
     apart_from x xs xs typed.0 whole.0 typed.1 whole.1 up.0 free.1,

@@ -12,7 +12,7 @@ use Rattle.sql_rows.specs.Tables.{strict_column, plain_table}
 use Rattle.hub_schema.specs.Making.{Defines, schema_with}
 use Rattle.hub_schema.specs.Schema.{next_to}
 use Rattle.hub_schema.specs.declared.definitions.Definition.{Definition}
-use Rattle.hub_schema.specs.declared.definitions.Key.{Key}
+use Rattle.hub_schema.specs.declared.definitions.TableKey.{TableKey}
 
 -- the columns with these names and kinds
 abbrev pub strict_columns : List (Bor (List ℕ) × Kind) → List Column
@@ -27,7 +27,7 @@ place_of [] name = 1
 place_of (column ∷ columns) name = if bytes_eq column.name name then 1 else suc (place_of columns name)
 
 -- the positions of a key's columns
-abbrev pub places_of : List Column → Key → List ℕ
+abbrev pub places_of : List Column → TableKey → List ℕ
 places_of columns key = map (λ name. place_of columns name.now) key.columns.now
 
 abbrev pub keys_of : Definition → List (List ℕ)
@@ -54,7 +54,7 @@ trees_of [] = 0
 trees_of (d ∷ definitions) = 1 + length d.keys.now + trees_of definitions
 
 -- the index of one key of a table
-abbrev pub index_of : ℕ → ℕ → List Column → Key → Index
+abbrev pub index_of : ℕ → ℕ → List Column → TableKey → Index
 index_of table tree columns key = record {
   name = key.index.now;
   tree = tree;
@@ -65,7 +65,7 @@ index_of table tree columns key = record {
 }
 
 -- the indexes of all keys of a table, numbered from `tree` on
-abbrev pub own_indexes : ℕ → ℕ → List Column → List Key → List Index
+abbrev pub own_indexes : ℕ → ℕ → List Column → List TableKey → List Index
 own_indexes table tree columns [] = []
 own_indexes table tree columns (key ∷ keys) =
     index_of table tree columns key ∷ own_indexes table (tree + 1) columns keys

@@ -6,7 +6,7 @@ ghost use Rattle.hub_schema.specs.Definitions.{strict_columns, place_of, places_
 ghost use Rattle.hub_schema.specs.Definitions.{index_of, own_indexes, all_indexes};
 ghost use Rattle.hub_schema.specs.Schema.{next_to, hub_schema, old_schema, no_schema};
 
-use crate::definitions::{Definition, Key, all, traffic};
+use crate::definitions::{Definition, TableKey, all, traffic};
 use sqlite_items::Items;
 use sqlite_schema::code::Terms;
 use sqlite_schema::schema::{Column, Index, Kind, Schema, Stamps, Table};
@@ -82,7 +82,7 @@ fn are_places(places: &[usize], names: &[&str], columns: &[(&str, Kind)]) -> boo
 }
 
 // Whether this is the key, in ascending order of its bytes.
-fn is_key(places: &Items<usize>, order: Order, key: &Key, columns: &[(&str, Kind)]) -> bool
+fn is_key(places: &Items<usize>, order: Order, key: &TableKey, columns: &[(&str, Kind)]) -> bool
     ensures { IsTrue result ↔
         ((places.now ≡ places_of (strict_columns columns.now) key.now) × (order ≡ plain)) }
 {
@@ -93,7 +93,7 @@ fn is_key(places: &Items<usize>, order: Order, key: &Key, columns: &[(&str, Kind
 fn are_keys(
     keys: &[Items<usize>],
     orders: &[Order],
-    expected: &[Key],
+    expected: &[TableKey],
     columns: &[(&str, Kind)],
 ) -> bool
     ensures { IsTrue result ↔
@@ -186,7 +186,13 @@ fn are_tables(tables: &[Table], definitions: &[Definition]) -> bool
 }
 
 // Whether the index is that of a key of a table, with the number after `before`.
-fn is_index(index: &Index, table: u32, before: u32, key: &Key, columns: &[(&str, Kind)]) -> bool
+fn is_index(
+    index: &Index,
+    table: u32,
+    before: u32,
+    key: &TableKey,
+    columns: &[(&str, Kind)],
+) -> bool
     ensures { IsTrue result ↔ (index.now ≡ index_of table (before + 1) (strict_columns columns.now) key.now) }
 {
     index.name.as_slice() == key.index.as_bytes()
@@ -202,7 +208,7 @@ fn are_own(
     indexes: &[Index],
     table: u32,
     before: u32,
-    keys: &[Key],
+    keys: &[TableKey],
     columns: &[(&str, Kind)],
 ) -> bool
     ensures { IsTrue result ↔ (indexes.now

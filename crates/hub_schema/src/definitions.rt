@@ -7,7 +7,7 @@ use sqlite_schema::schema::Kind;
 
 /// A key: the name of its index, and its columns.
 #[derive(Clone, Copy, Drop)]
-pub(crate) struct Key {
+pub(crate) struct TableKey {
     pub(crate) index: &'static str,
     pub(crate) columns: &'static [&'static str],
 }
@@ -18,7 +18,7 @@ pub(crate) struct Definition {
     pub(crate) name: &'static str,
     pub(crate) text: &'static str,
     pub(crate) columns: &'static [(&'static str, Kind)],
-    pub(crate) keys: &'static [Key],
+    pub(crate) keys: &'static [TableKey],
 }
 
 macro_rules! kind {
@@ -49,11 +49,11 @@ macro_rules! table {
             ),
             columns: &[($head, kind!($first)) $(, ($column, kind!($kind)))*],
             keys: &[
-                $(Key {
+                $(TableKey {
                     index: concat!("sqlite_autoindex_", $name, "_1"),
                     columns: &[$key $(, $part)*],
                 },)?
-                $(Key {
+                $(TableKey {
                     index: concat!("sqlite_autoindex_", $name, "_2"),
                     columns: &[$one $(, $other)*],
                 },)?

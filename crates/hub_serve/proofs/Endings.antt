@@ -17,7 +17,7 @@ use Rattle.hub_requests.specs.declared.reply.Reply.{Reply}
 use Rattle.hub_requests.specs.declared.request.Input.{Input}
 use Rattle.hub_http.specs.HubCore.Steps.{input_of}
 use Rattle.hub_parties.specs.Rows.{RegisterRows}
-use Rattle.hub_serve.specs.Connections.{Adds, Closed, IsNew, Known, TakesFirst}
+use Rattle.hub_serve.specs.Connections.{Adds, Closed, IsNew, KnownConnections, TakesFirst}
 use Rattle.hub_serve.specs.Line.{ending_of}
 use Rattle.hub_serve.specs.One.{DidAsked, ServesOne}
 use Rattle.hub_serve.specs.Serve.{Exchange, AskedAt, Connection, FailedSo, IsAsked, IsServed, IsTaken}
@@ -37,7 +37,7 @@ failed_so (Err Read) closed read write r w raised kept cut same = (raised refl, 
 failed_so (Err Write) closed read write r w raised kept cut same = (kept (λ e. cc) ∙ r, cut refl)
 
 -- a client that disconnected before its connection was taken
-pub gone : {Does : Input → Reply → Type 0} {Same : Type 0} {register : RegisterRows} {old new : Known}
+pub gone : {Does : Input → Reply → Type 0} {Same : Type 0} {register : RegisterRows} {old new : KnownConnections}
     → TakesFirst old.coming new.coming (None ∷ [])
     → new.closed ≡ old.closed
     → new.moments ≡ old.moments
@@ -57,17 +57,17 @@ gone {old = old} {new = new} clients closed moments same = record {
 
 module _ (Does : Input → Reply → Type 0) (Same : Type 0) (register : RegisterRows) (moment : ℕ) where
   -- a question was asked at this moment
-  abbrev pub Asks : Question → Reply → Type 0
-  Asks question reply = Does (input_of moment question.gln question.key question.request) reply
+  abbrev pub AsksAt : Question → Reply → Type 0
+  AsksAt question reply = Does (input_of moment question.gln question.key question.request) reply
 
   -- something was asked, or nothing was, if no more is known
-  asked_once : OneStep Asks Same → (asked : Option Exchange) × AskedAt moment asked × DidAsked Does Same asked
+  asked_once : OneStep AsksAt Same → (asked : Option Exchange) × AskedAt moment asked × DidAsked Does Same asked
   asked_once (inl same) = (None, tt, same)
   asked_once (inr step) = (Some (record { moment = moment; question = step.0; reply = step.1 }), refl, step.2)
 
   -- what was asked, from the question of the bytes
   by_question : (bytes : List ℕ) (left : Option (List ℕ)) (answer : _) (question : _) (asks : asked.AsksQuestion register bytes question)
-      → http.AnswersQuestion Asks Same (passes asks.head) question answer
+      → http.AnswersQuestion AsksAt Same (passes asks.head) question answer
       → TakesAtMost (Some bytes) left (longest_head + announced_by register asks.head)
       → (asked : Option Exchange) × AskedAt moment asked × AnswersBytes (IsAsked asked) (asked ≡ None) register bytes left answer
       × DidAsked Does Same asked
@@ -86,8 +86,8 @@ module _ (Does : Input → Reply → Type 0) (Same : Type 0) (register : Registe
 
   -- what was asked in a connection with this result
   asked_so : (bytes left was is : Option (List ℕ)) (served : Result Served IoFault)
-      → Ended Asks Same register bytes left was is served
-      → OneStep Asks Same
+      → Ended AsksAt Same register bytes left was is served
+      → OneStep AsksAt Same
       → (asked : Option Exchange) × AskedAt moment asked
       × Ended (IsAsked asked) (asked ≡ None) register bytes left was is served
       × DidAsked Does Same asked
@@ -118,7 +118,7 @@ module _ (Does : Input → Reply → Type 0) (Same : Type 0) (register : Registe
   is_served bytes asked closed (Err Write) taken = taken
 
 -- a connection that was taken
-pub taken : {Does : Input → Reply → Type 0} {Same : Type 0} {register : RegisterRows} {old new : Known}
+pub taken : {Does : Input → Reply → Type 0} {Same : Type 0} {register : RegisterRows} {old new : KnownConnections}
     {was : Option (List ℕ)} {read write : Bool} (moment : ℕ) (bytes : Option (List ℕ)) (closed : Closed)
     (served : Result Served IoFault)
     → TakesFirst old.coming new.coming (bytes ∷ [])
@@ -127,9 +127,9 @@ pub taken : {Does : Input → Reply → Type 0} {Same : Type 0} {register : Regi
     → IsNew was read write
     → FailedSo served closed
     → closed.ending ≡ ending_of served
-    → Ended (Asks Does Same register moment) Same register bytes closed.left was closed.sent served
+    → Ended (AsksAt Does Same register moment) Same register bytes closed.left was closed.sent served
     → IfOk served (λ done. TellsEnd bytes closed.left done.read_to_end)
-    → OneStep (Asks Does Same register moment) Same
+    → OneStep (AsksAt Does Same register moment) Same
     → ServesOne Does Same register old new (ending_of served)
 taken {Does = Does} {Same = Same} {register = register} {was = was} moment bytes closed served clients moments adds begun failed told
     ended to_end step =

@@ -4,7 +4,7 @@ use Rattle.std.proofs.Common.{ap, ◌∙◌, append_assoc}
 use Rattle.std.proofs.lemmas.Grind.{flat_map-append}
 use Rattle.std.proofs.lemmas.List.{append-nil, map-append}
 use Rattle.hub_serve.proofs.Using.{adds_then, some_is}
-use Rattle.hub_serve.specs.Connections.{Adds, Closed, Known, TakesFirst}
+use Rattle.hub_serve.specs.Connections.{Adds, Closed, KnownConnections, TakesFirst}
 use Rattle.hub_serve.specs.Serve.{AreFirst, Connection, Passes, ends_in, listed, moments_in, sent_in}
 
 pub takes_none : {A : Type 0} (known rest : Option (List A)) → rest ≡ known → TakesFirst known rest []
@@ -47,7 +47,7 @@ pub adds_still : (old between new : Option (List Closed)) (xs : List Closed) →
 adds_still None between new xs adds e = tt
 adds_still (Some all) between new xs adds e = e ∙ adds
 
-pub passes_none : (known : Known) → Passes known known []
+pub passes_none : (known : KnownConnections) → Passes known known []
 passes_none known = record {
   clients = takes_none known.coming known.coming refl;
   moments = takes_none known.moments known.moments refl;
@@ -55,7 +55,7 @@ passes_none known = record {
 }
 
 -- one more connection
-pub passes_more : (old between new : Known) (served : List Connection) (one : Connection) → Passes old between served
+pub passes_more : (old between new : KnownConnections) (served : List Connection) (one : Connection) → Passes old between served
     → Passes between new (one ∷ [])
     → Passes old new (served ++ one ∷ [])
 passes_more old between new served one first second = record {

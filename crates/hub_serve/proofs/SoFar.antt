@@ -12,15 +12,15 @@ use Rattle.http_messages.specs.Response.{Writes}
 use Rattle.hub_requests.specs.declared.reply.Reply.{Reply}
 use Rattle.hub_requests.specs.declared.request.Input.{Input}
 use Rattle.hub_parties.specs.Rows.{RegisterRows}
-use Rattle.hub_serve.specs.Connections.{Coming, Known, TakesFirst}
+use Rattle.hub_serve.specs.Connections.{Coming, KnownConnections, TakesFirst}
 use Rattle.hub_serve.specs.Line.{ending_status, line_of}
 use Rattle.hub_serve.specs.Output.{WrittenWhole}
 use Rattle.hub_serve.specs.Serve.{Connection, IsServed, Passes, ServesConnections, StopsEarly, ends_in, greatest, inputs, lines_from}
 use Rattle.hub_serve.specs.Serve.{moments_in, replies, sent_in}
 use Rattle.hub_serve.proofs.Passing.{adds_still, are_first, passes_more, passes_none, takes_both, takes_still}
 
-pub record SoFar (Runs : List Input → List Reply → Type 0) (Stopped : List Connection → Type 0) (register : RegisterRows)
-    (known rest : Known) (old new : Option (List ℕ)) (failed after : Bool) (number status : ℕ) : Type 0 where
+pub record ServedSoFar (Runs : List Input → List Reply → Type 0) (Stopped : List Connection → Type 0) (register : RegisterRows)
+    (known rest : KnownConnections) (old new : Option (List ℕ)) (failed after : Bool) (number status : ℕ) : Type 0 where
   pub served : List Connection
   pub passed : Passes known rest served
   pub each : AllByRecursion (IsServed register) served
@@ -54,11 +54,12 @@ greatest_more status [] one = refl
 greatest_more status (first ∷ served) one = greatest_more (max status (ending_status first.ending)) served one
 
 -- no connection was served
-pub so_far_none : {Runs : List Input → List Reply → Type 0} {Stopped : List Connection → Type 0} {register : RegisterRows} {known : Known}
+pub so_far_none : {Runs : List Input → List Reply → Type 0} {Stopped : List Connection → Type 0} {register : RegisterRows}
+    {known : KnownConnections}
     {old : Option (List ℕ)} {failed : Bool}
     → Runs [] []
     → Stopped []
-    → SoFar Runs Stopped register known known old old failed failed 0 0
+    → ServedSoFar Runs Stopped register known known old old failed failed 0 0
 so_far_none {known = known} {old = old} ran at_once = record {
   served = [];
   passed = passes_none known;
@@ -101,11 +102,11 @@ stops_behind Over Unknown coming between rest sent first (inl over) =
 stops_behind Over Unknown coming between rest sent first (inr one) =
     inr (one.0, (one.1.0, takes_both coming between rest sent (one.1.0 ∷ []) first one.1.1))
 
-module _ {register : RegisterRows} {known : Known} {old : Option (List ℕ)} {failed : Bool}
-    {Runs : List Input → List Reply → Type 0} {Stopped : List Connection → Type 0} {rest : Known} {number status : ℕ} where
+module _ {register : RegisterRows} {known : KnownConnections} {old : Option (List ℕ)} {failed : Bool}
+    {Runs : List Input → List Reply → Type 0} {Stopped : List Connection → Type 0} {rest : KnownConnections} {number status : ℕ} where
   -- all connections were served
   pub whole : {Going Over Unknown : Type 0} {Broke : List Connection → Type 0} {count : ℕ} {new : Option (List ℕ)} {after : Bool}
-      → SoFar Runs Stopped register known rest old new failed after number status
+      → ServedSoFar Runs Stopped register known rest old new failed after number status
       → Going
       → number ≡ count
       → ServesConnections Runs Stopped register known rest Going Over Unknown Broke count old new failed after status
@@ -129,8 +130,8 @@ module _ {register : RegisterRows} {known : Known} {old : Option (List ℕ)} {fa
 
   -- no more can be served
   pub cut_short : {Going Over Unknown : Type 0} {Broke : List Connection → Type 0} {count : ℕ} {new : Option (List ℕ)} {after : Bool}
-      {After : List Input → List Reply → Type 0} {Later : List Connection → Type 0} {later : Known}
-      (s : SoFar Runs Stopped register known rest old new failed after number status)
+      {After : List Input → List Reply → Type 0} {Later : List Connection → Type 0} {later : KnownConnections}
+      (s : ServedSoFar Runs Stopped register known rest old new failed after number status)
       → later.closed ≡ rest.closed
       → later.moments ≡ rest.moments
       → StopsEarly Over Unknown rest.coming later.coming []
@@ -158,7 +159,7 @@ module _ {register : RegisterRows} {known : Known} {old : Option (List ℕ)} {fa
 
   -- what was printed, up to the line of one more connection
   written_more : {E : Type 0} {between new : Option (List ℕ)} {middle after : Bool} {next : ℕ}
-      (s : SoFar Runs Stopped register known rest old between failed middle number status) (one : Connection)
+      (s : ServedSoFar Runs Stopped register known rest old between failed middle number status) (one : Connection)
       → next ≡ number + 1
       → (line : Result (Unit {0}) E)
       → Writes line between new (line_of next one.ending)
@@ -177,9 +178,9 @@ module _ {register : RegisterRows} {known : Known} {old : Option (List ℕ)} {fa
       }
 
   -- one more connection, with what was printed of its line
-  module _ {E : Type 0} {After : List Input → List Reply → Type 0} {Later : List Connection → Type 0} {later : Known}
+  module _ {E : Type 0} {After : List Input → List Reply → Type 0} {Later : List Connection → Type 0} {later : KnownConnections}
       {between new : Option (List ℕ)}
-      {middle after : Bool} {next : ℕ} (s : SoFar Runs Stopped register known rest old between failed middle number status)
+      {middle after : Bool} {next : ℕ} (s : ServedSoFar Runs Stopped register known rest old between failed middle number status)
       (one : Connection) (passes : Passes rest later (one ∷ [])) (is : IsServed register one)
       (ran : After (inputs (s.served ++ one ∷ [])) (replies (s.served ++ one ∷ [])))
       (at_once : Later (s.served ++ one ∷ [])) (next_is : next ≡ number + 1)
@@ -187,7 +188,7 @@ module _ {register : RegisterRows} {known : Known} {old : Option (List ℕ)} {fa
     pub so_far_more : is_err line ≡ false
         → {greater : ℕ} (given : ℕ) → greater ≡ max status given
         → given ≡ ending_status one.ending
-        → SoFar After Later register known later old new failed after next greater
+        → ServedSoFar After Later register known later old new failed after next greater
     so_far_more whole given greater_is given_is = record {
       served = s.served ++ one ∷ [];
       passed = passes_more known rest later s.served one s.passed passes;

@@ -57,10 +57,10 @@ abbrev pub Adds : {A : Type 0} → Option (List A) → Option (List A) → List 
 Adds {A} old new last = IfSome old (λ all. new ≡ Some (all ++ last))
 
 -- what is known of connections: which still come, how those that ended did, and the moments of those to come
-pub record Known : Type 0 where
+pub record KnownConnections : Type 0 where
   pub coming : Coming
   pub closed : Option (List Closed)
   pub moments : Option (List ℕ)
 
-abbrev pub known : Coming → Option (List Closed) → Option (List ℕ) → Known
+abbrev pub known : Coming → Option (List Closed) → Option (List ℕ) → KnownConnections
 known coming closed moments = record { coming = coming; closed = closed; moments = moments }

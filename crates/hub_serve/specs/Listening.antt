@@ -14,11 +14,11 @@ use Rattle.hub_serve.specs.declared.line.Ending.{Ending}
 use Rattle.hub_serve.specs.declared.line.Ending.TheVariants.{Answered}
 
 -- one side of a connection: its socket, its time, and whether a read or a write has failed
-abbrev pub Side : Type 0 → Type 0
-Side T = (T × Time) × Bool
+abbrev pub ConnectionSide : Type 0 → Type 0
+ConnectionSide T = (T × Time) × Bool
 
 -- Each side may last this many nanoseconds: the reader's time has begun, the writer's has not, and nothing has failed.
-pub record AtBegin {T : Type 0} (nanos : ℕ) (reader writer : Side T) : Type 0 where
+pub record AtBegin {T : Type 0} (nanos : ℕ) (reader writer : ConnectionSide T) : Type 0 where
   pub reader_lasts : as_nanos reader.0.1.1 ≡ nanos
   pub writer_lasts : as_nanos writer.0.1.1 ≡ nanos
   pub reader_runs : HasBegun reader.0.1
@@ -27,7 +27,7 @@ pub record AtBegin {T : Type 0} (nanos : ℕ) (reader writer : Side T) : Type 0 
   pub write : writer.1 ≡ false
 
 -- the time of a side began when its clock said so, and nothing else was done with its socket
-pub record BeginsNow {T : Type 0} (uses : T → Uses) (side : Side T) : Type 0 where
+pub record BeginsNow {T : Type 0} (uses : T → Uses) (side : ConnectionSide T) : Type 0 where
   pub begun : Instant
   pub begun_is : side.0.1.0 ≡ Some begun
   pub asked : IfSome (uses side.0.0) (λ all. all ≡ told (instant_nanos begun) ∷ [])

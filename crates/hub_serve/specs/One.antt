@@ -3,7 +3,7 @@ use Rattle.std.specs.Prelude.{◌≡◌, [], ◌∷◌, Option, Some, None, Resu
 use Rattle.hub_requests.specs.declared.reply.Reply.{Reply}
 use Rattle.hub_requests.specs.declared.request.Input.{Input}
 use Rattle.hub_parties.specs.Rows.{RegisterRows}
-use Rattle.hub_serve.specs.Connections.{Known}
+use Rattle.hub_serve.specs.Connections.{KnownConnections}
 use Rattle.hub_serve.specs.Serve.{Exchange, Connection, IsServed, Passes, input_in}
 use Rattle.hub_serve.specs.declared.line.Ending.{Ending}
 
@@ -13,7 +13,7 @@ DidAsked Does Same None = Same
 DidAsked Does Same (Some asked) = Does (input_in asked) asked.reply
 
 -- a connection was served and has ended
-pub record ServesOne (Does : Input → Reply → Type 0) (Same : Type 0) (register : RegisterRows) (old new : Known)
+pub record ServesOne (Does : Input → Reply → Type 0) (Same : Type 0) (register : RegisterRows) (old new : KnownConnections)
     (ending : Ending) : Type 0 where
   pub one : Connection
   pub ends : one.ending ≡ ending
@@ -22,7 +22,7 @@ pub record ServesOne (Does : Input → Reply → Type 0) (Same : Type 0) (regist
   pub did : DidAsked Does Same one.asked
 
 -- the next connection was served; if there is none, nothing was done, none has ended, and the moments still come
-abbrev pub ServesNext : {E : Type 0} → (Input → Reply → Type 0) → Type 0 → RegisterRows → Known → Known
+abbrev pub ServesNext : {E : Type 0} → (Input → Reply → Type 0) → Type 0 → RegisterRows → KnownConnections → KnownConnections
     → Result Ending E → Type 0
 ServesNext Does Same register old new (Ok ending) = ServesOne Does Same register old new ending
 ServesNext Does Same register old new (Err none) =

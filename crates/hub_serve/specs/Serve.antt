@@ -12,7 +12,7 @@ use Rattle.hub_http.specs.declared.serve.Served.{Served}
 use Rattle.hub_requests.specs.declared.reply.Reply.{Reply}
 use Rattle.hub_requests.specs.declared.request.Input.{Input}
 use Rattle.hub_parties.specs.Rows.{RegisterRows}
-use Rattle.hub_serve.specs.Connections.{Adds, Closed, Coming, Known, TakesFirst}
+use Rattle.hub_serve.specs.Connections.{Adds, Closed, Coming, KnownConnections, TakesFirst}
 use Rattle.hub_serve.specs.Line.{ending_of, ending_status, line_of}
 use Rattle.hub_serve.specs.Output.{WrittenWhole, WrittenInPart}
 use Rattle.hub_serve.specs.declared.line.Ending.{Ending}
@@ -130,7 +130,7 @@ abbrev pub AreFirst : {A : Type 0} → Option (List A) → List A → Type 0
 AreFirst {A} known first = IfSome known (λ all. (rest : List A) × (all ≡ first ++ rest))
 
 -- these connections arrived first, at the moments that came first, and have ended
-pub record Passes (old new : Known) (served : List Connection) : Type 0 where
+pub record Passes (old new : KnownConnections) (served : List Connection) : Type 0 where
   pub clients : TakesFirst old.coming new.coming (sent_in served)
   pub moments : TakesFirst old.moments new.moments (moments_in served)
   pub closed : Adds old.closed new.closed (ends_in served)
@@ -143,7 +143,7 @@ StopsEarly Over Unknown coming rest sent =
     ⊎ (Unknown × ((bytes : Option (List ℕ)) × TakesFirst coming rest (sent ++ bytes ∷ [])))
 
 -- as many connections were served as there were to be, and those after them still come
-pub record AllServed (known rest : Known) (Going : Type 0) (count : ℕ) (old new : Option (List ℕ)) (failed after : Bool)
+pub record AllServed (known rest : KnownConnections) (Going : Type 0) (count : ℕ) (old new : Option (List ℕ)) (failed after : Bool)
     (served : List Connection) (status : ℕ) : Type 0 where
   pub passed : Passes known rest served
   pub going : Going
@@ -152,7 +152,7 @@ pub record AllServed (known rest : Known) (Going : Type 0) (count : ℕ) (old ne
   pub status_is : status ≡ greatest served
 
 -- fewer were served, for a reason; all moments but theirs still come
-pub record CutShort (known rest : Known) (Over Unknown : Type 0) (count : ℕ) (old new : Option (List ℕ))
+pub record CutShort (known rest : KnownConnections) (Over Unknown : Type 0) (count : ℕ) (old new : Option (List ℕ))
     (failed after : Bool) (served : List Connection) (status : ℕ) : Type 0 where
   pub stopped : StopsEarly Over Unknown known.coming rest.coming (sent_in served)
   pub moments : TakesFirst known.moments rest.moments (moments_in served)
@@ -161,7 +161,7 @@ pub record CutShort (known rest : Known) (Over Unknown : Type 0) (count : ℕ) (
   pub status_is : status ≡ 3
 
 -- the line of the last connection could not be written; those after it still come
-pub record LineLost (known rest : Known) (Going : Type 0) (count : ℕ) (old new : Option (List ℕ)) (after : Bool)
+pub record LineLost (known rest : KnownConnections) (Going : Type 0) (count : ℕ) (old new : Option (List ℕ)) (after : Bool)
     (served : List Connection) (status : ℕ) : Type 0 where
   pub passed : Passes known rest served
   pub going : Going
@@ -174,7 +174,7 @@ pub record LineLost (known rest : Known) (Going : Type 0) (count : ℕ) (old new
 
 -- Serving was to end with the connection at which the store failed for good, and this is the last one; those after it
 -- still come.
-pub record GaveUp (known rest : Known) (Going Broke : Type 0) (count : ℕ) (old new : Option (List ℕ)) (failed after : Bool)
+pub record GaveUp (known rest : KnownConnections) (Going Broke : Type 0) (count : ℕ) (old new : Option (List ℕ)) (failed after : Bool)
     (served : List Connection) (status : ℕ) : Type 0 where
   pub passed : Passes known rest served
   pub going : Going
@@ -186,7 +186,7 @@ pub record GaveUp (known rest : Known) (Going Broke : Type 0) (count : ℕ) (old
 -- Connections were served in their order: the first of those that come, at the moments that come, and these have ended.
 -- What was asked of the hub in them, with the replies, is a run of it. If serving was to stop, it stopped at once.
 pub record ServesConnections (Runs : List Input → List Reply → Type 0) (Stopped : List Connection → Type 0) (register : RegisterRows)
-    (known rest : Known) (Going Over Unknown : Type 0) (Broke : List Connection → Type 0) (count : ℕ) (old new : Option (List ℕ))
+    (known rest : KnownConnections) (Going Over Unknown : Type 0) (Broke : List Connection → Type 0) (count : ℕ) (old new : Option (List ℕ))
     (failed after : Bool) (status : ℕ) : Type 0 where
   pub served : List Connection
   pub first : AreFirst known.coming (sent_in served)

@@ -4,7 +4,7 @@ use Rattle.hub_parties.specs.Rows.{RegisterRows}
 use Rattle.hub_store.specs.declared.store.Store.{Ghosts}
 use Rattle.hub_http.specs.HubCore.Hub.{RunsFrom}
 use Rattle.hub_serve.specs.Broken.{BrokeAtLast, StopsAtOnce, StopsBroken}
-use Rattle.hub_serve.specs.Connections.{Known, known}
+use Rattle.hub_serve.specs.Connections.{KnownConnections, known}
 use Rattle.hub_serve.specs.Serve.{ServesConnections}
 use Rattle.hub_serve.specs.declared.connections.Connections.{Ghosts as ConnectionsOf}
 use Rattle.hub_serve.specs.declared.connections.Moments.{Ghosts as MomentsOf}
@@ -12,7 +12,7 @@ use Rattle.hub_serve.specs.declared.serve.OnBroken.{OnBroken}
 
 module _ {L Reader Writer M : Type 0} (l : ConnectionsOf L Reader Writer) (m : MomentsOf M) where
   -- what is known of connections and of their moments
-  abbrev pub known_of : L × M → Known
+  abbrev pub known_of : L × M → KnownConnections
   known_of coming = known (l.coming coming.0) (l.closed coming.0) (m.coming coming.1)
 
   -- meanwhile neither the connections nor the moments have failed

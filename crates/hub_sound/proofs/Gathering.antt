@@ -17,7 +17,7 @@ use Rattle.hub_tables.specs.declared.rows.PalletRow.{PalletRow}
 use Rattle.hub_tables.proofs.KeyOrder.{rises_filter}
 use Rattle.hub_tables.proofs.Lists.{decide, same_is, same_if, all_passes, filter_alike, all_always}
 use Rattle.hub_tables.proofs.Members.{all_of, all_if, none_if, has_filter}
-use Rattle.hub_sound.specs.Finding.{Key}
+use Rattle.hub_sound.specs.Finding.{RowKey}
 use Rattle.hub_sound.specs.Goods.{gathered, goods_in, TellsSettled, TellsOfSupplier, ShowsUnsettled}
 use Rattle.hub_sound.specs.Showing.{IsSettled, ShowsUnsound, has_line, is_balanced}
 use Rattle.hub_sound.specs.declared.finding.Finding.{Finding}
@@ -205,7 +205,7 @@ module _ (gln : List ℕ) (t : Tables) (rising : Rising t) where
     lines = sym (all_alike (is_balanced (goods_in gln t)) (is_balanced (view gln t)) balanced_alike (view gln t).lines) ∙ it.lines;
   }
 
-  shows : (kind : RowKind) (key : Key) → ShowsUnsettled (goods_in gln t) kind key → ShowsUnsound t kind key
+  shows : (kind : RowKind) (key : RowKey) → ShowsUnsettled (goods_in gln t) kind key → ShowsUnsound t kind key
   shows Content key it =
       let c = it.0 in
       let from = is_gathered t (view gln t).pallets c it.1 in

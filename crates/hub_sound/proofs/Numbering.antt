@@ -16,8 +16,8 @@ use Rattle.hub_tables.proofs.Members.{all_of, all_if}
 use Rattle.hub_rules.specs.Sound.{Numbered}
 
 -- the first, or the one before it is among these
-abbrev pub Goes : List MailRow → MailRow → Type 0
-Goes all entry =
+abbrev pub HasNumberBefore : List MailRow → MailRow → Type 0
+HasNumberBefore all entry =
     (entry.number ≡ 1) ⊎ ((before : MailRow) × Has all before × (before.number ≡ entry.number - 1))
 
 below : (a b : ℕ) → nat_cmp a b ≡ Less → a < b
@@ -35,7 +35,7 @@ numbered_from : (all : List MailRow) (n : ℕ) (ms : List MailRow)
     → AllByRecursion (λ e. (e.number ≤ n) ⊎ Has ms e) all
     → AllByRecursion (λ e. n < e.number) ms
     → Rises (λ a b. nat_cmp a.number b.number) ms
-    → AllByRecursion (Goes all) ms
+    → AllByRecursion (HasNumberBefore all) ms
     → Numbered n ms
 numbered_from all n [] cover low rises goes = tt
 numbered_from all n (m ∷ ms) cover low rises goes = (
@@ -69,7 +69,7 @@ numbered_from all n (m ∷ ms) cover low rises goes = (
 pub numbered_if : (ms : List MailRow)
     → AllByRecursion (λ e. 0 < e.number) ms
     → Rises (λ a b. nat_cmp a.number b.number) ms
-    → AllByRecursion (Goes ms) ms
+    → AllByRecursion (HasNumberBefore ms) ms
     → Numbered 0 ms
 numbered_if ms low rises goes =
     numbered_from ms 0 ms (all_if (λ e. (e.number ≤ 0) ⊎ Has ms e) ms (λ e there. inr there)) low rises goes

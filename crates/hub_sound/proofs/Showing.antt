@@ -33,19 +33,19 @@ use Rattle.hub_tables.specs.declared.rows.MailRow.{MailRow}
 use Rattle.hub_tables.proofs.KeyOrder.{rises_filter, in_order_rising}
 use Rattle.hub_tables.proofs.Lists.{decide, same_is, same_if, all_weaker, all_filter, all_passes, filter_none}
 use Rattle.hub_tables.proofs.Members.{all_of, all_if, none_if, one_of, any_if, has_filter}
-use Rattle.hub_sound.specs.Finding.{Key}
-use Rattle.hub_sound.specs.Showing.{Checked, IsSettled, ShowsUnclean, ShowsUnsound, has_order, is_balanced, has_line, is_on_pallet}
+use Rattle.hub_sound.specs.Finding.{RowKey}
+use Rattle.hub_sound.specs.Showing.{PassesChecks, IsSettled, ShowsUnclean, ShowsUnsound, has_order, is_balanced, has_line, is_on_pallet}
 use Rattle.hub_sound.specs.Showing.{is_of_received, goes_on}
 use Rattle.hub_sound.specs.declared.finding.RowKind.{RowKind}
 use Rattle.hub_sound.specs.declared.finding.RowKind.TheVariants.{Hub, Supplier, Prefix, Order, Line, Advice, Pallet}
 use Rattle.hub_sound.specs.declared.finding.RowKind.TheVariants.{Content, Receipt, Remembered, Mail}
 use Rattle.hub_sound.proofs.Deciding.{all_true, true_all, all_then, not_all, all_but, from_filter, picked, all_both, then_tied}
 use Rattle.hub_sound.proofs.Deciding.{text_tied, number_tied, single_rising, one_member}
-use Rattle.hub_sound.proofs.Numbering.{Goes, numbered_if, by_numbers, found_number, numbered_goes}
+use Rattle.hub_sound.proofs.Numbering.{HasNumberBefore, numbered_if, by_numbers, found_number, numbered_goes}
 
 -- A row that shows that tables are not clean.
 
-pub unclean_shows : (t : Tables) (kind : RowKind) (key : Key) → ShowsUnclean t kind key → are_clean t ≡ false
+pub unclean_shows : (t : Tables) (kind : RowKind) (key : RowKey) → ShowsUnclean t kind key → are_clean t ≡ false
 unclean_shows t Hub key it = let h = not_all clean_hub t.hubs it.0 it.1 it.2 in simp (h, and-false)
 unclean_shows t Supplier key it = let h = not_all clean_key t.keys it.0 it.1 it.2 in simp (h, and-false)
 unclean_shows t Prefix key it = let h = not_all clean_prefix t.prefixes it.0 it.1 it.2 in simp (h, and-false)
@@ -121,7 +121,7 @@ module _ (t : Tables) (clean : are_clean t ≡ true) (hub : SoundHub t) where
       any_true true = refl
       any_true false = refl
 
-  pub shows_none : (kind : RowKind) (key : Key) → ShowsUnsound t kind key → ⊥
+  pub shows_none : (kind : RowKind) (key : RowKey) → ShowsUnsound t kind key → ⊥
   shows_none Hub key it = it.0 hub.register
   shows_none Pallet key it = absurd (let holds = rooted_fits it.0 it.1 in let fails = it.2 in cc)
   shows_none Line key (inl it) = absurd (let holds = ordered_line it.0 it.1 in let fails = it.2 in cc)
@@ -174,8 +174,8 @@ module _ (t : Tables) (rising : Rising t) where
       any_if is_received (filter (λ p. same p.supplier gln) t.pallets) its.0
       (has_filter (λ p. same p.supplier gln) t.pallets its.0 its.1 of_its.0) (ap is_received one ∙ other.2)
 
-  module _ (clean : are_clean t ≡ true) (glns : List (List ℕ)) (checked : Checked t glns) where
-    goes : (entry : MailRow) → goes_on t entry ≡ true → Goes (view entry.supplier t).mail entry
+  module _ (clean : are_clean t ≡ true) (glns : List (List ℕ)) (checked : PassesChecks t glns) where
+    goes : (entry : MailRow) → goes_on t entry ≡ true → HasNumberBefore (view entry.supplier t).mail entry
     goes entry h = elim (decide (entry.number == 1)) [
       | inl e ↦ inl (let is : entry.number ≡ 1 = grind (arith, nat_tests) in is)
       | inr e ↦ inr (found_number (entry.number - 1) (view entry.supplier t).mail
@@ -277,10 +277,10 @@ module _ (t : Tables) (rising : Rising t) where
           (all_then clean_mail (λ e. 0 < e.number) counted t.mail (clean_parts t clean).mail))
           (by_numbers gln (view gln t).mail (picked gln (λ e. e.supplier) t.mail)
           (rises_filter mail_cmp (λ e. same e.supplier gln) t.mail rising.mail))
-          (all_both (λ e. e.supplier ≡ gln) (λ e. Goes (view e.supplier t).mail e) (Goes (view gln t).mail)
-          (λ e whose it. subst (λ g. Goes (view g t).mail e) whose it) (view gln t).mail (picked gln (λ e. e.supplier) t.mail)
-          (all_filter (λ e. Goes (view e.supplier t).mail e) (λ e. same e.supplier gln) t.mail
-          (all_then (goes_on t) (λ e. Goes (view e.supplier t).mail e) goes t.mail checked.mail)));
+          (all_both (λ e. e.supplier ≡ gln) (λ e. HasNumberBefore (view e.supplier t).mail e) (HasNumberBefore (view gln t).mail)
+          (λ e whose it. subst (λ g. HasNumberBefore (view g t).mail e) whose it) (view gln t).mail (picked gln (λ e. e.supplier) t.mail)
+          (all_filter (λ e. HasNumberBefore (view e.supplier t).mail e) (λ e. same e.supplier gln) t.mail
+          (all_then (goes_on t) (λ e. HasNumberBefore (view e.supplier t).mail e) goes t.mail checked.mail)));
       line_orders =
           all_both (λ l. l.supplier ≡ gln) (λ l. has_order t l ≡ true) (λ l. knows_order (view gln t) l.number ≡ true)
           (λ l whose it. subst (λ g. knows_order (view g t) l.number ≡ true) whose it) (view gln t).lines

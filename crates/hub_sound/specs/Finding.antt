@@ -15,8 +15,8 @@ use Rattle.hub_tables.specs.declared.rows.MailRow.{MailRow}
 use Rattle.hub_sound.specs.declared.finding.KeyCell.{KeyCell}
 use Rattle.hub_sound.specs.declared.finding.KeyCell.TheVariants.{Bytes, Number, Other}
 
-abbrev pub Key : Type 0
-Key = List KeyCell
+abbrev pub RowKey : Type 0
+RowKey = List KeyCell
 
 -- a text, or what no text is
 abbrev pub bytes_cell : List ℕ → KeyCell
@@ -26,36 +26,36 @@ bytes_cell bytes = if are_bytes bytes then Bytes bytes else Other
 abbrev pub number_cell : ℕ → KeyCell
 number_cell n = if nat_lt n (2 ^ 64) then Number n else Other
 
-abbrev pub hub_key : HubRow → Key
+abbrev pub hub_key : HubRow → RowKey
 hub_key row = bytes_cell row.hub ∷ []
 
-abbrev pub supplier_key : KeyRow → Key
+abbrev pub supplier_key : KeyRow → RowKey
 supplier_key row = bytes_cell row.supplier ∷ []
 
-abbrev pub prefix_key : PrefixRow → Key
+abbrev pub prefix_key : PrefixRow → RowKey
 prefix_key row = bytes_cell row.prefix ∷ []
 
-abbrev pub order_key : OrderRow → Key
+abbrev pub order_key : OrderRow → RowKey
 order_key row = bytes_cell row.supplier ∷ bytes_cell row.number ∷ []
 
-abbrev pub line_key : LineRow → Key
+abbrev pub line_key : LineRow → RowKey
 line_key row = bytes_cell row.supplier ∷ bytes_cell row.number ∷ number_cell row.line ∷ []
 
-abbrev pub advice_key : AdviceRow → Key
+abbrev pub advice_key : AdviceRow → RowKey
 advice_key row = bytes_cell row.supplier ∷ bytes_cell row.number ∷ []
 
-abbrev pub pallet_key : PalletRow → Key
+abbrev pub pallet_key : PalletRow → RowKey
 pallet_key row = bytes_cell row.sscc ∷ []
 
-abbrev pub content_key : ContentRow → Key
+abbrev pub content_key : ContentRow → RowKey
 content_key row = bytes_cell row.sscc ∷ number_cell row.place ∷ []
 
-abbrev pub receipt_key : ReceiptRow → Key
+abbrev pub receipt_key : ReceiptRow → RowKey
 receipt_key row = bytes_cell row.sscc ∷ bytes_cell row.gtin ∷ []
 
-abbrev pub remembered_key : RememberedRow → Key
+abbrev pub remembered_key : RememberedRow → RowKey
 remembered_key row =
     bytes_cell row.supplier ∷ number_cell row.side ∷ bytes_cell row.control ∷ bytes_cell row.message ∷ []
 
-abbrev pub mail_key : MailRow → Key
+abbrev pub mail_key : MailRow → RowKey
 mail_key row = bytes_cell row.supplier ∷ number_cell row.number ∷ []

@@ -13,8 +13,8 @@ use Rattle.hub_tables.specs.Tables.{Tables, empty, view}
 use Rattle.hub_tables.specs.declared.rows.LineRow.{LineRow}
 use Rattle.hub_tables.specs.declared.rows.ContentRow.{ContentRow}
 use Rattle.hub_tables.specs.declared.rows.PalletRow.{PalletRow}
-use Rattle.hub_sound.specs.Finding.{Key, line_key, content_key}
-use Rattle.hub_sound.specs.Showing.{Fails, IsSettled, ShowsUnsound, has_line, is_balanced}
+use Rattle.hub_sound.specs.Finding.{RowKey, line_key, content_key}
+use Rattle.hub_sound.specs.Showing.{FailsTest, IsSettled, ShowsUnsound, has_line, is_balanced}
 use Rattle.hub_sound.specs.declared.finding.Finding.{Finding}
 use Rattle.hub_sound.specs.declared.finding.RowKind.{RowKind}
 use Rattle.hub_sound.specs.declared.finding.RowKind.TheVariants.{Line, Content}
@@ -24,9 +24,9 @@ abbrev pub goods_of : List LineRow → List ContentRow → Tables
 goods_of lines contents = record empty { lines = lines; contents = contents }
 
 -- the row of this kind and key shows that they are not settled
-abbrev pub ShowsUnsettled : Tables → RowKind → Key → Type 0
-ShowsUnsettled state Content key = Fails content_key (has_line state) state.contents key
-ShowsUnsettled state Line key = Fails line_key (is_balanced state) state.lines key
+abbrev pub ShowsUnsettled : Tables → RowKind → RowKey → Type 0
+ShowsUnsettled state Content key = FailsTest content_key (has_line state) state.contents key
+ShowsUnsettled state Line key = FailsTest line_key (is_balanced state) state.lines key
 ShowsUnsettled state _ key = ⊥
 
 -- what is found of them: a row that shows it, or where there is none, that they are settled

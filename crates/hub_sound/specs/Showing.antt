@@ -15,29 +15,29 @@ use Rattle.hub_tables.specs.declared.rows.LineRow.{LineRow}
 use Rattle.hub_tables.specs.declared.rows.ContentRow.{ContentRow}
 use Rattle.hub_tables.specs.declared.rows.ReceiptRow.{ReceiptRow}
 use Rattle.hub_tables.specs.declared.rows.MailRow.{MailRow}
-use Rattle.hub_sound.specs.Finding.{Key, hub_key, supplier_key, prefix_key, order_key, line_key, advice_key, pallet_key}
+use Rattle.hub_sound.specs.Finding.{RowKey, hub_key, supplier_key, prefix_key, order_key, line_key, advice_key, pallet_key}
 use Rattle.hub_sound.specs.Finding.{content_key, receipt_key, remembered_key, mail_key}
 use Rattle.hub_sound.specs.declared.finding.RowKind.{RowKind}
 use Rattle.hub_sound.specs.declared.finding.RowKind.TheVariants.{Hub, Supplier, Prefix, Order, Line, Advice, Pallet}
 use Rattle.hub_sound.specs.declared.finding.RowKind.TheVariants.{Content, Receipt, Remembered, Mail}
 
 -- one of the rows fails the test, and has the key
-abbrev pub Fails : {X : Type 0} → (X → Key) → (X → Bool) → List X → Key → Type 0
-Fails {X} key_of test rows key = (row : X) × Has rows row × (test row ≡ false) × (key_of row ≡ key)
+abbrev pub FailsTest : {X : Type 0} → (X → RowKey) → (X → Bool) → List X → RowKey → Type 0
+FailsTest {X} key_of test rows key = (row : X) × Has rows row × (test row ≡ false) × (key_of row ≡ key)
 
 -- the row of this kind and key does not have the form of its kind
-abbrev pub ShowsUnclean : Tables → RowKind → Key → Type 0
-ShowsUnclean t Hub key = Fails hub_key clean_hub t.hubs key
-ShowsUnclean t Supplier key = Fails supplier_key clean_key t.keys key
-ShowsUnclean t Prefix key = Fails prefix_key clean_prefix t.prefixes key
-ShowsUnclean t Order key = Fails order_key clean_order t.orders key
-ShowsUnclean t Line key = Fails line_key clean_line t.lines key
-ShowsUnclean t Advice key = Fails advice_key clean_advice t.advices key
-ShowsUnclean t Pallet key = Fails pallet_key clean_pallet t.pallets key
-ShowsUnclean t Content key = Fails content_key clean_content t.contents key
-ShowsUnclean t Receipt key = Fails receipt_key clean_receipt t.receipts key
-ShowsUnclean t Remembered key = Fails remembered_key clean_remembered t.remembered key
-ShowsUnclean t Mail key = Fails mail_key clean_mail t.mail key
+abbrev pub ShowsUnclean : Tables → RowKind → RowKey → Type 0
+ShowsUnclean t Hub key = FailsTest hub_key clean_hub t.hubs key
+ShowsUnclean t Supplier key = FailsTest supplier_key clean_key t.keys key
+ShowsUnclean t Prefix key = FailsTest prefix_key clean_prefix t.prefixes key
+ShowsUnclean t Order key = FailsTest order_key clean_order t.orders key
+ShowsUnclean t Line key = FailsTest line_key clean_line t.lines key
+ShowsUnclean t Advice key = FailsTest advice_key clean_advice t.advices key
+ShowsUnclean t Pallet key = FailsTest pallet_key clean_pallet t.pallets key
+ShowsUnclean t Content key = FailsTest content_key clean_content t.contents key
+ShowsUnclean t Receipt key = FailsTest receipt_key clean_receipt t.receipts key
+ShowsUnclean t Remembered key = FailsTest remembered_key clean_remembered t.remembered key
+ShowsUnclean t Mail key = FailsTest mail_key clean_mail t.mail key
 
 -- the supplier has the order of the line
 abbrev pub has_order : Tables → LineRow → Bool
@@ -66,17 +66,17 @@ goes_on t entry = (entry.number == 1) || is_some (entry_at (view entry.supplier 
 -- supplier; a line without its order; a content without its pallet; a receipt of a pallet that was not received; an
 -- entry after a gap; and among what some supplier sees a line that is out of balance, or a content without its line. If
 -- the tables hold no register, no single row shows it, and the key is empty.
-abbrev pub ShowsUnsound : Tables → RowKind → Key → Type 0
+abbrev pub ShowsUnsound : Tables → RowKind → RowKey → Type 0
 ShowsUnsound t Hub key = HoldsNone t × (key ≡ [])
-ShowsUnsound t Pallet key = Fails pallet_key (fits_pallet (register_of t)) t.pallets key
+ShowsUnsound t Pallet key = FailsTest pallet_key (fits_pallet (register_of t)) t.pallets key
 ShowsUnsound t Line key =
-    Fails line_key (has_order t) t.lines key
-    ⊎ ((gln : List ℕ) × Fails line_key (is_balanced (view gln t)) (view gln t).lines key)
+    FailsTest line_key (has_order t) t.lines key
+    ⊎ ((gln : List ℕ) × FailsTest line_key (is_balanced (view gln t)) (view gln t).lines key)
 ShowsUnsound t Content key =
-    Fails content_key (is_on_pallet t) t.contents key
-    ⊎ ((gln : List ℕ) × Fails content_key (has_line (view gln t)) (view gln t).contents key)
-ShowsUnsound t Receipt key = Fails receipt_key (is_of_received t) t.receipts key
-ShowsUnsound t Mail key = Fails mail_key (goes_on t) t.mail key
+    FailsTest content_key (is_on_pallet t) t.contents key
+    ⊎ ((gln : List ℕ) × FailsTest content_key (has_line (view gln t)) (view gln t).contents key)
+ShowsUnsound t Receipt key = FailsTest receipt_key (is_of_received t) t.receipts key
+ShowsUnsound t Mail key = FailsTest mail_key (goes_on t) t.mail key
 ShowsUnsound t _ key = ⊥
 
 -- each content of the rows has its line, and each line is balanced
@@ -86,7 +86,7 @@ pub record IsSettled (state : Tables) : Type 0 where
 
 -- what was checked of the rows of all, and of the goods of each of some suppliers, among them each that has a line or a
 -- pallet
-pub record Checked (t : Tables) (glns : List (List ℕ)) : Type 0 where
+pub record PassesChecks (t : Tables) (glns : List (List ℕ)) : Type 0 where
   pub register : HoldsRegister t
   pub pallets : list_all (fits_pallet (register_of t)) t.pallets ≡ true
   pub orders : list_all (has_order t) t.lines ≡ true

@@ -16,7 +16,7 @@ use Rattle.hub_store.specs.declared.fault.StoreFault.{StoreFault}
 use Rattle.hub_schema.specs.Rows.{tables_in}
 use Rattle.hub_schema.specs.State.{MayRefuse, Holds, CommitsTo}
 use Rattle.hub_sql.specs.Settling.{Settles}
-use Rattle.hub_sql.specs.Stored.{Stored, rows_in, content, left, IsSettled, honest}
+use Rattle.hub_sql.specs.Stored.{Stored, rows_in, content, left, IsSoundStore, honest}
 use Rattle.hub_sql.specs.Marks.{Marks, TakenUpToMarks, mark_of, mark_after_all}
 use Rattle.hub_sql.proofs.Looking.{failed, still, same_content}
 use Rattle.hub_sql.proofs.Marking.{lowered}
@@ -32,7 +32,7 @@ content_after g old new past = ap (λ p. rows_in g (last_or None p)) past ∙ ap
 
 -- the store was settled before
 module _ {S : Type 0} (g : Ghosts S) {kept : Option RegisterRows} {marks : Marks} (old new : Stored S)
-    (settled : IsSettled g kept marks old)
+    (settled : IsSoundStore g kept marks old)
     (back : honest g new → honest g old) where
   before_is : honest g new → IsTrue (state g old.held).is_open → tables_in (state g old.held).now.trees ≡ content g old
   before_is clean o = settled.rows (back clean) o
@@ -82,7 +82,7 @@ module _ {S : Type 0} (g : Ghosts S) {kept : Option RegisterRows} {marks : Marks
         ];
       }
 
-      pub kept_settles : IsSettled g kept marks new
+      pub kept_settles : IsSoundStore g kept marks new
       kept_settles =
           still g old new settled whole past did.mode (λ clean none. makes.usable none) back
           (λ clean o. did.kept clean (held_before clean) o)
@@ -92,7 +92,7 @@ module _ {S : Type 0} (g : Ghosts S) {kept : Option RegisterRows} {marks : Marks
 
 -- all changes are made
 module _ {S : Type 0} {g : Ghosts S} {kept : Option RegisterRows} {marks : Marks} {old new : Stored S}
-    (settled : IsSettled g kept marks old)
+    (settled : IsSoundStore g kept marks old)
     {changes : List Change} (did : CommitsTo changes (state g old.held) (state g new.held) (Ok (tt {0})))
     (past : new.past ≡ old.past ++ (new.held, true) ∷ []) where
   pub made : Commits {X = Unit {0}} (content g) (honest g) (left g) (λ s. s.fault) old new changes (Ok (tt {0}))
@@ -112,7 +112,7 @@ module _ {S : Type 0} {g : Ghosts S} {kept : Option RegisterRows} {marks : Marks
 
   pub made_settles : {lower : Marks}
       → ((supplier : List ℕ) → mark_of lower supplier ≡ mark_after_all supplier changes (mark_of marks supplier))
-      → btree_map_len lower ≤ btree_map_len marks → IsSettled g None lower new
+      → btree_map_len lower ≤ btree_map_len marks → IsSoundStore g None lower new
   made_settles {lower = lower} lowers fewer =
       let back = clean_before (state g old.held) (state g new.held) _ did.crash in record {
         idle = did.mode;

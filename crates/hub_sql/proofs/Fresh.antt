@@ -9,7 +9,7 @@ use Rattle.sqlite_trees.specs.declared.store.Store.{Ghosts}
 use Rattle.hub_parties.specs.Rows.{RegisterRows}
 use Rattle.hub_schema.specs.Rows.{tables_in}
 use Rattle.hub_schema.specs.State.{IsHub}
-use Rattle.hub_sql.specs.Stored.{Stored, rows_in, content, HasRegister, IsSettled}
+use Rattle.hub_sql.specs.Stored.{Stored, rows_in, content, HasRegister, IsSoundStore}
 use Rattle.hub_sql.specs.Marks.{Marks, mark_of}
 use Rattle.hub_sql.proofs.Marking.{taken_to_no_marks}
 
@@ -23,7 +23,7 @@ module _ {S : Type 0} (g : Ghosts S) (held : Held S) (register : Option Register
 
   pub fresh_settles : held.in_transaction ≡ false → (HasCleanDisk (state g held) → IsHub (state g held))
       → (HasCleanDisk (state g held) → IfSome register (HasRegister (tables_in (state g held).now.trees)))
-      → ((supplier : List ℕ) → mark_of marks supplier ≡ 0) → btree_map_len marks ≡ 0 → IsSettled g register marks fresh
+      → ((supplier : List ℕ) → mark_of marks supplier ≡ 0) → btree_map_len marks ≡ 0 → IsSoundStore g register marks fresh
   fresh_settles idle hub theirs none empty = record {
     idle = idle;
     schema = λ whole clean. (hub clean).schema;

@@ -13,7 +13,7 @@ use Rattle.hub_store.specs.declared.mail.MailHead.{MailHead}
 use Rattle.hub_schema.specs.Rows.{tables_in}
 use Rattle.hub_schema.specs.State.{Holds, LooksUp}
 use Rattle.hub_schema.proofs.Single.{hub_rises}
-use Rattle.hub_sql.specs.Stored.{Stored, content, IsSettled, honest}
+use Rattle.hub_sql.specs.Stored.{Stored, content, IsSoundStore, honest}
 use Rattle.hub_sql.specs.Marks.{Marks, TakenUpToMarks, list_start, Notes}
 use Rattle.hub_sql.proofs.Looking.{same_content}
 use Rattle.hub_sql.proofs.Marking.{from_start, noted}
@@ -61,12 +61,12 @@ module _ (old new : State) (marks : Marks) (supplier : List ℕ) (number limit :
       (taken (clean_before old new _ looks.crash clean) up) (looks.answers clean holds) notes
 
 -- the marks of a store are right for the rows that its connection shows
-pub shown_taken : {S : Type 0} (g : Ghosts S) {kept : Option RegisterRows} {marks : Marks} (s : Stored S) → IsSettled g kept marks s
+pub shown_taken : {S : Type 0} (g : Ghosts S) {kept : Option RegisterRows} {marks : Marks} (s : Stored S) → IsSoundStore g kept marks s
     → honest g s → IsTrue (state g s.held).is_open → TakenUpToMarks (tables_in (state g s.held).now.trees) marks
 shown_taken g {marks = marks} s settled clean up = subst (λ t. TakenUpToMarks t marks) (sym (settled.rows clean up)) (settled.taken clean)
 
 module _ {S : Type 0} (g : Ghosts S) {kept : Option RegisterRows} {marks : Marks} (old new : Stored S)
-    (settled : IsSettled g kept marks old) where
+    (settled : IsSoundStore g kept marks old) where
   -- a look-up that changed the marks
   module _ (whole : old.fault ≡ None) (past : new.past ≡ old.past) {X : Type 0} (answer : Tables → X)
       (found : Result X StoreFault) (looks : LooksUp answer (state g old.held) (state g new.held) found) (after : Marks) where

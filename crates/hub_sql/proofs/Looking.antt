@@ -19,7 +19,7 @@ use Rattle.hub_schema.specs.Rows.{tables_in}
 use Rattle.hub_schema.specs.Schema.{hub_schema}
 use Rattle.hub_schema.specs.State.{Holds, LooksUp}
 use Rattle.hub_sql.specs.Settling.{Settles}
-use Rattle.hub_sql.specs.Stored.{Stored, rows_in, content, left, HasRegister, IsSettled, honest}
+use Rattle.hub_sql.specs.Stored.{Stored, rows_in, content, left, HasRegister, IsSoundStore, honest}
 use Rattle.hub_sql.specs.Marks.{Marks, TakenUpToMarks}
 use Rattle.hub_schema.proofs.Same.{same_hub}
 
@@ -54,7 +54,7 @@ failed None after result none lasting known = record {
 failed (Some f) after result none lasting known = cc
 
 module _ {S : Type 0} (g : Ghosts S) {kept : Option RegisterRows} {marks : Marks} (old new : Stored S)
-    (settled : IsSettled g kept marks old)
+    (settled : IsSoundStore g kept marks old)
     (whole : old.fault ≡ None)
     (past : new.past ≡ old.past) where
   pub same_content : content g new ≡ content g old
@@ -68,7 +68,7 @@ module _ {S : Type 0} (g : Ghosts S) {kept : Option RegisterRows} {marks : Marks
       → (honest g new → honest g old)
       → (honest g new → IsTrue (state g new.held).is_open → IsTrue (state g old.held).is_open ×
       ((state g new.held).now ≡ (state g old.held).now))
-      → IsSettled g kept marks new
+      → IsSoundStore g kept marks new
   still idle schema back shows = record {
     idle = idle;
     schema = λ none clean. schema clean none;
@@ -116,7 +116,7 @@ module _ {S : Type 0} (g : Ghosts S) {kept : Option RegisterRows} {marks : Marks
     pub look_fails : Fails false old.fault new.fault result
     look_fails = failed old.fault new.fault result whole makes.lasting makes.version
 
-    pub look_settles : IsSettled g kept marks new
+    pub look_settles : IsSoundStore g kept marks new
     look_settles =
         still (looks.mode settled.idle) (λ clean none. schema result makes.value makes.usable clean none) back
         (λ clean o. looks.stays clean settled.idle (settled.schema whole (back clean)) o)
@@ -133,7 +133,7 @@ module _ {S : Type 0} (g : Ghosts S) {kept : Option RegisterRows} {marks : Marks
 -- finds it
 pub looked_as_seen : {S X : Type 0} (g : Ghosts S) {kept : Option RegisterRows} {marks : Marks} {old new seen : Stored S}
     {schema : Schema} {found result : Result X StoreFault}
-    → old ≡ seen → IsSettled g kept marks old → old.fault ≡ None → new.past ≡ old.past → (answer : Tables → X)
+    → old ≡ seen → IsSoundStore g kept marks old → old.fault ≡ None → new.past ≡ old.past → (answer : Tables → X)
     → Settles found schema result new.fault → schema ≡ new.held.schema
     → LooksUp answer (state g old.held) (state g new.held) found
     → Looks (content g) (honest g) (left g) (λ s. s.fault) seen new (answer (content g seen)) result

@@ -18,7 +18,7 @@ use Rattle.hub_parties.specs.declared.row.SupplierRow.{SupplierRow}
 use Rattle.hub_rows.specs.Asks.{HasDiskCause}
 use Rattle.hub_rules.specs.Laws.{SoundHub}
 use Rattle.hub_rules.specs.Sound.{Sound}
-use Rattle.hub_sql.specs.Founding.{FailsOver, Founds, IsOfFounding, MayBeBeside, MayBeFounded, RefusesFounding, Stood}
+use Rattle.hub_sql.specs.Founding.{FailsReopened, Founds, IsOfFounding, MayBeBeside, MayBeFounded, RefusesFounding, Stood}
 use Rattle.hub_sql.specs.Opening.{ComesBack, ComesOpen, ComesWith, IsAsBefore, IsKnown, IsSpared}
 use Rattle.hub_sql.specs.Opening.{SparesConnection}
 use Rattle.hub_sql.specs.Stored.{Stored, content, left, honest}
@@ -78,7 +78,7 @@ pub refused_old : {S : Type 0} {g : Ghosts S} {register : RegisterRows} {was : S
     → was.now.schema ≡ schema_of First → IsOfFounding fault
     → (((before : Tables) → ¬ Stood was before) → ComesWith g back (λ _. ⊥))
     → (HoldsTables First was.now → fits register (traffic_in was.committed.trees) ≡ false →
-    fault ≢ found.Rows → fault ≢ found.Store Memory → FailsOver g was back)
+    fault ≢ found.Rows → fault ≢ found.Store Memory → FailsReopened g was back)
     → ((why : StoreFault) → fault ≡ found.Store why → ComesOpen g was First back why)
     → (fault ≡ found.Rows → ComesBack g back (λ now. HoldsTables First was.now
     × (fits register (traffic_in was.committed.trees) ≡ false) × (now.now.schema ≡ was.now.schema)))

@@ -19,7 +19,7 @@ use Rattle.hub_schema.specs.Schema.{hub_schema}
 use Rattle.hub_schema.specs.State.{LooksFor, LooksIn, LooksUp}
 use Rattle.hub_rows.proofs.Joining.{of_hub}
 use Rattle.hub_sql.specs.Settling.{Settles}
-use Rattle.hub_sql.specs.Stored.{Stored, content, left, HasRegister, IsSettled, honest}
+use Rattle.hub_sql.specs.Stored.{Stored, content, left, HasRegister, IsSoundStore, honest}
 use Rattle.hub_sql.specs.Marks.{Marks}
 use Rattle.hub_sql.proofs.Looking.{failed, holds, still, same_content, looked, ok_of, on_ok_of, refused_fails}
 
@@ -87,7 +87,7 @@ as_look old new result holds looks = record {
     theirs t (Err fault) is = tt
 
 module _ {S : Type 0} (g : Ghosts S) {kept : Option RegisterRows} {marks : Marks} (old new : Stored S)
-    (settled : IsSettled g kept marks old)
+    (settled : IsSoundStore g kept marks old)
     (whole : old.fault ≡ None) (past : new.past ≡ old.past) (found result : Result RegisterRows StoreFault)
     (looks : LooksFor HasRegister HoldsNone (state g old.held) (state g new.held) found)
     (makes : Settles found new.held.schema result new.fault) where
@@ -122,7 +122,7 @@ module _ {S : Type 0} (g : Ghosts S) {kept : Option RegisterRows} {marks : Marks
           (looks.answers clean (holds g old new settled whole past (back clean))))
       go (Err f) is clean = tt
 
-  pub read_settles : IsSettled g kept marks new
+  pub read_settles : IsSoundStore g kept marks new
   read_settles =
       still g old new settled whole past (looks.mode settled.idle)
       (λ clean none. schema result makes.value makes.usable clean none) back
@@ -160,7 +160,7 @@ module _ {S : Type 0} (g : Ghosts S) (s : Stored S) (result : Result RegisterRow
 
 -- a store without a lasting fault returns the register that it keeps
 module _ {S : Type 0} (g : Ghosts S) {marks : Marks} (s : Stored S) (register : RegisterRows)
-    (settled : IsSettled g (Some register) marks s)
+    (settled : IsSoundStore g (Some register) marks s)
     (whole : s.fault ≡ None) where
   abbrev found : Result RegisterRows StoreFault
   found = Ok register
@@ -187,7 +187,7 @@ module _ {S : Type 0} (g : Ghosts S) {marks : Marks} (s : Stored S) (register : 
     unclean = λ clean none is. cc;
   }
 
-  pub kept_settles : IsSettled g None marks s
+  pub kept_settles : IsSoundStore g None marks s
   kept_settles = record {
     idle = settled.idle;
     schema = settled.schema;

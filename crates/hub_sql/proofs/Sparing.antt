@@ -22,10 +22,10 @@ use Rattle.hub_sql.specs.declared.version.Version.TheVariants.{Second}
 
 module _ {S : Type 0} (g : Ghosts S) where
   -- an idle connection that is not shut shows what is committed
-  abbrev pub IsSettled : Held S → Type 0
-  IsSettled h = IsTrue (state g h).is_open → (state g h).now ≡ (state g h).committed
+  abbrev pub ShowsCommitted : Held S → Type 0
+  ShowsCommitted h = IsTrue (state g h).is_open → (state g h).now ≡ (state g h).committed
 
-  module _ (was new : Held S) (settled : IsSettled was) (idle : new.in_transaction ≡ false) where
+  module _ (was new : Held S) (settled : ShowsCommitted was) (idle : new.in_transaction ≡ false) where
     -- everything is as it was, or undone
     shown : ShowsTheSame (state g was) (state g new) ⊎ IsUndone (state g was) (state g new) → IsTrue (state g new).is_open
         → ((state g new).now ≡ (state g was).committed) × ((state g new).now ≡ (state g was).now)
@@ -54,7 +54,7 @@ module _ {S : Type 0} (g : Ghosts S) where
   either_way old new (Err e) it = it.fault
 
   -- the schema's number was read, or was not
-  pub spared_number : (number : ℕ) (was new : Held S) (r : Result Bool StoreFault) → IsSettled was
+  pub spared_number : (number : ℕ) (was new : Held S) (r : Result Bool StoreFault) → ShowsCommitted was
       → was.in_transaction ≡ false
       → TellsNumber number (state g was) (state g new) r → SparesConnection g ⊥ (λ _. ⊥) (state g was) new
   spared_number number was new r settled idle it =
@@ -63,14 +63,14 @@ module _ {S : Type 0} (g : Ghosts S) where
 
   -- its rows were looked up
   pub spared_looked : {X : Type 0} (schema : Schema) (Are : State → Type 0) (says : Tables → X → Type 0)
-      (spoilt : Tables → Type 0) (was new : Held S) (r : Result X StoreFault) → IsSettled was → was.in_transaction ≡ false
+      (spoilt : Tables → Type 0) (was new : Held S) (r : Result X StoreFault) → ShowsCommitted was → was.in_transaction ≡ false
       → LooksAmong schema Are says spoilt (state g was) (state g new) r → SparesConnection g ⊥ (λ _. ⊥) (state g was) new
   spared_looked schema Are says spoilt was new r settled idle it =
       spared_so was new settled (it.mode idle) (λ _. ⊥) it.crash (λ _ trees none. absurd none)
       (λ clean up. either_way (state g was) (state g new) r (it.leaves clean))
 
   -- the connection itself comes back
-  pub spared_itself : (MayBe : Trees → Type 0) (h : Held S) → IsSettled h → h.in_transaction ≡ false
+  pub spared_itself : (MayBe : Trees → Type 0) (h : Held S) → ShowsCommitted h → h.in_transaction ≡ false
       → SparesConnection g ⊥ MayBe (state g h) h
   spared_itself MayBe h settled idle = record {
     idle = idle;
@@ -101,7 +101,7 @@ module _ {S : Type 0} (g : Ghosts S) where
 
   -- a founding failed in tables that existed before
   pub spared_founding : (asked : Type 0) (before : Tables) (register : RegisterRows) (was new : Held S) (fault : StoreFault)
-      → IsSettled was → (HasCleanDisk (state g was) → asked)
+      → ShowsCommitted was → (HasCleanDisk (state g was) → asked)
       → (HasCleanDisk (state g was) → fits register before ≡ true)
       → FoundsTo asked (founded_beside before register) (state g was) (state g new) (Err fault)
       → SparesConnection g ⊥ (MayBeBeside before register) (state g was) new
@@ -112,7 +112,7 @@ module _ {S : Type 0} (g : Ghosts S) where
       (λ clean up. inl (it.kept clean (so (early clean)) up))
 
   -- the number of schema 2 was not set
-  pub spared_number_set : (asked : Type 0) (rows : Tables) (was new : Held S) (fault : StoreFault) → IsSettled was
+  pub spared_number_set : (asked : Type 0) (rows : Tables) (was new : Held S) (fault : StoreFault) → ShowsCommitted was
       → (HasCleanDisk (state g was) → asked) → FoundsTo asked rows (state g was) (state g new) (Err fault)
       → SparesConnection g ⊥ (MayBeRenumbered Second rows) (state g was) new
   spared_number_set asked rows was new fault settled so it =

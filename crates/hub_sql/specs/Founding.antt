@@ -66,12 +66,12 @@ MayBeFounded register was trees = (before : Tables) × Stood was before × MayBe
 
 -- The disk failed; or it failed in a connection that was opened again, which shows the rows that were committed, or
 -- whose schema is not schema 1.
-abbrev pub FailsOver : {S : Type 0} → Ghosts S → State → Returned S → Type 0
-FailsOver {S} g was (Connection conn) = HasCleanDisk (state g conn) →
+abbrev pub FailsReopened : {S : Type 0} → Ghosts S → State → Returned S → Type 0
+FailsReopened {S} g was (Connection conn) = HasCleanDisk (state g conn) →
     HasDiskCause was (state g conn)
     ⊎ ((over : Held S) × IsReady (state g over) × ((state g over).now.trees ≡ was.committed.trees)
     × (over.step_limit ≡ was.step_limit) × ((over.schema ≢ schema_of First) ⊎ HasDiskCause (state g over) (state g conn)))
-FailsOver g was (Store store) = ⊤
+FailsReopened g was (Store store) = ⊤
 
 -- When founding fails. `Version`: the connection comes back as it was, and it has tables, but not those of schema 1. If
 -- they are of another schema, there is no other fault; if only their number differs, the other faults are `Memory` and
@@ -92,7 +92,7 @@ pub record RefusesFounding {S : Type 0} (g : Ghosts S) (register : RegisterRows)
       ComesBack g back (λ now. HoldsTables First was.now × (fits register (traffic_in was.committed.trees) ≡ false)
       × (now.now.schema ≡ was.now.schema))
   pub unfit : HoldsTables First was.now → fits register (traffic_in was.committed.trees) ≡ false →
-      fault ≢ found.Rows → fault ≢ found.Store Memory → FailsOver g was back
+      fault ≢ found.Rows → fault ≢ found.Store Memory → FailsReopened g was back
   pub unclean : fault ≢ found.Store Unclean
   pub usable : (why : StoreFault) → fault ≡ found.Store why → ComesOpen g was First back why
   pub spared : IsSpared g ((fault ≡ found.Store Disk) × IsKnown was) (MayBeFounded register was) was back

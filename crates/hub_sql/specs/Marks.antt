@@ -58,8 +58,8 @@ abbrev pub Forgets : Marks → Marks → Type 0
 Forgets old new = (other : List ℕ) → (mark_of new other ≡ mark_of old other) ⊎ (mark_of new other ≡ 0)
 
 -- each mark is as it was, or is forgotten, or is the supplier's and has this number
-abbrev pub Keeps : Marks → List ℕ → ℕ → Marks → Type 0
-Keeps old supplier mark new =
+abbrev pub KeepsMarks : Marks → List ℕ → ℕ → Marks → Type 0
+KeepsMarks old supplier mark new =
     (other : List ℕ) → (mark_of new other ≡ mark_of old other) ⊎ ((mark_of new other ≡ 0)
     ⊎ ((same supplier other ≡ true) × (mark_of new other ≡ mark)))
 

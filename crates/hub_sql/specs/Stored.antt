@@ -64,7 +64,7 @@ module _ {S : Type 0} (g : Ghosts S) where
   -- What always holds of a store: if it is open, even after a lasting fault, it has the hub's tables, whose rows are
   -- the content; while it has no lasting fault, its schema is the hub's; a register that it keeps is that of the
   -- content; and the marks that it keeps of suppliers are right and not too many.
-  pub record IsSettled (kept : Option RegisterRows) (marks : Marks) (s : Stored S) : Type 0 where
+  pub record IsSoundStore (kept : Option RegisterRows) (marks : Marks) (s : Stored S) : Type 0 where
     pub idle : s.held.in_transaction ≡ false
     pub schema : s.fault ≡ None → HasCleanDisk (state g s.held) → s.held.schema ≡ hub_schema
     pub hub : HasCleanDisk (state g s.held) → IsTrue (state g s.held).is_open → IsHub (state g s.held)

@@ -13,7 +13,7 @@ ghost use Rattle.hub_sql.specs.Stored.{content, left, HoldsRows};
 ghost use Rattle.hub_sql.specs.Version.{AreRising};
 
 use crate::fault::{FoundFault, laying_fault};
-use crate::migrating::{migrated, migrated_opened};
+use crate::migrating::{migrate_hub, migrate_opened_hub};
 use crate::returned::Returned;
 use crate::store::SqliteStore;
 use hub_founding::register_changes;
@@ -49,13 +49,13 @@ fn laid<S: Alter + Drop>(
         return Err((conn, StoreFault::Memory));
     };
     match found(&mut conn, changes.as_slice()) {
-        Ok(()) => Ok(SqliteStore::settled(alloc, conn, None)),
+        Ok(()) => Ok(SqliteStore::from_tables(alloc, conn, None)),
         Err(fault) => Err((conn, laying_fault(fault))),
     }
 }
 
 // Founds a hub in a database without tables.
-fn founded_bare<S: Alter + Drop>(
+fn found_bare<S: Alter + Drop>(
     alloc: Global,
     conn: Connection<S>,
     register: &Register,
@@ -92,9 +92,9 @@ impl<S: Alter + Drop> SqliteStore<S> {
             RefusesFounding S.Store register.now (state S.Store conn) e.0 e.1) }
     {
         if is_no_schema(conn.schema()) {
-            founded_bare(alloc, conn, register)
+            found_bare(alloc, conn, register)
         } else {
-            migrated(alloc, conn, register)
+            migrate_hub(alloc, conn, register)
         }
     }
 
@@ -113,9 +113,9 @@ impl<S: Alter + Drop> SqliteStore<S> {
             RefusesFounding S.Store register.now (state S.Store conn) e.0 e.1) }
     {
         if is_no_schema(conn.schema()) {
-            founded_bare(alloc, conn, register)
+            found_bare(alloc, conn, register)
         } else {
-            migrated_opened(alloc, conn, register)
+            migrate_opened_hub(alloc, conn, register)
         }
     }
 }

@@ -5,7 +5,7 @@ ghost use Rattle.std.specs.BTreeMap.{btree_map_len, get, IsUnchanged};
 ghost use Rattle.std.specs.Cmp.Lexicographic.{slice_cmp};
 ghost use Rattle.std.specs.Option.{is_some};
 ghost use Rattle.std.specs.Ordering.{nat_cmp};
-ghost use Rattle.hub_sql.specs.Marks.{IsSet, Forgets, Keeps, Notes, count_with, most_marks};
+ghost use Rattle.hub_sql.specs.Marks.{IsSet, Forgets, KeepsMarks, Notes, count_with, most_marks};
 ghost use Rattle.hub_sql.specs.Marks.{mark_after, mark_after_all, mark_with};
 ghost use Rattle.hub_sql.specs.Marks as spec;
 
@@ -60,7 +60,7 @@ fn keep_mark(marks: &mut TakenMarks, supplier: &Gln, mark: u64) -> Result<(), Me
     requires { btree_map_len marks.old ≤ most_marks }
     ensures few { btree_map_len marks.new ≤ most_marks }
     ensures kept { OnOk result (spec.mark_of marks.new supplier.now ≡ mark) }
-    ensures keeps { Keeps marks.old supplier.now mark marks.new }
+    ensures keeps { KeepsMarks marks.old supplier.now mark marks.new }
 {
     make_room(marks, supplier);
     set_mark(marks, supplier, mark)

@@ -14,7 +14,7 @@ ghost use Rattle.hub_sql.specs.Stored.{honest, HoldsRows};
 ghost use Rattle.hub_sql.specs.Version.{AreRising, AreShaped};
 
 use crate::fault::{FoundFault, laying_fault};
-use crate::reopening::{of_version, reopened};
+use crate::reopening::{of_version, reopen};
 use crate::returned::Returned;
 use crate::store::SqliteStore;
 use crate::version::Version;
@@ -100,7 +100,7 @@ fn laid_beside<S: Alter + Drop>(
         return Err((conn, FoundFault::Store(StoreFault::Memory)));
     };
     match migrate(&mut conn, changes.as_slice()) {
-        Ok(()) => Ok(SqliteStore::settled(alloc, conn, None)),
+        Ok(()) => Ok(SqliteStore::from_tables(alloc, conn, None)),
         Err(fault) => Err((conn, FoundFault::Store(laying_fault(fault)))),
     }
 }
@@ -141,7 +141,7 @@ fn beside<S: Alter + Drop>(
 }
 
 /// Founds a hub in a database that has tables, if they are those of schema 1 and the register fits their rows.
-pub(crate) fn migrated<S: Alter + Drop>(
+pub(crate) fn migrate_hub<S: Alter + Drop>(
     alloc: Global,
     conn: Connection<S>,
     register: &Register,
@@ -158,7 +158,7 @@ pub(crate) fn migrated<S: Alter + Drop>(
         Ok(conn) => conn,
         Err((conn, fault)) => return Err((Returned::Connection(conn), FoundFault::Store(fault))),
     };
-    let conn = match reopened(alloc, conn, Version::First) {
+    let conn = match reopen(alloc, conn, Version::First) {
         Ok(conn) => conn,
         Err((fault, store)) => return Err((Returned::Store(store), FoundFault::Store(fault))),
     };
@@ -168,8 +168,8 @@ pub(crate) fn migrated<S: Alter + Drop>(
     }
 }
 
-/// Like `migrated`, for a connection that was just opened, in whose tables the row numbers rise.
-pub(crate) fn migrated_opened<S: Alter + Drop>(
+/// Like `migrate_hub`, for a connection that was just opened, in whose tables the row numbers rise.
+pub(crate) fn migrate_opened_hub<S: Alter + Drop>(
     alloc: Global,
     conn: Connection<S>,
     register: &Register,

@@ -12,7 +12,7 @@ ghost use Rattle.hub_sql.specs.Stored.{content, honest, HasRegister, HoldsRows};
 ghost use Rattle.hub_sql.specs.Version.{AreRising, number_of};
 
 use crate::fault::laying_fault;
-use crate::reopening::{of_hub, reopened};
+use crate::reopening::{of_hub, reopen};
 use crate::returned::Returned;
 use crate::store::SqliteStore;
 use crate::version::Version;
@@ -80,7 +80,7 @@ fn with_register<S: Alter + Drop>(
 }
 
 // Makes a store of a connection with the tables of schema 2, after setting their number.
-fn renumbered<S: Alter + Drop>(
+fn renumber_tables<S: Alter + Drop>(
     alloc: Global,
     mut conn: Connection<S>,
     register: Register,
@@ -99,13 +99,13 @@ fn renumbered<S: Alter + Drop>(
     // This contract says whether a transaction is open.
     let _was_idle = conn.is_autocommit();
     match renumber(&mut conn) {
-        Ok(()) => Ok(SqliteStore::settled(alloc, conn, Some(register))),
+        Ok(()) => Ok(SqliteStore::from_tables(alloc, conn, Some(register))),
         Err(fault) => Err((conn, laying_fault(fault))),
     }
 }
 
 // Makes a store of a connection with the tables of schema 2 or 3.
-fn raised<S: Alter + Drop>(
+fn raise_version<S: Alter + Drop>(
     alloc: Global,
     conn: Connection<S>,
     version: Version,
@@ -128,8 +128,12 @@ fn raised<S: Alter + Drop>(
     // This contract says whether a transaction is open.
     let _idle = conn.is_autocommit();
     match version {
-        Version::Second => renumbered(alloc, conn, register),
-        Version::First | Version::Third => Ok(SqliteStore::settled(alloc, conn, Some(register))),
+        Version::Second => renumber_tables(alloc, conn, register),
+        Version::First | Version::Third => Ok(SqliteStore::from_tables(
+            alloc,
+            conn,
+            Some(register),
+        )),
     }
 }
 
@@ -158,7 +162,7 @@ fn taken<S: Alter + Drop>(
         (MayBeRenumbered version (tables_in (state S.Store conn).now.trees)) (state S.Store conn) e.0) }
 {
     match with_register(alloc, conn) {
-        Ok((conn, register)) => raised(alloc, conn, version, register),
+        Ok((conn, register)) => raise_version(alloc, conn, version, register),
         Err((conn, fault)) => Err((conn, fault)),
     }
 }
@@ -183,7 +187,7 @@ impl<S: Alter + Drop> SqliteStore<S> {
             Ok((conn, version)) => (conn, version),
             Err((conn, fault)) => return Err((Returned::Connection(conn), fault)),
         };
-        let conn = match reopened(alloc, conn, version) {
+        let conn = match reopen(alloc, conn, version) {
             Ok(conn) => conn,
             Err((fault, store)) => return Err((Returned::Store(store), fault)),
         };

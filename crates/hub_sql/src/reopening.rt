@@ -106,7 +106,7 @@ pub fn of_hub<S: Alter + Drop>(
 }
 
 /// Opens the connection again, if its storage reports that it is not broken and that it has the tables of this version.
-pub(crate) fn reopened<S: Alter + Drop>(
+pub(crate) fn reopen<S: Alter + Drop>(
     alloc: Global,
     conn: Connection<S>,
     version: Version,

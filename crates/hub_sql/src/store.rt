@@ -35,7 +35,7 @@ pub struct SqliteStore<S: Alter> {
 }
 
 impl<S: Alter> Model for SqliteStore<S> {
-    ghost use Rattle.hub_sql.specs.Stored.{Stored, stored_code, IsSettled};
+    ghost use Rattle.hub_sql.specs.Stored.{Stored, stored_code, IsSoundStore};
 
     ghost Value = { Stored S };
 
@@ -43,7 +43,7 @@ impl<S: Alter> Model for SqliteStore<S> {
 
     ghost view = { λ s. record { held = s.conn; fault = s.fault; past = s.past.items } };
 
-    ghost invariant = { λ s. IsSettled S.Store s.register s.marks
+    ghost invariant = { λ s. IsSoundStore S.Store s.register s.marks
         (record { held = s.conn; fault = s.fault; past = s.past.items }) };
 }
 
@@ -83,7 +83,7 @@ pub(crate) fn settle<X>(
 
 impl<S: Alter> SqliteStore<S> {
     // Makes the store of a connection that holds the hub's tables, with the register of its rows if that is known.
-    pub(crate) fn settled(
+    pub(crate) fn from_tables(
         alloc: Global,
         conn: Connection<S>,
         register: Option<Register>,

@@ -5,7 +5,7 @@ use Rattle.gs1_ids.specs.Digits.{is_key}
 use Rattle.gs1_ids.specs.Gln.{is_gln}
 use Rattle.hub_tables.specs.Cases.{answer_letter, side_letter, kind_letter, arrival_number, truth_number}
 use Rattle.hub_tables.specs.Tables.{Tables, empty}
-use Rattle.hub_tables.specs.declared.cases.Answered.TheVariants.{Waiting, Accepted, NotAccepted, Changed}
+use Rattle.hub_tables.specs.declared.cases.LineState.TheVariants.{Waiting, Accepted, NotAccepted, Changed}
 use Rattle.hub_tables.specs.declared.cases.Side.TheVariants.{Retailer, Supplier, Cancellation}
 use Rattle.hub_tables.specs.declared.cases.MailKind.TheVariants.{Orders, Receipt}
 use Rattle.hub_tables.specs.declared.cases.Arrival.TheVariants.{Announced, Received, Replaced}

@@ -11,7 +11,7 @@ use Rattle.hub_tables.specs.Tables.{Tables}
 use Rattle.hub_tables.specs.declared.change.Change.{Change}
 use Rattle.hub_tables.specs.declared.change.Change.TheVariants.{ClearReceipts}
 use Rattle.hub_tables.proofs.KeyOrder.{all_put_back}
-use Rattle.hub_tables.proofs.KindOrders.{Steps, hubs_after, keys_after, prefixes_after, orders_after, lines_after, advices_after}
+use Rattle.hub_tables.proofs.KindOrders.{KindRelation, hubs_after, keys_after, prefixes_after, orders_after, lines_after, advices_after}
 use Rattle.hub_tables.proofs.KindOrders.{pallets_after, contents_after, receipts_after, remembered_after, mail_after}
 
 pub rises_put_back : {X : Type 0} (cmp : X → X → Ordering) (x : X) (ys : List X) → Rises cmp (put cmp x ys) → Rises cmp ys
@@ -36,7 +36,7 @@ module _ {X : Type 0} (cmp : X → X → Ordering) (at : X → Bool) (r : X) (al
 abbrev RisesBefore : (X : Type 0) → (X → X → Ordering) → List X → List X → Type 0
 RisesBefore X cmp rows after = Rises cmp after → Rises cmp rows
 
-rise_before : Steps RisesBefore
+rise_before : KindRelation RisesBefore
 rise_before = record {
   stay = λ cmp rows h. h;
   add = λ cmp total rows r. rises_put_back cmp r rows;

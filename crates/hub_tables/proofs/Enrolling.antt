@@ -26,7 +26,7 @@ use Rattle.hub_tables.specs.declared.change.Change.TheVariants.{AddKey}
 use Rattle.hub_tables.specs.declared.rows.KeyRow.{KeyRow}
 use Rattle.hub_tables.specs.declared.rows.PrefixRow.{PrefixRow}
 use Rattle.hub_tables.proofs.Filters.{filter_again}
-use Rattle.hub_tables.proofs.Freedom.{Apart}
+use Rattle.hub_tables.proofs.Freedom.{PrefixesApart}
 use Rattle.hub_tables.proofs.KeyOrder.{all_put, any_put, any_more, in_order_put, in_order_rising, filter_put_in, filter_put_out}
 use Rattle.hub_tables.proofs.KeyOrder.{put_last}
 use Rattle.hub_tables.proofs.KindOrders.{key_total, prefix_total}
@@ -287,7 +287,7 @@ is_below text other = is_lt (bytes_cmp text other)
 
 -- a new supplier, with rising prefixes that do not overlap those of the others
 module _ (row : SupplierRow) (t : Tables) (here : Enrolled t) (new : has_key t.keys row.gln ≡ false)
-    (rises : rising row.prefixes ≡ true) (apart : (s : SupplierRow) → Has (suppliers_of t) s → Apart row s) where
+    (rises : rising row.prefixes ≡ true) (apart : (s : SupplierRow) → Has (suppliers_of t) s → PrefixesApart row s) where
   rows_rise : Rises prefix_cmp (prefix_rows row.gln row.prefixes)
   rows_rise = by_text row.prefixes rises
     where

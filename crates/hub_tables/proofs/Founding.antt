@@ -22,7 +22,7 @@ use Rattle.hub_tables.specs.declared.change.Change.TheVariants.{AddHub}
 use Rattle.hub_tables.specs.declared.rows.HubRow.{HubRow}
 use Rattle.hub_tables.proofs.Back.{fit_uncleared}
 use Rattle.hub_tables.proofs.Enrolling.{Enrolled, with_row, row_added, suppliers_after, enrolled_after}
-use Rattle.hub_tables.proofs.Freedom.{Apart, Free, free_from, apart_back}
+use Rattle.hub_tables.proofs.Freedom.{PrefixesApart, SuppliersApart, free_from, apart_back}
 use Rattle.hub_tables.proofs.KeyOrder.{put_last}
 use Rattle.hub_tables.proofs.Lists.{all_weaker}
 use Rattle.hub_tables.proofs.Members.{all_of, none_if, has_map}
@@ -36,7 +36,7 @@ abbrev pub OnlyParties : Tables → Tables → Type 0
 OnlyParties t after = after ≡ record t { hubs = after.hubs; keys = after.keys; prefixes = after.prefixes }
 
 -- the tables hold these suppliers, and otherwise what `t` has
-record Holds (t : Tables) (suppliers : List SupplierRow) (after : Tables) : Type 0 where
+record HoldsSuppliers (t : Tables) (suppliers : List SupplierRow) (after : Tables) : Type 0 where
   pub hubs : after.hubs ≡ t.hubs
   pub rest : OnlyParties t after
   pub enrolled : Enrolled after
@@ -51,34 +51,34 @@ module _ (one : SupplierRow) (others : List SupplierRow) where
       head [] all = all.0
       head (y ∷ ys) all = head ys all.1
 
-  all_apart : (done : List SupplierRow) → Free (done ++ one ∷ others) → AllByRecursion (Apart one) done
+  all_apart : (done : List SupplierRow) → SuppliersApart (done ++ one ∷ others) → AllByRecursion (PrefixesApart one) done
   all_apart [] free = tt
   all_apart (s ∷ done) free = (apart_back s one (head done free.0), all_apart done free.1)
     where
-      head : (ys : List SupplierRow) → AllByRecursion (Apart s) (ys ++ one ∷ others) → Apart s one
+      head : (ys : List SupplierRow) → AllByRecursion (PrefixesApart s) (ys ++ one ∷ others) → PrefixesApart s one
       head [] all = all.0
       head (y ∷ ys) all = head ys all.1
 
 -- adding one supplier after another
 enrolled_in_turn : (t start : Tables) (done rows : List SupplierRow)
-    → Holds start done t
+    → HoldsSuppliers start done t
     → Rises supplier_cmp (done ++ rows)
-    → Free (done ++ rows)
+    → SuppliersApart (done ++ rows)
     → AllByRecursion (λ (s : SupplierRow). rising s.prefixes ≡ true) rows
-    → Holds start (done ++ rows) (apply_all (suppliers_changes rows) t)
+    → HoldsSuppliers start (done ++ rows) (apply_all (suppliers_changes rows) t)
 enrolled_in_turn t start done [] holds rises free right =
-    subst (λ suppliers. Holds start suppliers t) (sym (append-nil done)) holds
+    subst (λ suppliers. HoldsSuppliers start suppliers t) (sym (append-nil done)) holds
 enrolled_in_turn t start done (row ∷ rows) holds rises free right =
     let below = all_below row rows done rises in
     let new : has_key t.keys row.gln ≡ false = none_if (λ k. same k.supplier row.gln) t.keys (λ k there.
     let less = all_of (λ s. supplier_cmp s row ≡ Less) done below (row_in t.prefixes k)
     (subst (λ suppliers. Has suppliers (row_in t.prefixes k)) holds.held (has_map (row_in t.prefixes) t.keys k there)) in
     sym (is_eq-slice_cmp k.supplier row.gln) ∙ ap is_eq less) in
-    let apart : (s : SupplierRow) → Has (suppliers_of t) s → Apart row s = λ s there.
-    all_of (Apart row) done (all_apart row rows done free) s (subst (λ suppliers. Has suppliers s) holds.held there) in
+    let apart : (s : SupplierRow) → Has (suppliers_of t) s → PrefixesApart row s = λ s there.
+    all_of (PrefixesApart row) done (all_apart row rows done free) s (subst (λ suppliers. Has suppliers s) holds.held there) in
     let last : put supplier_cmp row done ≡ done ++ row ∷ [] = put_last supplier_cmp done row
     (all_weaker (λ s. supplier_cmp s row ≡ Less) (λ s. is_gt (supplier_cmp s row) ≡ false) (λ s less. ap is_gt less) done below) in
-    let next : Holds start (done ++ row ∷ []) (with_row row t) = record {
+    let next : HoldsSuppliers start (done ++ row ∷ []) (with_row row t) = record {
       hubs = holds.hubs;
       rest = ap (λ (u : Tables). record u {
         hubs = t.hubs;
@@ -90,9 +90,9 @@ enrolled_in_turn t start done (row ∷ rows) holds rises free right =
     } in
     let joined = append_assoc done (row ∷ []) rows in
     let all = enrolled_in_turn (with_row row t) start (done ++ row ∷ []) rows next (subst (Rises supplier_cmp) (sym joined) rises)
-    (subst Free (sym joined) free) right.1 in
-    subst (λ suppliers. Holds start suppliers (apply_all (suppliers_changes (row ∷ rows)) t)) joined
-    (subst (Holds start ((done ++ row ∷ []) ++ rows)) (sym (applied_in_turn (row_changes row) (suppliers_changes rows) t
+    (subst SuppliersApart (sym joined) free) right.1 in
+    subst (λ suppliers. HoldsSuppliers start suppliers (apply_all (suppliers_changes (row ∷ rows)) t)) joined
+    (subst (HoldsSuppliers start ((done ++ row ∷ []) ++ rows)) (sym (applied_in_turn (row_changes row) (suppliers_changes rows) t
     ∙ ap (apply_all (suppliers_changes rows)) (row_added row t))) all)
 
 -- what every register guarantees, for its suppliers one by one
@@ -129,7 +129,7 @@ module _ (register : RegisterRows) (right : IsRegister register) where
   abbrev with_hub : Tables
   with_hub = apply (AddHub hub_row) empty
 
-  all_held : Holds with_hub register.suppliers (founded register)
+  all_held : HoldsSuppliers with_hub register.suppliers (founded register)
   all_held = enrolled_in_turn with_hub with_hub [] register.suppliers
       (record {
         hubs = refl;

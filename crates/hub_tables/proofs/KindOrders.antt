@@ -104,7 +104,7 @@ mail_set r =
 
 -- A relation between the rows of one kind before and after a change. It holds if they stay the same, if a row is
 -- inserted, and if a row replaces the one with its key.
-pub record Steps (R : (X : Type 0) → (X → X → Ordering) → List X → List X → Type 0) : Type 1 where
+pub record KindRelation (R : (X : Type 0) → (X → X → Ordering) → List X → List X → Type 0) : Type 1 where
   pub stay : {X : Type 0} (cmp : X → X → Ordering) (rows : List X) → R X cmp rows rows
   pub add : {X : Type 0} (cmp : X → X → Ordering) → IsTotalOrder cmp → (rows : List X) (r : X) → R X cmp rows (put cmp r rows)
   pub set : {X : Type 0} (cmp : X → X → Ordering) (at : X → Bool) (r : X)
@@ -113,7 +113,7 @@ pub record Steps (R : (X : Type 0) → (X → X → Ordering) → List X → Lis
       → R X cmp rows (replace at r rows)
 
 -- So it holds for each kind before and after any change; if rows are deleted, that must be shown.
-module _ {R : (X : Type 0) → (X → X → Ordering) → List X → List X → Type 0} (steps : Steps R) where
+module _ {R : (X : Type 0) → (X → X → Ordering) → List X → List X → Type 0} (steps : KindRelation R) where
   pub hubs_after : (c : Change) (t : Tables) → R _ hub_cmp t.hubs (apply c t).hubs
   hubs_after (AddHub r) t = steps.add hub_cmp hub_total t.hubs r
   hubs_after (SetHub r) t = steps.set hub_cmp (same_hub r) r (hub_set r) t.hubs
@@ -170,7 +170,7 @@ module _ {R : (X : Type 0) → (X → X → Ordering) → List X → List X → 
 abbrev StaysInOrder : (X : Type 0) → (X → X → Ordering) → List X → List X → Type 0
 StaysInOrder X cmp rows after = InOrder cmp rows → InOrder cmp after
 
-keep_order : Steps StaysInOrder
+keep_order : KindRelation StaysInOrder
 keep_order = record {
   stay = λ cmp rows h. h;
   add = λ cmp total. in_order_put total;

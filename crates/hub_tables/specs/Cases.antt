@@ -1,8 +1,8 @@
 -- Defines the number that a row's column holds for each case of an enum.
 use Rattle.std.specs.Prelude.{ℕ, ◌<◌, Bool, true, false, List, [], ◌∷◌}
 use Rattle.std.proofs.Common.{arith}
-use Rattle.hub_tables.specs.declared.cases.Answered.{Answered}
-use Rattle.hub_tables.specs.declared.cases.Answered.TheVariants as answers
+use Rattle.hub_tables.specs.declared.cases.LineState.{LineState}
+use Rattle.hub_tables.specs.declared.cases.LineState.TheVariants as answers
 use Rattle.hub_tables.specs.declared.cases.Side.{Side}
 use Rattle.hub_tables.specs.declared.cases.Side.TheVariants as sides
 use Rattle.hub_tables.specs.declared.cases.MailKind.{MailKind}
@@ -11,7 +11,7 @@ use Rattle.hub_tables.specs.declared.cases.Arrival.{Arrival}
 use Rattle.hub_tables.specs.declared.cases.Arrival.TheVariants as arrivals
 
 -- the letter of an answer: W waiting, A accepted, N not accepted, C changed
-abbrev pub answer_letter : Answered → ℕ
+abbrev pub answer_letter : LineState → ℕ
 answer_letter answers.Waiting = 0x57
 answer_letter answers.Accepted = 0x41
 answer_letter answers.NotAccepted = 0x4E
@@ -40,7 +40,7 @@ truth_number false = 0
 truth_number true = 1
 
 -- all cases of each enum
-abbrev pub every_answer : List Answered
+abbrev pub every_answer : List LineState
 every_answer = answers.Waiting ∷ answers.Accepted ∷ answers.NotAccepted ∷ answers.Changed ∷ []
 
 abbrev pub every_side : List Side
@@ -56,7 +56,7 @@ abbrev pub every_truth : List Bool
 every_truth = true ∷ false ∷ []
 
 -- each number fits in one byte
-pub answers_small : (answer : Answered) → answer_letter answer < 256
+pub answers_small : (answer : LineState) → answer_letter answer < 256
 answers_small answers.Waiting = omega arith
 answers_small answers.Accepted = omega arith
 answers_small answers.NotAccepted = omega arith

@@ -6,7 +6,7 @@ use Rattle.std.specs.Option.{unwrap_or}
 use Rattle.hub_tables.specs.Cases.{answer_letter, side_letter, arrival_number, truth_number}
 use Rattle.hub_tables.specs.Rows.{same}
 use Rattle.hub_tables.specs.Tables.{Tables}
-use Rattle.hub_tables.specs.declared.cases.Answered.TheVariants.{Waiting}
+use Rattle.hub_tables.specs.declared.cases.LineState.TheVariants.{Waiting}
 use Rattle.hub_tables.specs.declared.cases.Arrival.TheVariants.{Announced, Replaced}
 use Rattle.hub_tables.specs.declared.cases.Side.{Side}
 use Rattle.hub_tables.specs.declared.rows.LineRow.{LineRow}

@@ -3,7 +3,7 @@ use crate::column::Case;
 
 /// The answer to an order line.
 #[derive(Clone, Copy, Debug, PartialEq, Eq)]
-pub enum Answered {
+pub enum LineState {
     /// W: not answered yet.
     Waiting,
     /// A: accepted without amendment (LIN 1229 5, BGM 1225 29).
@@ -14,7 +14,7 @@ pub enum Answered {
     Changed,
 }
 
-impl Case for Answered {
+impl Case for LineState {
     ghost use Rattle.hub_tables.specs.Cases.{answer_letter, every_answer, answers_small};
 
     ghost number = { answer_letter };
@@ -25,19 +25,19 @@ impl Case for Answered {
 
     fn code(self) -> u8 {
         match self {
-            Answered::Waiting => b'W',
-            Answered::Accepted => b'A',
-            Answered::NotAccepted => b'N',
-            Answered::Changed => b'C',
+            LineState::Waiting => b'W',
+            LineState::Accepted => b'A',
+            LineState::NotAccepted => b'N',
+            LineState::Changed => b'C',
         }
     }
 
     fn all() -> &'static [Self] {
         &[
-            Answered::Waiting,
-            Answered::Accepted,
-            Answered::NotAccepted,
-            Answered::Changed,
+            LineState::Waiting,
+            LineState::Accepted,
+            LineState::NotAccepted,
+            LineState::Changed,
         ]
     }
 }

@@ -9,7 +9,7 @@ mod laws;
 mod register;
 mod rows;
 
-pub use cases::{Answered, Arrival, MailKind, Side};
+pub use cases::{Arrival, LineState, MailKind, Side};
 pub use change::Change;
 pub use column::{Case, Column};
 pub use laws::{founded_tables_hold_their_register, rows_are_a_set};

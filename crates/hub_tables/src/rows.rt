@@ -1,6 +1,6 @@
 //! Defines the rows of the eleven kinds. Contracts see texts as lists of numbers and enum columns as numbers, so they
 //! can also describe stored rows that these types do not allow.
-use crate::cases::{Answered, Arrival, MailKind, Side};
+use crate::cases::{Arrival, LineState, MailKind, Side};
 use crate::column::Column;
 use edi_base::Items;
 use edi_envelope::Moment;
@@ -65,7 +65,7 @@ pub struct LineRow {
     /// The quantity that the retailer cancelled.
     pub cancelled: u32,
     /// The supplier's answer to the line.
-    pub answer: Column<Answered>,
+    pub answer: Column<LineState>,
 }
 
 /// A despatch advice. Key: supplier and number.

@@ -9,7 +9,7 @@ ghost use Rattle.hub_store.specs.declared.fault.LastingFault.TheVariants as last
 ghost use Rattle.hub_store.specs.declared.fault.StoreFault.TheVariants.{Memory, Disk, Unclean, Version};
 
 use crate::lists::lists;
-use edi_base::{MemoryFault, copied};
+use edi_base::{MemoryFault, copy_bytes};
 use gs1_ids::Gln;
 use hub_store::{LastingFault, Store, StoreFault};
 use hub_tables::{Change, OrderRow};
@@ -110,7 +110,7 @@ fn commit_listed(store: &mut VecStore, changes: &[Change]) -> Result<(), StoreFa
 const ORDER: &[u8] = b"128575";
 
 fn order(alloc: Global, supplier: Gln) -> Result<Change, MemoryFault> {
-    let number = copied(alloc, ORDER)?;
+    let number = copy_bytes(alloc, ORDER)?;
     Ok(Change::AddOrder(OrderRow { supplier, number }))
 }
 

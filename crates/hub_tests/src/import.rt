@@ -1,7 +1,7 @@
 ghost use Rattle.std.specs.Prelude.{length};
 
 use crate::lists::lists;
-use edi_base::{MemoryFault, ReadFault, Sink, Source, copied};
+use edi_base::{MemoryFault, ReadFault, Sink, Source, copy_bytes};
 use edi_envelope::Moment;
 use gs1_ids::Gln;
 use hub_commands::{Files, Hub, Input, NamedFile, NextFile, Request, import_run};
@@ -221,7 +221,7 @@ fn asked(alloc: Global) -> Result<Input, Fail> {
     Ok(Input {
         moment,
         caller,
-        key: copied(alloc, b"retail-key")?,
+        key: copy_bytes(alloc, b"retail-key")?,
         request: Request::Status,
     })
 }

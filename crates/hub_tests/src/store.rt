@@ -1,11 +1,11 @@
 use crate::lists::lists;
-use edi_base::{Items, MemoryFault, copied};
+use edi_base::{Items, MemoryFault, copy_bytes};
 use edi_envelope::Moment;
 use gs1_ids::{Gln, Gtin, Sscc};
 use hub_store::{LastingFault, MailHead, Store, StoreFault};
 use hub_tables::{
-    AdviceRow, Answered, Arrival, Change, Column, ContentRow, LineRow, MailKind, MailRow, OrderRow,
-    PalletRow, ReceiptRow, RememberedRow, Side,
+    AdviceRow, Arrival, Change, Column, ContentRow, LineRow, LineState, MailKind, MailRow,
+    OrderRow, PalletRow, ReceiptRow, RememberedRow, Side,
 };
 use std::alloc::Global;
 use std::process::Abort;
@@ -47,14 +47,14 @@ fn ids_of(supplier: &[u8]) -> Option<Ids> {
 fn line(alloc: Global, ids: &Ids, line: u32, open_qty: u32) -> Result<LineRow, MemoryFault> {
     Ok(LineRow {
         supplier: ids.supplier,
-        number: copied(alloc, ORDER)?,
+        number: copy_bytes(alloc, ORDER)?,
         line,
         gtin: ids.item,
         ordered: 48,
         open_qty,
         refused: 0,
         cancelled: 0,
-        answer: Column::of(Answered::Waiting),
+        answer: Column::of(LineState::Waiting),
     })
 }
 
@@ -65,8 +65,8 @@ fn mail(alloc: Global, ids: &Ids, number: u64) -> Result<MailRow, MemoryFault> {
         moment: ids.moment,
         decimal: b'.',
         kind: Column::of(MailKind::Orders),
-        document: copied(alloc, ORDER)?,
-        body: copied(alloc, b"UNH+1'")?,
+        document: copy_bytes(alloc, ORDER)?,
+        body: copy_bytes(alloc, b"UNH+1'")?,
         taken: Column::of(false),
     })
 }
@@ -86,16 +86,16 @@ fn remembering(alloc: Global, ids: &Ids) -> Result<Change, MemoryFault> {
     Ok(Change::Remember(RememberedRow {
         supplier: ids.supplier,
         side: Column::of(Side::Retailer),
-        control: copied(alloc, b"1001")?,
-        message: copied(alloc, b"7")?,
-        content: copied(alloc, SAID)?,
+        control: copy_bytes(alloc, b"1001")?,
+        message: copy_bytes(alloc, b"7")?,
+        content: copy_bytes(alloc, SAID)?,
     }))
 }
 
 fn adding_order(alloc: Global, ids: &Ids) -> Result<Change, MemoryFault> {
     Ok(Change::AddOrder(OrderRow {
         supplier: ids.supplier,
-        number: copied(alloc, ORDER)?,
+        number: copy_bytes(alloc, ORDER)?,
     }))
 }
 
@@ -120,7 +120,7 @@ fn ordered(alloc: Global, ids: &Ids) -> Result<Items<Change>, MemoryFault> {
 fn adding_advice(alloc: Global, ids: &Ids) -> Result<Change, MemoryFault> {
     Ok(Change::AddAdvice(AdviceRow {
         supplier: ids.supplier,
-        number: copied(alloc, b"DES1")?,
+        number: copy_bytes(alloc, b"DES1")?,
     }))
 }
 
@@ -128,7 +128,7 @@ fn adding_pallet(alloc: Global, ids: &Ids) -> Result<Change, MemoryFault> {
     Ok(Change::AddPallet(PalletRow {
         sscc: ids.pallet,
         supplier: ids.supplier,
-        advice: copied(alloc, b"DES1")?,
+        advice: copy_bytes(alloc, b"DES1")?,
         received: Column::of(Arrival::Announced),
     }))
 }
@@ -137,7 +137,7 @@ fn adding_content(alloc: Global, ids: &Ids) -> Result<Change, MemoryFault> {
     Ok(Change::AddContent(ContentRow {
         sscc: ids.pallet,
         place: 1,
-        number: copied(alloc, ORDER)?,
+        number: copy_bytes(alloc, ORDER)?,
         line: 1,
         quantity: 48,
     }))

@@ -1,4 +1,4 @@
-use hub_tables::{Answered, Arrival, Case, Column, MailKind, Side};
+use hub_tables::{Arrival, Case, Column, LineState, MailKind, Side};
 use std::fmt::Debug;
 use std::process::Abort;
 
@@ -8,11 +8,11 @@ fn assert_kept<C: Case + Copy + Debug + PartialEq>(rt: &impl Abort, cases: &[C])
     }
 }
 
-static ANSWERS: [Answered; 4] = [
-    Answered::Waiting,
-    Answered::Accepted,
-    Answered::NotAccepted,
-    Answered::Changed,
+static ANSWERS: [LineState; 4] = [
+    LineState::Waiting,
+    LineState::Accepted,
+    LineState::NotAccepted,
+    LineState::Changed,
 ];
 
 static SIDES: [Side; 3] = [Side::Retailer, Side::Supplier, Side::Cancellation];

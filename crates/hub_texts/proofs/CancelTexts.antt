@@ -18,7 +18,7 @@ use Rattle.hub_law.specs.CancelText.{cancel_text}
 use Rattle.hub_law.specs.Widths.{line}
 use Rattle.hub_law.specs.HubRules.declared.cancel.Cancel.{Cancel}
 use Rattle.hub_texts.specs.Cancel.{is_end, positive, cancel_with, cancel_in, cancel_of}
-use Rattle.hub_texts.specs.CancelLaw.{five_lines, Says}
+use Rattle.hub_texts.specs.CancelLaw.{five_lines, SaysCancel}
 use Rattle.hub_texts.proofs.Cutting.{in_one_line, cut_line}
 use Rattle.hub_texts.proofs.Digits.{decimal_positive, positive_within}
 
@@ -77,7 +77,7 @@ positive_inside most field n h =
     in_one_line is_digit digit_inside field (and_parts (has_length 1 most field) (list_all is_digit field) digits).1
 
 -- what five lines within their limits are read as
-pub said : (body : List ℕ) (c : Cancel) → Says body c → cancel_of body ≡ Some c
+pub said : (body : List ℕ) (c : Cancel) → SaysCancel body c → cancel_of body ≡ Some c
 said body c says =
     ap cancel_of says.lines
     ∙ ap cancel_in (five_cut c.supplier c.reference c.order says.number says.quantity (gln_inside c.supplier says.supplier)
@@ -112,7 +112,8 @@ given_with s r o l q (Some n) (Some m) c is_n is_m h =
       numbers = (is_n ∙ ap (λ (c : Cancel). Some c.line) read.1, is_m ∙ ap (λ (c : Cancel). Some c.quantity) read.1);
     }
 
-says_of : (body : List ℕ) (parts : List (List ℕ)) (c : Cancel) → slice_split is_end body ≡ parts → cancel_in parts ≡ Some c → Says body c
+says_of : (body : List ℕ) (parts : List (List ℕ)) (c : Cancel) → slice_split is_end body ≡ parts → cancel_in parts ≡ Some c
+    → SaysCancel body c
 says_of body [] c cut h = absurd (cc)
 says_of body (s ∷ []) c cut h = absurd (cc)
 says_of body (s ∷ r ∷ []) c cut h = absurd (cc)
@@ -134,7 +135,7 @@ says_of body (s ∷ r ∷ o ∷ l ∷ q ∷ [] ∷ []) c cut h =
       is_quantity = given.numbers.1;
     }
 
-pub says : (body : List ℕ) (c : Cancel) → cancel_of body ≡ Some c → Says body c
+pub says : (body : List ℕ) (c : Cancel) → cancel_of body ≡ Some c → SaysCancel body c
 says body c h = says_of body (slice_split is_end body) c refl h
 
 -- the text of a cancellation that was read is read back as the same one

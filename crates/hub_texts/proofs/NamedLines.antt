@@ -19,19 +19,19 @@ use Rattle.hub_order_lines.proofs.InOrder.{first_at, prefix_len-map}
 use Rattle.hub_texts.specs.Articles.{precedes_named, line_of_content}
 
 -- an order number and a line number
-abbrev pub Place : Type 0
-Place = List ℕ × ℕ
+abbrev pub LinePlace : Type 0
+LinePlace = List ℕ × ℕ
 
-abbrev pub cmp_places : Place → Place → Ordering
+abbrev pub cmp_places : LinePlace → LinePlace → Ordering
 cmp_places a b = ordering_then (bytes_cmp a.0 b.0) (nat_cmp a.1 b.1)
 
 pub places_total : IsTotalOrder cmp_places
-places_total = then_total (on_total (λ (p : Place). p.0) nat_list_cmp_total) (on_total (λ (p : Place). p.1) nat_cmp_total)
+places_total = then_total (on_total (λ (p : LinePlace). p.0) nat_list_cmp_total) (on_total (λ (p : LinePlace). p.1) nat_cmp_total)
 
-abbrev pub place_of : LineRow → Place
+abbrev pub place_of : LineRow → LinePlace
 place_of row = (row.number, row.line)
 
-abbrev pub named_place : ContentRow → Place
+abbrev pub named_place : ContentRow → LinePlace
 named_place content = (content.number, content.line)
 
 pub in_order : (lines : List LineRow) → Rises place_cmp lines → InOrder (λ a b. cmp_places (place_of a) (place_of b)) lines

@@ -15,7 +15,7 @@ five_lines supplier reference order number quantity =
 
 -- the body has five lines: the supplier, a GLN; the cancellation's own reference; the order number; the line number in
 -- 1 to 6 digits; and the quantity in 1 to 9 digits. Neither number is zero.
-pub record Says (body : List ℕ) (c : Cancel) : Type 0 where
+pub record SaysCancel (body : List ℕ) (c : Cancel) : Type 0 where
   pub number : List ℕ
   pub quantity : List ℕ
   pub lines : body ≡ five_lines c.supplier c.reference c.order number quantity

@@ -11,7 +11,7 @@ ghost use Rattle.hub_texts.specs.Cancel as spec;
 ghost use Rattle.hub_texts.specs.Cancel.{cancel_of, is_end};
 
 use crate::fields::put_line;
-use edi_base::{Items, MemoryFault, all_printable, are_digits, copied, has_length, value_of};
+use edi_base::{Items, MemoryFault, all_printable, are_digits, copy_bytes, has_length, value_of};
 use gs1_ids::Gln;
 use hub_law::Cancel;
 use itoa::Buffer;
@@ -154,8 +154,8 @@ pub fn cancel_with(alloc: Global, fields: &CancelFields<'_>) -> Result<Option<Ca
     }
     Ok(Some(Cancel {
         supplier,
-        reference: copied(alloc, fields.reference)?,
-        order: copied(alloc, fields.order)?,
+        reference: copy_bytes(alloc, fields.reference)?,
+        order: copy_bytes(alloc, fields.order)?,
         line,
         quantity,
     }))

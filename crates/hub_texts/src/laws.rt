@@ -10,13 +10,13 @@ ghost use Rattle.hub_law.specs.HubRules.Sound.{Balanced, Sound};
 ghost use Rattle.hub_law.specs.CancelText.{cancel_text};
 ghost use Rattle.hub_law.specs.HubRules.declared.cancel.Cancel.{Cancel};
 ghost use Rattle.hub_texts.specs.Cancel.{cancel_of, cancel_with, positive};
-ghost use Rattle.hub_texts.specs.CancelLaw.{Says, five_lines};
+ghost use Rattle.hub_texts.specs.CancelLaw.{SaysCancel, five_lines};
 
 /// A body is read as a cancellation exactly if it is five lines within their limits that give the cancellation's
 /// fields, with or without leading zeros in the numbers.
 pub fn cancel_is_five_lines()
-    ensures read { (body : List ℕ) (c : Cancel) → Says body c → cancel_of body ≡ Some c }
-    ensures said { (body : List ℕ) (c : Cancel) → cancel_of body ≡ Some c → Says body c }
+    ensures read { (body : List ℕ) (c : Cancel) → SaysCancel body c → cancel_of body ≡ Some c }
+    ensures said { (body : List ℕ) (c : Cancel) → cancel_of body ≡ Some c → SaysCancel body c }
 {}
 
 /// The cancellation of five texts is the one that the body of their lines says.

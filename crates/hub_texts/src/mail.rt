@@ -54,7 +54,7 @@ fn put_heads(out: &mut Vec<u8>, heads: &[MailHead]) -> Result<(), MemoryFault>
 }
 
 // Returns the entries that a list shows.
-fn listed(heads: &[MailHead]) -> &[MailHead]
+fn listed_heads(heads: &[MailHead]) -> &[MailHead]
     ensures { result.now ≡ take spec.list_limit heads.now }
 {
     if heads.len() > LIST_LIMIT {
@@ -82,7 +82,7 @@ pub fn list_text(alloc: Global, heads: &[MailHead]) -> Result<Items<u8>, MemoryF
         take (spec.list_limit + 1) (map head_of all) ≡ heads.now → text ≡ spec.list_text all) }
 {
     let mut out = Vec::new(alloc);
-    put_heads(&mut out, listed(heads))?;
+    put_heads(&mut out, listed_heads(heads))?;
     put_line(&mut out, last_word(heads).as_bytes())?;
     Ok(Items::from_vec(out))
 }

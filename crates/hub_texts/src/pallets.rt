@@ -93,7 +93,7 @@ fn put_totals(out: &mut Vec<u8>, totals: &Totals) -> Result<(), MemoryFault>
 }
 
 // Returns all that is received of an article.
-fn received(totals: &Totals) -> u128
+fn received_total(totals: &Totals) -> u128
     ensures { result ≡ totals.now.accepted + totals.now.returned + totals.now.destroyed }
 {
     totals.accepted as u128 + totals.returned as u128 + totals.destroyed as u128
@@ -110,7 +110,12 @@ fn put_article(
 {
     put_article_start(out, pallet, gtin)?;
     put_totals(out, totals)?;
-    put_difference(out, pallet, received(totals), totals.despatched as u128)?;
+    put_difference(
+        out,
+        pallet,
+        received_total(totals),
+        totals.despatched as u128,
+    )?;
     put_end(out)?;
     Ok(())
 }

@@ -14,7 +14,7 @@ ghost use Rattle.hub_transactions.specs.Named.{NamedUnclean, SomeUnclean};
 ghost use Rattle.hub_transactions.specs.Knowing.{KeepsNamed, KnowsForDespatch};
 ghost use Rattle.hub_transactions.specs.Orders.{ForgetsOrders, KeepsOrders};
 
-use crate::knowing::{is_repetition, keep_order, known_with};
+use crate::knowing::{is_repetition, keep_order, known_for_message};
 use edi_base::{Items, MemoryFault};
 use edi_goods::{Despatch, Unit};
 use gs1_ids::Gln;
@@ -171,7 +171,7 @@ fn put_answer(answers: &mut Items<bool>, answer: bool) -> Result<(), MemoryFault
 }
 
 // Looks up whether the SSCC of each unit is in use.
-fn used_of<S: Store>(
+fn units_in_use<S: Store>(
     alloc: Global,
     store: &mut S,
     units: &[Unit],
@@ -224,9 +224,12 @@ pub(crate) fn known_for_despatch<'a, S: Store>(
     let number = despatch.number.as_slice();
     let number_known = store.advice_known(supplier, number)?;
     if remembered.is_some() || number_known {
-        return Ok((known_with(alloc, remembered, number_known, orders), apart));
+        return Ok((
+            known_for_message(alloc, remembered, number_known, orders),
+            apart,
+        ));
     }
-    let used = used_of(alloc, store, units)?;
+    let used = units_in_use(alloc, store, units)?;
     let numbers = orders_named(alloc, units)?;
     let named = lines_named(alloc, units)?;
     know_orders(

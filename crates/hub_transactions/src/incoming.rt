@@ -2,7 +2,7 @@
 ghost use Rattle.std.specs.Prelude.{◌≡◌, IfOk};
 ghost use Rattle.hub_acts.specs.HubLaw.Messages.{incoming};
 
-use edi_base::{Items, MemoryFault, copied};
+use edi_base::{Items, MemoryFault, copy_bytes};
 use edi_envelope::{Interchange, Moment, RawMessage};
 use edi_tokens::body_text;
 use hub_judges::IncomingMessage;
@@ -19,8 +19,8 @@ pub(crate) fn incoming_of(
 {
     let content = body_text(alloc, message.segments.as_slice())?;
     Ok(IncomingMessage {
-        control: copied(alloc, interchange.head.reference.as_slice())?,
-        message: copied(alloc, message.reference.as_slice())?,
+        control: copy_bytes(alloc, interchange.head.reference.as_slice())?,
+        message: copy_bytes(alloc, message.reference.as_slice())?,
         content: Items::from_vec(content),
         moment,
         decimal: interchange.decimal,

@@ -166,7 +166,7 @@ fn known_of_order<S: Store>(
 }
 
 /// Returns what is known for a supplier's message: what is remembered, whether its number is known, and orders.
-pub(crate) fn known_with(
+pub(crate) fn known_for_message(
     alloc: Global,
     remembered: Option<bool>,
     number_known: bool,
@@ -258,10 +258,13 @@ pub(crate) fn known_for_response<S: Store>(
     let order = response.order.as_slice();
     let remembered = is_repetition(store, supplier, Side::Supplier, incoming)?;
     if remembered.is_some() {
-        return Ok((known_with(alloc, remembered, false, orders), None));
+        return Ok((known_for_message(alloc, remembered, false, orders), None));
     }
     if let Some(named) = named_lines(alloc, store, supplier, response, &orders)? {
-        return Ok((known_with(alloc, remembered, false, named), Some(orders)));
+        return Ok((
+            known_for_message(alloc, remembered, false, named),
+            Some(orders),
+        ));
     }
     let mut known = known_of_order(alloc, store, supplier, order, remembered, orders)?;
     if names_an_article(&response.answer) {

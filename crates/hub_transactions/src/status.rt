@@ -50,7 +50,7 @@ fn with_text(
 }
 
 // Looks up what was received of a pallet. An announced pallet needs no look-up, because nothing was received of it.
-fn received_of<S: Store>(
+fn receipt_rows_of<S: Store>(
     alloc: Global,
     store: &mut S,
     pallet: &PalletRow,
@@ -94,7 +94,7 @@ fn with_pallets<S: Store>(
     let mut whole = text;
     for pallet in pallets {
         let announced = store.contents_on(&pallet.sscc)?;
-        let received = received_of(alloc, store, pallet)?;
+        let received = receipt_rows_of(alloc, store, pallet)?;
         let contents = announced.as_slice();
         let receipts = received.as_slice();
         whole = with_text(alloc, lines, pallet, contents, receipts, whole)?;

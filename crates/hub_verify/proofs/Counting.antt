@@ -1,6 +1,6 @@
 -- What is counted of rows that were read.
 use Rattle.std.proofs.Common.{◌≡◌, ℕ, Bool, List, length, count_by, Ok, ap, ◌∙◌}
-use Rattle.hub_sound.specs.Finding.{Key}
+use Rattle.hub_sound.specs.Finding.{RowKey}
 use Rattle.hub_tables.specs.Tables.{Tables}
 use Rattle.hub_verify.specs.AllRows.{Tells, IsRead}
 use Rattle.hub_verify.specs.Counts.{AreCounts, is_open, is_received, is_untaken}
@@ -10,7 +10,7 @@ use Rattle.hub_verify.proofs.Reading.{rows_are}
 use Rattle.hub_verify.proofs.Telling.{follows, then}
 
 module _ {S : Type 0} (content : S → Tables) (honest : S → Type 0) where
-  module _ {X : Type 0} (key_of : X → Key) (clean : X → Bool) (rows : Tables → List X) (old mid : S) (read : Found X) (xs : List X)
+  module _ {X : Type 0} (key_of : X → RowKey) (clean : X → Bool) (rows : Tables → List X) (old mid : S) (read : Found X) (xs : List X)
       (is : read ≡ Rows xs) (was_read : Tells content honest (λ t. IsRead key_of clean (rows t)) old mid (Ok read)) where
     pub counted : (n : ℕ) → n ≡ length xs → Tells content honest (λ t n. n ≡ length (rows t)) old mid (Ok n)
     counted n count =
@@ -22,28 +22,29 @@ module _ {S : Type 0} (content : S → Tables) (honest : S → Type 0) where
       → Tells content honest (λ t y. one t x × two t y) old new (Ok y)
   both one two old mid new x y a b = then content honest one two (λ t y. one t x × two t y) old mid new x (λ t h z it. (h, it)) a (Ok y) b
 
-  abbrev Keys : Tables → ℕ → Type 0
-  Keys t n = n ≡ length t.keys
+  abbrev CountsKeys : Tables → ℕ → Type 0
+  CountsKeys t n = n ≡ length t.keys
 
-  abbrev Orders : Tables → ℕ → Type 0
-  Orders t n = n ≡ length t.orders
+  abbrev CountsOrders : Tables → ℕ → Type 0
+  CountsOrders t n = n ≡ length t.orders
 
-  abbrev Lines : Tables → ℕ × ℕ → Type 0
-  Lines t n = (n.0 ≡ length t.lines) × (n.1 ≡ count_by is_open t.lines)
+  abbrev CountsLines : Tables → ℕ × ℕ → Type 0
+  CountsLines t n = (n.0 ≡ length t.lines) × (n.1 ≡ count_by is_open t.lines)
 
-  abbrev Pallets : Tables → ℕ × ℕ → Type 0
-  Pallets t n = (n.0 ≡ length t.pallets) × (n.1 ≡ count_by is_received t.pallets)
+  abbrev CountsPallets : Tables → ℕ × ℕ → Type 0
+  CountsPallets t n = (n.0 ≡ length t.pallets) × (n.1 ≡ count_by is_received t.pallets)
 
-  abbrev Entries : Tables → ℕ × ℕ → Type 0
-  Entries t n = (n.0 ≡ length t.mail) × (n.1 ≡ count_by is_untaken t.mail)
+  abbrev CountsEntries : Tables → ℕ × ℕ → Type 0
+  CountsEntries t n = (n.0 ≡ length t.mail) × (n.1 ≡ count_by is_untaken t.mail)
 
-  abbrev Messages : Tables → ℕ → Type 0
-  Messages t n = n ≡ length t.remembered
+  abbrev CountsMessages : Tables → ℕ → Type 0
+  CountsMessages t n = n ≡ length t.remembered
 
   pub all_counted : (s0 s1 s2 s3 s4 s5 s6 : S) (a b : ℕ) (c d e : ℕ × ℕ) (f : ℕ)
-      → Tells content honest Keys s0 s1 (Ok a) → Tells content honest Orders s1 s2 (Ok b) → Tells content honest Lines s2 s3 (Ok c)
-      → Tells content honest Pallets s3 s4 (Ok d) → Tells content honest Entries s4 s5 (Ok e)
-      → Tells content honest Messages s5 s6 (Ok f)
+      → Tells content honest CountsKeys s0 s1 (Ok a) → Tells content honest CountsOrders s1 s2 (Ok b)
+      → Tells content honest CountsLines s2 s3 (Ok c)
+      → Tells content honest CountsPallets s3 s4 (Ok d) → Tells content honest CountsEntries s4 s5 (Ok e)
+      → Tells content honest CountsMessages s5 s6 (Ok f)
       → Tells content honest AreCounts s0 s6 (Ok (record {
         suppliers = a;
         orders = b;
@@ -56,7 +57,8 @@ module _ {S : Type 0} (content : S → Tables) (honest : S → Type 0) where
         remembered = f;
       }))
   all_counted s0 s1 s2 s3 s4 s5 s6 a b c d e f ka kb kc kd ke kf =
-      follows content honest (λ t n. Keys t a × (Orders t b × (Lines t c × (Pallets t d × (Entries t e × Messages t n)))))
+      follows content honest (λ t n. CountsKeys t a × (CountsOrders t b × (CountsLines t c × (CountsPallets t d × (CountsEntries t e ×
+      CountsMessages t n)))))
       AreCounts s0 s6 f _
       (λ t h. record {
         suppliers = h.0;
@@ -69,8 +71,9 @@ module _ {S : Type 0} (content : S → Tables) (honest : S → Type 0) where
         untaken_entries = h.1.1.1.1.0.1;
         remembered = h.1.1.1.1.1;
       })
-      (both Keys (λ t n. Orders t b × (Lines t c × (Pallets t d × (Entries t e × Messages t n)))) s0 s1 s6 a f ka
-      (both Orders (λ t n. Lines t c × (Pallets t d × (Entries t e × Messages t n))) s1 s2 s6 b f kb
-      (both Lines (λ t n. Pallets t d × (Entries t e × Messages t n)) s2 s3 s6 c f kc
-      (both Pallets (λ t n. Entries t e × Messages t n) s3 s4 s6 d f kd
-      (both Entries Messages s4 s5 s6 e f ke kf)))))
+      (both CountsKeys (λ t n. CountsOrders t b × (CountsLines t c × (CountsPallets t d × (CountsEntries t e × CountsMessages t n)))) s0 s1
+      s6 a f ka
+      (both CountsOrders (λ t n. CountsLines t c × (CountsPallets t d × (CountsEntries t e × CountsMessages t n))) s1 s2 s6 b f kb
+      (both CountsLines (λ t n. CountsPallets t d × (CountsEntries t e × CountsMessages t n)) s2 s3 s6 c f kc
+      (both CountsPallets (λ t n. CountsEntries t e × CountsMessages t n) s3 s4 s6 d f kd
+      (both CountsEntries CountsMessages s4 s5 s6 e f ke kf)))))

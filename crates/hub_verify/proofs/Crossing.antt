@@ -4,8 +4,8 @@ use Rattle.std.proofs.Common.{Ok, refl, sym, ◌∙◌, ap, subst}
 use Rattle.std.specs.Borrow.{Bor}
 use Rattle.std.specs.List.{list_all}
 use Rattle.std.proofs.lemmas.Bool.{and_from}
-use Rattle.hub_sound.specs.Finding.{Key}
-use Rattle.hub_sound.specs.Showing.{Fails, ShowsUnsound}
+use Rattle.hub_sound.specs.Finding.{RowKey}
+use Rattle.hub_sound.specs.Showing.{FailsTest, ShowsUnsound}
 use Rattle.hub_sound.specs.declared.finding.Finding.{Finding}
 use Rattle.hub_sound.specs.declared.finding.RowKind.{RowKind}
 use Rattle.hub_tables.specs.Sets.{Has}
@@ -22,7 +22,7 @@ use Rattle.hub_verify.specs.Cross.{ShowsUnrooted}
 use Rattle.hub_verify.specs.AllRows.{Tells}
 use Rattle.hub_verify.specs.Pieces.{piece}
 use Rattle.hub_verify.specs.Verdict.{Told, ToldUnsound}
-use Rattle.hub_verify.proofs.Telling.{IsFirst, follows, then}
+use Rattle.hub_verify.proofs.Telling.{IsFirstFailing, follows, then}
 use Rattle.hub_verify.proofs.Walking.{piece_fails}
 
 not_true : (b : Bool) → not b ≡ true → b ≡ false
@@ -48,27 +48,28 @@ found_fails p xs x found =
     (it.0, not_true (p x) it.1)
 
 -- rows that were read, each with the form of its kind
-module _ {S : Type 0} (content : S → Tables) (honest : S → Type 0) {X : Type 0} (key_of : X → Key) (clean : X → Bool)
+module _ {S : Type 0} (content : S → Tables) (honest : S → Type 0) {X : Type 0} (key_of : X → RowKey) (clean : X → Bool)
     (rows : Tables → List X) (p : Tables → X → Bool) (old mid new : S) (xs ys : List X) (slice : ys ≡ xs)
     (was_read : Tells content honest (λ t found. (found ≡ rows t) × (list_all clean found ≡ true)) old mid (Ok xs))
     (first : Option (Bor X)) where
   abbrev First : Tables → Option (Bor X) → Type 0
-  First t found = (ys ≡ rows t) × IsFirst content honest p ys t found
+  First t found = (ys ≡ rows t) × IsFirstFailing content honest p ys t found
 
-  looked_up : Tells content honest (IsFirst content honest p ys) mid new (Ok first) → Tells content honest First old new (Ok first)
-  looked_up looked = then content honest (λ t found. (found ≡ rows t) × (list_all clean found ≡ true)) (IsFirst content honest p ys) First
+  looked_up : Tells content honest (IsFirstFailing content honest p ys) mid new (Ok first) → Tells content honest First old new (Ok first)
+  looked_up looked =
+      then content honest (λ t found. (found ≡ rows t) × (list_all clean found ≡ true)) (IsFirstFailing content honest p ys) First
       old mid new xs (λ t h found it. (slice ∙ h.0, it)) was_read (Ok first) looked
 
-  pub told_none : first ≡ None → Tells content honest (IsFirst content honest p ys) mid new (Ok first)
+  pub told_none : first ≡ None → Tells content honest (IsFirstFailing content honest p ys) mid new (Ok first)
       → Tells content honest (ToldUnsound (λ t. list_all (p t) (rows t) ≡ true)) old new (Ok None)
   told_none none looked =
       follows content honest First (ToldUnsound (λ t. list_all (p t) (rows t) ≡ true)) old new first None
       (λ t h. subst (λ zs. list_all (p t) zs ≡ true) h.0 (none_fails (p t) ys (ap option_copied (sym none) ∙ h.1)))
       (looked_up looked)
 
-  pub told_some : (b : Bor X) → first ≡ Some b → Tells content honest (IsFirst content honest p ys) mid new (Ok first)
+  pub told_some : (b : Bor X) → first ≡ Some b → Tells content honest (IsFirstFailing content honest p ys) mid new (Ok first)
       → (kind : RowKind)
-      → ((t : Tables) (key : Key) → Fails key_of (p t) (rows t) key → ShowsUnsound t kind key)
+      → ((t : Tables) (key : RowKey) → FailsTest key_of (p t) (rows t) key → ShowsUnsound t kind key)
       → (found : Finding) → (found.kind ≡ kind) × (found.key ≡ key_of b.now)
       → Tells content honest (ToldUnsound (λ t. list_all (p t) (rows t) ≡ true)) old new (Ok (Some found))
   told_some b some looked kind shows found named =

@@ -5,7 +5,7 @@ use Rattle.hub_founding.specs.Fits.{fits_pallet}
 use Rattle.hub_founding.specs.Founding.{IsHeldBy}
 use Rattle.hub_parties.specs.Rows.{RegisterRows}
 use Rattle.hub_sound.specs.Finding.{pallet_key}
-use Rattle.hub_sound.specs.Showing.{Fails, ShowsUnsound}
+use Rattle.hub_sound.specs.Showing.{FailsTest, ShowsUnsound}
 use Rattle.hub_sound.specs.declared.finding.Finding.{Finding}
 use Rattle.hub_sound.specs.declared.finding.RowKind.TheVariants as kinds
 use Rattle.hub_sound.proofs.Showing.{unclean_shows, shows_none, checked_sound}
@@ -16,8 +16,8 @@ use Rattle.hub_verify.specs.AllRows.{Tells}
 use Rattle.hub_verify.specs.Cross.{TellsRooted, PartiesFit, RowsFit}
 use Rattle.hub_verify.specs.Goods.{TellsOfAll}
 use Rattle.hub_verify.specs.Verdict.{ToldUnclean, ToldUnsound, IsVerdict}
-use Rattle.hub_verify.specs.declared.verdict.Verdict.{Verdict as Judged}
-use Rattle.hub_verify.specs.declared.verdict.Verdict.TheVariants.{Sound, Unclean, Unsound}
+use Rattle.hub_verify.specs.declared.verdict.RowsVerdict.{RowsVerdict as Judged}
+use Rattle.hub_verify.specs.declared.verdict.RowsVerdict.TheVariants.{Sound, Unclean, Unsound}
 use Rattle.hub_verify.proofs.Telling.{follows, then}
 
 module _ {S : Type 0} (content : S → Tables) (honest : S → Type 0) where
@@ -40,20 +40,20 @@ module _ {S : Type 0} (content : S → Tables) (honest : S → Type 0) where
       one : (t : Tables) → IsHeldBy t (Some register) → (f : Option Finding) → TellsRooted register t f → ToldUnsound PartiesFit t f
       one t h None it = record { register = h.0; pallets = subst (λ r. list_all (fits_pallet r) t.pallets ≡ true) h.1 it }
       one t h (Some f) it =
-          subst (λ kind. ShowsUnsound t kind f.key) (sym it.0) (subst (λ r. Fails pallet_key (fits_pallet r) t.pallets f.key) h.1 it.1)
+          subst (λ kind. ShowsUnsound t kind f.key) (sym it.0) (subst (λ r. FailsTest pallet_key (fits_pallet r) t.pallets f.key) h.1 it.1)
 
   -- The verdict.
 
-  abbrev pub Says : Tables → Judged → Type 0
-  Says t verdict = Rising t → IsVerdict t verdict
+  abbrev pub SaysVerdict : Tables → Judged → Type 0
+  SaysVerdict t verdict = Rising t → IsVerdict t verdict
 
   abbrev Clean : Tables → Type 0
   Clean t = are_clean t ≡ true
 
   pub unclean_told : (old mid : S) (o : Option Finding) (f : Finding) → o ≡ Some f
-      → Tells content honest (ToldUnclean Clean) old mid (Ok o) → Tells content honest Says old mid (Ok (Unclean f))
+      → Tells content honest (ToldUnclean Clean) old mid (Ok o) → Tells content honest SaysVerdict old mid (Ok (Unclean f))
   unclean_told old mid o f some =
-      follows content honest (ToldUnclean Clean) Says old mid o (Unclean f)
+      follows content honest (ToldUnclean Clean) SaysVerdict old mid o (Unclean f)
       (λ t h rising. let it = subst (ToldUnclean Clean t) some h in (unclean_shows t f.kind f.key it, it))
 
   -- clean rows, and what was found of them then
@@ -71,9 +71,9 @@ module _ {S : Type 0} (content : S → Tables) (honest : S → Type 0) where
   shown t f clean it = (clean, λ hub. shows_none t clean hub f.kind f.key it, it)
 
   pub lacking_told : (old new : S) (o : Option Finding) (f : Finding) → o ≡ Some f
-      → Tells content honest (CleanAnd (ToldUnsound RowsFit)) old new (Ok o) → Tells content honest Says old new (Ok (Unsound f))
+      → Tells content honest (CleanAnd (ToldUnsound RowsFit)) old new (Ok o) → Tells content honest SaysVerdict old new (Ok (Unsound f))
   lacking_told old new o f some =
-      follows content honest (CleanAnd (ToldUnsound RowsFit)) Says old new o (Unsound f)
+      follows content honest (CleanAnd (ToldUnsound RowsFit)) SaysVerdict old new o (Unsound f)
       (λ t h rising. shown t f h.0 (subst (ToldUnsound RowsFit t) some h.1))
 
   abbrev pub OfAll : Tables → Option Finding → Type 0
@@ -90,15 +90,15 @@ module _ {S : Type 0} (content : S → Tables) (honest : S → Type 0) where
       (λ t h y it. (h.0, (subst (ToldUnsound RowsFit t) none h.1, it))) a (Ok x) b
 
   pub misfit_told : (old new : S) (o : Option Finding) (f : Finding) → o ≡ Some f
-      → Tells content honest FitAnd old new (Ok o) → Tells content honest Says old new (Ok (Unsound f))
+      → Tells content honest FitAnd old new (Ok o) → Tells content honest SaysVerdict old new (Ok (Unsound f))
   misfit_told old new o f some =
-      follows content honest FitAnd Says old new o (Unsound f)
+      follows content honest FitAnd SaysVerdict old new o (Unsound f)
       (λ t h rising. shown t f h.0 (subst (TellsOfAll t) some (h.1.1 rising h.0)))
 
   pub sound_told : (old new : S) (o : Option Finding) → o ≡ None
-      → Tells content honest FitAnd old new (Ok o) → Tells content honest Says old new (Ok Sound)
+      → Tells content honest FitAnd old new (Ok o) → Tells content honest SaysVerdict old new (Ok Sound)
   sound_told old new o none =
-      follows content honest FitAnd Says old new o Sound
+      follows content honest FitAnd SaysVerdict old new o Sound
       (λ t h rising.
       let goods = subst (TellsOfAll t) none (h.1.1 rising h.0) in
       let fit = h.1.0 in (

@@ -1,7 +1,7 @@
 -- Rows that were read.
 use Rattle.std.proofs.Common.{◌≡◌, ℕ, Bool, true, List, Ok, ap, subst, ◌∙◌}
 use Rattle.std.specs.List.{list_all}
-use Rattle.hub_sound.specs.Finding.{Key}
+use Rattle.hub_sound.specs.Finding.{RowKey}
 use Rattle.hub_tables.specs.Tables.{Tables}
 use Rattle.hub_verify.specs.AllRows.{Tells, IsRead}
 use Rattle.hub_verify.specs.Pieces.{piece}
@@ -9,13 +9,13 @@ use Rattle.hub_verify.specs.declared.all_rows.Read.{Read as Found}
 use Rattle.hub_verify.specs.declared.all_rows.Read.TheVariants.{Rows}
 use Rattle.hub_verify.proofs.Telling.{follows}
 
-pub rows_are : {X : Type 0} (key_of : X → Key) (clean : X → Bool) (rows : List X) (read : Found X) (xs : List X) → read ≡ Rows xs
+pub rows_are : {X : Type 0} (key_of : X → RowKey) (clean : X → Bool) (rows : List X) (read : Found X) (xs : List X) → read ≡ Rows xs
     → IsRead key_of clean rows read
     → xs ≡ rows
 rows_are key_of clean rows read xs is it = (subst (IsRead key_of clean rows) is it).0
 
 module _ {S : Type 0} (content : S → Tables) (honest : S → Type 0) {X : Type 0} (rows : Tables → List X) (column : X → List ℕ)
-    (key_of : X → Key) (clean : X → Bool) (value : List ℕ) where
+    (key_of : X → RowKey) (clean : X → Bool) (value : List ℕ) where
   -- the rows with a value, each with the form of its kind
   abbrev pub ArePiece : Tables → List X → Type 0
   ArePiece t xs = (xs ≡ piece column value (rows t)) × (list_all clean xs ≡ true)

@@ -3,8 +3,8 @@ use Rattle.std.proofs.Common.{◌≡◌, ◌+◌, ◌<◌, ◌≤◌, Bool, true
 use Rattle.std.proofs.Common.{Option, Some, None, option_copied, Result, Ok, Err, refl, sym, ◌∙◌, ap, subst}
 use Rattle.std.specs.Borrow.{Bor}
 use Rattle.std.specs.List.{list_all}
-use Rattle.hub_sound.specs.Finding.{Key}
-use Rattle.hub_sound.specs.Showing.{Fails, ShowsUnclean}
+use Rattle.hub_sound.specs.Finding.{RowKey}
+use Rattle.hub_sound.specs.Showing.{FailsTest, ShowsUnclean}
 use Rattle.hub_sound.specs.declared.finding.Finding.{Finding}
 use Rattle.hub_sound.specs.declared.finding.RowKind.{RowKind}
 use Rattle.hub_sound.proofs.Settling.{find_next, find_here, find_none}
@@ -54,8 +54,8 @@ module _ {S : Type 0} (content : S → Tables) (honest : S → Type 0) where
 
   -- Rows of a kind.
 
-  pub told_read : {X : Type 0} (key_of : X → Key) (clean : X → Bool) (rows : Tables → List X) (kind : RowKind)
-      → ((t : Tables) (key : Key) → Fails key_of clean (rows t) key → ShowsUnclean t kind key)
+  pub told_read : {X : Type 0} (key_of : X → RowKey) (clean : X → Bool) (rows : Tables → List X) (kind : RowKind)
+      → ((t : Tables) (key : RowKey) → FailsTest key_of clean (rows t) key → ShowsUnclean t kind key)
       → (old new : S) (read : Found X) (found : Option Finding) → found ≡ unclean_of kind read
       → Tells content honest (λ t. IsRead key_of clean (rows t)) old new (Ok read)
       → Tells content honest (ToldUnclean (λ t. list_all clean (rows t) ≡ true)) old new (Ok found)
@@ -110,8 +110,8 @@ module _ {S : Type 0} (content : S → Tables) (honest : S → Type 0) where
     abbrev pub SoFar : ℕ → Tables → Unit {0} → Type 0
     SoFar i t u = find (λ x. not (p t x)) xs ≡ find (λ x. not (p t x)) (drop i xs)
 
-    abbrev pub IsFirst : Tables → Option (Bor X) → Type 0
-    IsFirst t found = option_copied found ≡ find (λ x. not (p t x)) xs
+    abbrev pub IsFirstFailing : Tables → Option (Bor X) → Type 0
+    IsFirstFailing t found = option_copied found ≡ find (λ x. not (p t x)) xs
 
     pub begins : (s : S) → Tells content honest (SoFar 0) s s (Ok tt)
     begins s = at_once (SoFar 0) s tt refl
@@ -126,10 +126,10 @@ module _ {S : Type 0} (content : S → Tables) (honest : S → Type 0) where
       passes holds = follows (λ t b. SoFar i t tt × (b ≡ p t x)) (SoFar (i + 1)) old new b tt
           (λ t h. find_next xs i x inside at (λ x. not (p t x)) (ap not (sym h.1 ∙ holds)) h.0) both
 
-      pub fails : b ≡ false → (found : Bor X) → found.now ≡ x → Tells content honest IsFirst old new (Ok (Some found))
-      fails other found is = follows (λ t b. SoFar i t tt × (b ≡ p t x)) IsFirst old new b (Some found)
+      pub fails : b ≡ false → (found : Bor X) → found.now ≡ x → Tells content honest IsFirstFailing old new (Ok (Some found))
+      fails other found is = follows (λ t b. SoFar i t tt × (b ≡ p t x)) IsFirstFailing old new b (Some found)
           (λ t h. ap Some is ∙ find_here xs i x inside at (λ x. not (p t x)) (ap not (sym h.1 ∙ other)) h.0) both
 
     pub ends : (i : ℕ) → length xs ≤ i → (old mid : S) → Tells content honest (SoFar i) old mid (Ok tt)
-        → Tells content honest IsFirst old mid (Ok None)
-    ends i over old mid = follows (SoFar i) IsFirst old mid tt None (λ t h. find_none (λ x. not (p t x)) xs i over h)
+        → Tells content honest IsFirstFailing old mid (Ok None)
+    ends i over old mid = follows (SoFar i) IsFirstFailing old mid tt None (λ t h. find_none (λ x. not (p t x)) xs i over h)

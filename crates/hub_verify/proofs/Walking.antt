@@ -8,8 +8,8 @@ use Rattle.std.specs.Ordering.{is_eq, ordering_reverse}
 use Rattle.std.proofs.lemmas.Cmp.{nat_list_cmp_total}
 use Rattle.std.proofs.lemmas.Map.Text.{is_eq-slice_cmp}
 use Rattle.hub_parties.specs.KeyOrder.{bytes_cmp}
-use Rattle.hub_sound.specs.Finding.{Key}
-use Rattle.hub_sound.specs.Showing.{Fails}
+use Rattle.hub_sound.specs.Finding.{RowKey}
+use Rattle.hub_sound.specs.Showing.{FailsTest}
 use Rattle.hub_sound.specs.declared.finding.Finding.{Finding}
 use Rattle.hub_sound.proofs.Deciding.{all_true, true_all, from_filter}
 use Rattle.hub_tables.specs.Rows.{same}
@@ -81,8 +81,8 @@ pieces_pass column p rows each =
     (all_true p (piece column value rows) (each value (has_map column rows x there))) x
     (has_filter (λ row. same (column row) value) rows x there (same_if (column x) value refl))))
 
-pub piece_fails : {X : Type 0} (column : X → List ℕ) (value : List ℕ) (key_of : X → Key) (p : X → Bool) (rows : List X) (key : Key)
-    → Fails key_of p (piece column value rows) key → Fails key_of p rows key
+pub piece_fails : {X : Type 0} (column : X → List ℕ) (value : List ℕ) (key_of : X → RowKey) (p : X → Bool) (rows : List X) (key : RowKey)
+    → FailsTest key_of p (piece column value rows) key → FailsTest key_of p rows key
 piece_fails column value key_of p rows key it =
     (it.0, from_filter (λ row. same (column row) value) rows it.0 it.1, it.2, it.3)
 

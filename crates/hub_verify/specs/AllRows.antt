@@ -1,8 +1,8 @@
 -- What calls tell of rows that they do not change.
 use Rattle.std.specs.Prelude.{◌≡◌, ◌⊎◌, Bool, true, List, Result, IfOk, IfErr, OnOk}
 use Rattle.std.specs.List.{list_all}
-use Rattle.hub_sound.specs.Finding.{Key}
-use Rattle.hub_sound.specs.Showing.{Fails}
+use Rattle.hub_sound.specs.Finding.{RowKey}
+use Rattle.hub_sound.specs.Showing.{FailsTest}
 use Rattle.hub_store.specs.declared.fault.StoreFault.{StoreFault}
 use Rattle.hub_store.specs.declared.fault.StoreFault.TheVariants as faults
 use Rattle.hub_tables.specs.Tables.{Tables}
@@ -22,6 +22,6 @@ pub record Tells {S X : Type 0} (content : S → Tables) (honest : S → Type 0)
   pub fails : IfErr result IsReadFault
 
 -- these are the rows, each with the form of its kind; or the key is that of one without it
-abbrev pub IsRead : {X : Type 0} → (X → Key) → (X → Bool) → List X → Found X → Type 0
+abbrev pub IsRead : {X : Type 0} → (X → RowKey) → (X → Bool) → List X → Found X → Type 0
 IsRead key_of clean rows (Rows found) = (found ≡ rows) × (list_all clean rows ≡ true)
-IsRead key_of clean rows (Unclean key) = Fails key_of clean rows key
+IsRead key_of clean rows (Unclean key) = FailsTest key_of clean rows key

@@ -4,7 +4,7 @@ use Rattle.std.specs.List.{list_all}
 use Rattle.hub_founding.specs.Fits.{fits_pallet}
 use Rattle.hub_parties.specs.Rows.{RegisterRows}
 use Rattle.hub_sound.specs.Finding.{pallet_key}
-use Rattle.hub_sound.specs.Showing.{Fails, has_order, is_on_pallet, is_of_received, goes_on}
+use Rattle.hub_sound.specs.Showing.{FailsTest, has_order, is_on_pallet, is_of_received, goes_on}
 use Rattle.hub_sound.specs.declared.finding.Finding.{Finding}
 use Rattle.hub_sound.specs.declared.finding.RowKind.TheVariants.{Pallet}
 use Rattle.hub_tables.specs.Register.{HoldsRegister, register_of}
@@ -13,7 +13,7 @@ use Rattle.hub_verify.specs.Verdict.{Told}
 
 -- it is a pallet that is under no prefix that this register has for its supplier
 abbrev pub ShowsUnrooted : RegisterRows → Tables → Finding → Type 0
-ShowsUnrooted register t found = (found.kind ≡ Pallet) × Fails pallet_key (fits_pallet register) t.pallets found.key
+ShowsUnrooted register t found = (found.kind ≡ Pallet) × FailsTest pallet_key (fits_pallet register) t.pallets found.key
 
 -- each pallet is under a prefix that this register has for its supplier; or it is a pallet that is not
 abbrev pub TellsRooted : RegisterRows → Tables → Option Finding → Type 0

@@ -5,8 +5,8 @@ use Rattle.hub_sound.specs.HubRules.Laws.{SoundHub}
 use Rattle.hub_sound.specs.declared.finding.Finding.{Finding}
 use Rattle.hub_store.specs.Clean.{are_clean}
 use Rattle.hub_tables.specs.Tables.{Tables}
-use Rattle.hub_verify.specs.declared.verdict.Verdict.{Verdict as Judged}
-use Rattle.hub_verify.specs.declared.verdict.Verdict.TheVariants.{Sound, Unclean, Unsound}
+use Rattle.hub_verify.specs.declared.verdict.RowsVerdict.{RowsVerdict as Judged}
+use Rattle.hub_verify.specs.declared.verdict.RowsVerdict.TheVariants.{Sound, Unclean, Unsound}
 
 -- nothing was found, so this holds; or what was found shows that
 abbrev pub Told : {X : Type 0} → Type 0 → (X → Type 0) → Option X → Type 0

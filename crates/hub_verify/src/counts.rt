@@ -158,7 +158,7 @@ fn orders<S: AllRows>(store: &mut S, alloc: Global) -> Result<usize, StoreFault>
     Ok(counted.0)
 }
 
-fn remembered<S: AllRows>(store: &mut S, alloc: Global) -> Result<usize, StoreFault>
+fn remembered_messages<S: AllRows>(store: &mut S, alloc: Global) -> Result<usize, StoreFault>
     ensures { Tells S.content S.honest (λ t n. n ≡ length t.remembered) store.old store.new result }
 {
     let counted = count_all::<S, RememberedRow>(store, alloc)?;
@@ -199,7 +199,7 @@ pub fn count<S: AllRows>(store: &mut S, alloc: Global) -> Result<Counts, StoreFa
     let ordered = lines(store, alloc)?;
     let despatched = pallets(store, alloc)?;
     let mail = entries(store, alloc)?;
-    let messages = remembered(store, alloc)?;
+    let messages = remembered_messages(store, alloc)?;
     Ok(Counts {
         suppliers: keys,
         orders: numbers,

@@ -16,5 +16,5 @@ mod whole;
 pub use all_rows::{AllRows, Read};
 pub use counts::{Counts, count};
 pub use piece_kind::PieceKind;
-pub use verdict::Verdict;
+pub use verdict::RowsVerdict;
 pub use whole::verify;

@@ -2,7 +2,7 @@
 ghost use Rattle.std.specs.Prelude.{◌≡◌, Bool, ℕ, List, IfOk, IfErr, map, true, refl};
 ghost use Rattle.std.specs.List.{list_all};
 ghost use Rattle.hub_sound.specs.Finding as keys;
-ghost use Rattle.hub_sound.specs.Showing.{Fails, ShowsUnclean};
+ghost use Rattle.hub_sound.specs.Showing.{FailsTest, ShowsUnclean};
 ghost use Rattle.hub_sound.specs.declared.finding.RowKind.{RowKind};
 ghost use Rattle.hub_sound.specs.declared.finding.RowKind.TheVariants as kinds;
 ghost use Rattle.hub_store.specs.Clean as forms;
@@ -30,7 +30,7 @@ pub(crate) trait PieceRow: Sized + Drop {
     ghost column: { Self → List ℕ };
 
     /// The key of a row.
-    ghost key_of: { Self → keys.Key };
+    ghost key_of: { Self → keys.RowKey };
 
     /// Whether a row has the form of its kind.
     ghost clean: { Self → Bool };
@@ -58,8 +58,8 @@ pub(crate) trait PieceRow: Sized + Drop {
     ghost valued: { (t : Tables) → values_in divided t ≡ map column (rows t) };
 
     /// One that is not clean shows it.
-    ghost shows_unclean: { (t : Tables) (key : keys.Key) →
-        Fails key_of clean (rows t) key → ShowsUnclean t named key };
+    ghost shows_unclean: { (t : Tables) (key : keys.RowKey) →
+        FailsTest key_of clean (rows t) key → ShowsUnclean t named key };
 }
 
 impl PieceRow for OrderRow {

@@ -28,8 +28,8 @@ pub(crate) trait Placed: PieceRow {
         ensures { IfOk result (λ found. (found.kind ≡ Self.named) × (found.key ≡ Self.key_of self.now)) };
 
     /// One that is not in its place shows it.
-    ghost shows_unsound: { (t : Tables) (key : keys.Key) →
-        showing.Fails Self.key_of (in_place t) (Self.rows t) key → showing.ShowsUnsound t Self.named key };
+    ghost shows_unsound: { (t : Tables) (key : keys.RowKey) →
+        showing.FailsTest Self.key_of (in_place t) (Self.rows t) key → showing.ShowsUnsound t Self.named key };
 }
 
 impl Placed for LineRow {

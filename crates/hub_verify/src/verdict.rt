@@ -3,7 +3,7 @@ use hub_sound::Finding;
 
 /// Whether rows are clean and a sound start.
 #[derive(Drop)]
-pub enum Verdict {
+pub enum RowsVerdict {
     /// The rows are clean and a sound start.
     Sound,
     /// This row does not have the form of its kind.

@@ -7,7 +7,7 @@ use crate::all_rows::AllRows;
 use crate::clean::unclean_row;
 use crate::cross::unsound_row;
 use crate::goods::unsound_goods;
-use crate::verdict::Verdict;
+use crate::verdict::RowsVerdict;
 use hub_store::StoreFault;
 use std::alloc::Global;
 
@@ -18,21 +18,21 @@ use std::alloc::Global;
 /// # Errors
 ///
 /// `Memory` or `Disk`; what was found before is then lost.
-pub fn verify<S: AllRows>(store: &mut S, alloc: Global) -> Result<Verdict, StoreFault>
+pub fn verify<S: AllRows>(store: &mut S, alloc: Global) -> Result<RowsVerdict, StoreFault>
     ensures { Tells S.content S.honest (λ t verdict. Rising t → IsVerdict t verdict)
         store.old store.new result }
 {
     let unclean = unclean_row(store, alloc)?;
     if let Some(found) = unclean {
-        return Ok(Verdict::Unclean(found));
+        return Ok(RowsVerdict::Unclean(found));
     }
     let lacking = unsound_row(store, alloc)?;
     if let Some(found) = lacking {
-        return Ok(Verdict::Unsound(found));
+        return Ok(RowsVerdict::Unsound(found));
     }
     let misfit = unsound_goods(store, alloc)?;
     if let Some(found) = misfit {
-        return Ok(Verdict::Unsound(found));
+        return Ok(RowsVerdict::Unsound(found));
     }
-    Ok(Verdict::Sound)
+    Ok(RowsVerdict::Sound)
 }

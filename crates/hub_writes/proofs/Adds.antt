@@ -26,7 +26,7 @@ use Rattle.sql_rows.specs.Cells.{AreOf}
 use Rattle.sql_rows.proofs.Inserts.{inserts}
 use Rattle.sql_rows.proofs.Refusals.{not_unique, refused}
 use Rattle.sql_rows.proofs.Rowids.{put_next}
-use Rattle.sql_rows.proofs.Unique.{IsNew, keeps_unique}
+use Rattle.sql_rows.proofs.Unique.{HasNewKey, keeps_unique}
 use Rattle.hub_parties.specs.KeyOrder.{put, Rises}
 use Rattle.hub_tables.specs.Change.{apply_all}
 use Rattle.hub_tables.specs.Sets.{Rising}
@@ -38,10 +38,10 @@ use Rattle.hub_schema.specs.Schema.{hub_schema}
 use Rattle.hub_schema.specs.State.{IsHub, Makes}
 use Rattle.hub_writes.proofs.Alters.{ReadsAs, altered}
 use Rattle.hub_writes.proofs.Keys.{listed_last, is_new}
-use Rattle.hub_writes.proofs.RowKinds.{Kind, kinds_of, makes_rows, ordered, plain}
+use Rattle.hub_writes.proofs.RowKinds.{StoredKind, kinds_of, makes_rows, ordered, plain}
 
 -- what a statement that adds a row does, and when it is refused because the key exists already
-pub record Adds (change : Change) (sql : List ℕ) (cells : Row) : Type 1 where
+pub record AddsRow (change : Change) (sql : List ℕ) (cells : Row) : Type 1 where
   pub placed : (t : Tables) → have_places (change ∷ []) t ≡ true
   pub makes :
       (old new : State) (r : Result ℕ Error) → IsHub old → old.in_transaction ≡ true
@@ -57,7 +57,7 @@ keys_of tree = filter (λ i. i.is_unique && (i.table == tree))
 module _ (rows : List Row) (new : Row) where
   -- no row has the key of the new one
   abbrev IsNewBy : Index → Type 0
-  IsNewBy i = IsNew i.order i.columns new rows
+  IsNewBy i = HasNewKey i.order i.columns new rows
 
   -- the keys of other tables do not matter
   new_by_one : (tree : ℕ) (i : Index) (more : List Index) (b : Bool)
@@ -73,7 +73,7 @@ module _ (rows : List Row) (new : Row) where
       let parts = new_by_one tree i more (i.is_unique && (i.table == tree)) fresh in
       (parts.0, new_by_all tree more parts.1)
 
-module _ {X : Type 0} (kind : Kind X) where
+module _ {X : Type 0} (kind : StoredKind X) where
   -- a stored row that agrees with the new one in the columns of a key also has the same key as a row of its kind
   abbrev pub AreTied : X → Row → List Index → Type 0
   AreTied row new keys =
@@ -158,5 +158,5 @@ module _ {X : Type 0} (kind : Kind X) where
         new cells h in
         (it.0, λ hub rising. it.1 hub.schema (keeps old hub rising))
 
-    pub adds : Adds change sql cells
+    pub adds : AddsRow change sql cells
     adds = record { placed = placed; makes = makes; fits_not = fits_not }

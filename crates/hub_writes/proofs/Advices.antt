@@ -15,12 +15,12 @@ use Rattle.hub_tables.proofs.KindOrders.{advice_total}
 use Rattle.hub_schema.specs.Rows.{advice_in}
 use Rattle.hub_schema.specs.Schema.{advice_table}
 use Rattle.hub_schema.proofs.Single.{advice_cells}
-use Rattle.hub_writes.proofs.Adds.{Adds, IsTied, adds}
+use Rattle.hub_writes.proofs.Adds.{AddsRow, IsTied, adds}
 use Rattle.hub_writes.proofs.Alters.{ReadsAs}
 use Rattle.hub_writes.proofs.Keys.{agreeing, bytes_are}
-use Rattle.hub_writes.proofs.RowKinds.{Kind}
+use Rattle.hub_writes.proofs.RowKinds.{StoredKind}
 
-abbrev pub advice_kind : Kind AdviceRow
+abbrev pub advice_kind : StoredKind AdviceRow
 advice_kind = record {
   cmp = advice_cmp;
   total = advice_total;
@@ -63,7 +63,7 @@ module _ (row : AdviceRow) where
     tt,
   )
 
-  pub adds_advice : Adds (AddAdvice row) add_advice cells
+  pub adds_advice : AddsRow (AddAdvice row) add_advice cells
   adds_advice =
       adds advice_kind (AddAdvice row) row cells add_advice terms 3 add_advice_is (λ t. refl)
       (λ t. refl) (λ db. rw cast_null) (λ n. refl) tied

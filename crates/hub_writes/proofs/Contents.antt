@@ -15,12 +15,12 @@ use Rattle.hub_tables.proofs.KindOrders.{content_total}
 use Rattle.hub_schema.specs.Rows.{content_in}
 use Rattle.hub_schema.specs.Schema.{content_table}
 use Rattle.hub_schema.proofs.Single.{content_cells}
-use Rattle.hub_writes.proofs.Adds.{Adds, IsTied, adds}
+use Rattle.hub_writes.proofs.Adds.{AddsRow, IsTied, adds}
 use Rattle.hub_writes.proofs.Alters.{ReadsAs}
 use Rattle.hub_writes.proofs.Keys.{agreeing, bytes_are, number_is, number_shown}
-use Rattle.hub_writes.proofs.RowKinds.{Kind}
+use Rattle.hub_writes.proofs.RowKinds.{StoredKind}
 
-abbrev pub content_kind : Kind ContentRow
+abbrev pub content_kind : StoredKind ContentRow
 content_kind = record {
   cmp = content_cmp;
   total = content_total;
@@ -54,10 +54,10 @@ module _ (row : ContentRow) where
   cells = Blob row.sscc ∷ Int (pos row.place) ∷ Blob row.number ∷ Int (pos row.line) ∷ Int (pos row.quantity) ∷ []
 
   -- each number fits a u64
-  abbrev pub IsLow : Type 0
-  IsLow = (row.place < 2 ^ 64) × (row.line < 2 ^ 64) × (row.quantity < 2 ^ 64)
+  abbrev pub IsLowContent : Type 0
+  IsLowContent = (row.place < 2 ^ 64) × (row.line < 2 ^ 64) × (row.quantity < 2 ^ 64)
 
-  module _ (low : IsLow) where
+  module _ (low : IsLowContent) where
     read_back : (n : ℤ) → content_in (Int n ∷ cells) ≡ row
     read_back n = rw (number_shown row.place low.0, number_shown row.line low.1, number_shown row.quantity low.2)
 
@@ -71,7 +71,7 @@ module _ (row : ContentRow) where
       tt,
     )
 
-    pub adds_content : Adds (AddContent row) add_content cells
+    pub adds_content : AddsRow (AddContent row) add_content cells
     adds_content =
         adds content_kind (AddContent row) row cells add_content terms 6 add_content_is (λ t. refl)
         (λ t. refl) (λ db. rw (

@@ -95,11 +95,11 @@ module _ {S : Type 0} (g : Ghosts S) (old mid end : Held S) (changes : List Chan
   begun_hub : IsHub (state g old) → IsHub begun
   begun_hub hub = record { schema = hub.schema; numbered = hub.numbered; ordered = hub.ordered; sound = hub.sound }
 
-  abbrev IsSettled : Type 0
-  IsSettled = IsTrue (state g old).is_open → (state g old).now ≡ (state g old).committed
+  abbrev WasCommitted : Type 0
+  WasCommitted = IsTrue (state g old).is_open → (state g old).now ≡ (state g old).committed
 
   -- the changes failed, and the transaction is rolled back
-  pub failed : (fault : StoreFault) → Acts changes begun (state g mid) (Err fault) → IsSettled
+  pub failed : (fault : StoreFault) → Acts changes begun (state g mid) (Err fault) → WasCommitted
       → end.in_transaction ≡ false → (HasCleanDisk (state g end) → IsRolledBack (state g mid) (state g end))
       → Survives (state g mid) (state g end) (λ _. ⊥)
       → CommitsTo changes (state g old) (state g end) (Err fault)
@@ -129,18 +129,18 @@ module _ {S : Type 0} (g : Ghosts S) (old mid end : Held S) (changes : List Chan
         ];
       }
 
-  abbrev Ended : Trees → Type 0
-  Ended db = db ≡ (state g mid).now.trees
+  abbrev EndsWithTrees : Trees → Type 0
+  EndsWithTrees db = db ≡ (state g mid).now.trees
 
   module _ (it : Acts changes begun (state g mid) (Ok tt)) (was_open : HasCleanDisk (state g mid)
-      → IsTrue begun.is_open) (last : Survives (state g mid) (state g end) Ended) where
+      → IsTrue begun.is_open) (last : Survives (state g mid) (state g end) EndsWithTrees) where
     early : HasCleanDisk (state g end) → HasCleanDisk (state g mid)
     early = clean_before (state g mid) (state g end) _ last
 
     made : HasCleanDisk (state g end) → Holds (state g old) → Makes (apply_all changes) begun (state g mid)
     made clean holds = it.makes (early clean) (begun_hub (holds (was_open (early clean)))) refl
 
-    none_done : IsSettled → HasCleanDisk (state g end) → Holds (state g old) → IsTrue (state g end).is_open
+    none_done : WasCommitted → HasCleanDisk (state g end) → Holds (state g old) → IsTrue (state g end).is_open
         → (e : Error) → FailsToCommit (state g mid) (state g end) e
         → IsTrue (state g old).is_open × ((state g end).now ≡ (state g old).now)
     none_done settled clean holds o e (inl fails) =
@@ -163,7 +163,7 @@ module _ {S : Type 0} (g : Ghosts S) (old mid end : Held S) (changes : List Chan
         (survives_begin g old (state g mid) _ it.survives) last
 
     -- the transaction ends with a commit, and both give one result
-    pub succeeded : (r : Result (Unit {0}) Error) → IsSettled → end.in_transaction ≡ false
+    pub succeeded : (r : Result (Unit {0}) Error) → WasCommitted → end.in_transaction ≡ false
         → (HasCleanDisk (state g end)
         → OnOk r (Shows (state g mid) (state g end) (state g mid).now (state g mid).now false))
         → (HasCleanDisk (state g end) → IfErr r (FailsToCommit (state g mid) (state g end)))

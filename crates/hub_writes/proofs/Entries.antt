@@ -24,13 +24,13 @@ use Rattle.hub_schema.specs.Rows.{mail_in}
 use Rattle.hub_schema.specs.Schema.{mail_table}
 use Rattle.hub_schema.proofs.Single.{mail_kinds, mail_cells}
 use Rattle.hub_writes.specs.Mail as spec
-use Rattle.hub_writes.proofs.Adds.{Adds, IsTied, adds}
+use Rattle.hub_writes.proofs.Adds.{AddsRow, IsTied, adds}
 use Rattle.hub_writes.proofs.Alters.{ReadsAs}
 use Rattle.hub_writes.proofs.Keys.{agreeing, bytes_are, number_is, number_shown, number_same, bytes_equal, number_equal}
-use Rattle.hub_writes.proofs.RowKinds.{Kind}
+use Rattle.hub_writes.proofs.RowKinds.{StoredKind}
 use Rattle.hub_writes.proofs.Sets.{Sets, becomes, passes, sets}
 
-abbrev pub mail_kind : Kind MailRow
+abbrev pub mail_kind : StoredKind MailRow
 mail_kind = record {
   cmp = mail_cmp;
   total = mail_total;
@@ -80,7 +80,7 @@ module _ (row : MailRow) where
   abbrev pub cells : Row
   cells = spec.cells row
 
-  module _ (low : spec.IsLow row) where
+  module _ (low : spec.IsLowMail row) where
     read_back : (n : ℤ) → mail_in (Int n ∷ cells) ≡ row
     read_back n = rw (
       number_shown row.number low.0,
@@ -100,7 +100,7 @@ module _ (row : MailRow) where
       tt,
     )
 
-    pub adds_mail : Adds (AddMail row) add_mail cells
+    pub adds_mail : AddsRow (AddMail row) add_mail cells
     adds_mail =
         adds mail_kind (AddMail row) row cells add_mail terms 9 add_mail_is (λ t. refl)
         (λ t. refl) (λ db. rw (

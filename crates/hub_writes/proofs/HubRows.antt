@@ -23,13 +23,13 @@ use Rattle.hub_schema.specs.Rows.{hub_row_in}
 use Rattle.hub_schema.specs.Schema.{hub_table}
 use Rattle.hub_schema.proofs.Single.{hub_kinds, hub_cells}
 use Rattle.hub_writes.specs.Party as spec
-use Rattle.hub_writes.proofs.Adds.{Adds, IsTied, adds}
+use Rattle.hub_writes.proofs.Adds.{AddsRow, IsTied, adds}
 use Rattle.hub_writes.proofs.Alters.{ReadsAs}
 use Rattle.hub_writes.proofs.Keys.{agreeing, bytes_are, bytes_equal}
-use Rattle.hub_writes.proofs.RowKinds.{Kind}
+use Rattle.hub_writes.proofs.RowKinds.{StoredKind}
 use Rattle.hub_writes.proofs.Sets.{Sets, becomes, passes, sets}
 
-abbrev pub hub_kind : Kind HubRow
+abbrev pub hub_kind : StoredKind HubRow
 hub_kind = record {
   cmp = hub_cmp;
   total = hub_total;
@@ -86,7 +86,7 @@ module _ (row : HubRow) where
     tt,
   )
 
-  pub adds_hub : Adds (AddHub row) add_hub cells
+  pub adds_hub : AddsRow (AddHub row) add_hub cells
   adds_hub =
       adds hub_kind (AddHub row) row cells add_hub terms 4 add_hub_is (λ t. refl)
       (λ t. refl) (λ db. rw cast_null) (λ n. refl) tied

@@ -23,13 +23,13 @@ use Rattle.hub_schema.specs.Rows.{key_row_in}
 use Rattle.hub_schema.specs.Schema.{supplier_table}
 use Rattle.hub_schema.proofs.Single.{key_kinds, key_cells}
 use Rattle.hub_writes.specs.Party as spec
-use Rattle.hub_writes.proofs.Adds.{Adds, IsTied, adds}
+use Rattle.hub_writes.proofs.Adds.{AddsRow, IsTied, adds}
 use Rattle.hub_writes.proofs.Alters.{ReadsAs}
 use Rattle.hub_writes.proofs.Keys.{agreeing, bytes_are, bytes_equal}
-use Rattle.hub_writes.proofs.RowKinds.{Kind}
+use Rattle.hub_writes.proofs.RowKinds.{StoredKind}
 use Rattle.hub_writes.proofs.Sets.{Sets, becomes, passes, sets}
 
-abbrev pub key_kind : Kind KeyRow
+abbrev pub key_kind : StoredKind KeyRow
 key_kind = record {
   cmp = key_cmp;
   total = key_total;
@@ -86,7 +86,7 @@ module _ (row : KeyRow) where
     tt,
   )
 
-  pub adds_key : Adds (AddKey row) add_key cells
+  pub adds_key : AddsRow (AddKey row) add_key cells
   adds_key =
       adds key_kind (AddKey row) row cells add_key terms 3 add_key_is (λ t. refl)
       (λ t. refl) (λ db. rw cast_null) (λ n. refl) tied

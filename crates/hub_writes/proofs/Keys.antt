@@ -17,7 +17,7 @@ use Rattle.sqlite_value.specs.Keys.{plain, first_key}
 use Rattle.sqlite_value.specs.Order.{Row, column}
 use Rattle.sqlite_schema.specs.Rules.{agree, equal}
 use Rattle.sql_rows.proofs.Answers.{same_bytes, same_int}
-use Rattle.sql_rows.proofs.Unique.{IsNew}
+use Rattle.sql_rows.proofs.Unique.{HasNewKey}
 use Rattle.hub_parties.specs.KeyOrder.{put, Rises}
 use Rattle.hub_tables.proofs.Back.{rises_put_back}
 use Rattle.hub_tables.proofs.Lists.{decide, same_is}
@@ -74,7 +74,7 @@ module _ {X : Type 0} {cmp : X → X → Ordering} (total : IsTotalOrder cmp) (f
   module _ (row : X) (o : keys.Order) (places : List ℕ) (new : Row) (Typed : Row → Type 0)
       (tied : (r : Row) → Typed r → agree o places r places new ≡ true → is_eq (cmp (f r) row) ≡ true) where
     none_tied : (rows : List Row) → AllByRecursion Typed rows → list_any (λ x. is_eq (cmp x row)) (map f rows) ≡ false
-        → IsNew o places new rows
+        → HasNewKey o places new rows
     none_tied [] typed none = tt
     none_tied (r ∷ rows) typed none =
         let parts = or_parts (is_eq (cmp (f r) row)) (list_any (λ x. is_eq (cmp x row)) (map f rows)) none in (
@@ -88,7 +88,7 @@ module _ {X : Type 0} {cmp : X → X → Ordering} (total : IsTotalOrder cmp) (f
 
     -- if the keys still rise with the row, no stored row has its key
     pub is_new : (rows : List Row) → AllByRecursion Typed rows
-        → Rises cmp (put cmp row (in_key_order cmp (map f rows))) → IsNew o places new rows
+        → Rises cmp (put cmp row (in_key_order cmp (map f rows))) → HasNewKey o places new rows
     is_new rows typed rises =
         let listed = in_key_order cmp (map f rows) in
         none_tied rows typed (elim (decide (list_any (λ x. is_eq (cmp x row)) listed)) [

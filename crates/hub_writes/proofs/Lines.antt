@@ -24,13 +24,13 @@ use Rattle.hub_schema.specs.Rows.{line_in}
 use Rattle.hub_schema.specs.Schema.{line_table}
 use Rattle.hub_schema.proofs.Single.{line_kinds, line_cells}
 use Rattle.hub_writes.specs.Line as spec
-use Rattle.hub_writes.proofs.Adds.{Adds, IsTied, adds}
+use Rattle.hub_writes.proofs.Adds.{AddsRow, IsTied, adds}
 use Rattle.hub_writes.proofs.Alters.{ReadsAs}
 use Rattle.hub_writes.proofs.Keys.{agreeing, bytes_are, number_is, number_shown, number_same, bytes_equal, number_equal}
-use Rattle.hub_writes.proofs.RowKinds.{Kind}
+use Rattle.hub_writes.proofs.RowKinds.{StoredKind}
 use Rattle.hub_writes.proofs.Sets.{Sets, becomes, passes, sets}
 
-abbrev pub line_kind : Kind LineRow
+abbrev pub line_kind : StoredKind LineRow
 line_kind = record {
   cmp = line_cmp;
   total = line_total;
@@ -83,7 +83,7 @@ module _ (row : LineRow) where
   abbrev pub cells : Row
   cells = spec.cells row
 
-  module _ (low : spec.IsLow row) where
+  module _ (low : spec.IsLowLine row) where
     read_back : (n : ℤ) → line_in (Int n ∷ cells) ≡ row
     read_back n = rw (
       number_shown row.line low.0,
@@ -105,7 +105,7 @@ module _ (row : LineRow) where
       tt,
     )
 
-    pub adds_line : Adds (AddLine row) add_line cells
+    pub adds_line : AddsRow (AddLine row) add_line cells
     adds_line =
         adds line_kind (AddLine row) row cells add_line terms 10 add_line_is (λ t. refl)
         (λ t. refl) (λ db. rw (

@@ -15,12 +15,12 @@ use Rattle.hub_tables.proofs.KindOrders.{remembered_total}
 use Rattle.hub_schema.specs.Rows.{remembered_in}
 use Rattle.hub_schema.specs.Schema.{remembered_table}
 use Rattle.hub_schema.proofs.Single.{remembered_cells}
-use Rattle.hub_writes.proofs.Adds.{Adds, IsTied, adds}
+use Rattle.hub_writes.proofs.Adds.{AddsRow, IsTied, adds}
 use Rattle.hub_writes.proofs.Alters.{ReadsAs}
 use Rattle.hub_writes.proofs.Keys.{agreeing, bytes_are, number_is, number_shown}
-use Rattle.hub_writes.proofs.RowKinds.{Kind}
+use Rattle.hub_writes.proofs.RowKinds.{StoredKind}
 
-abbrev pub remembered_kind : Kind RememberedRow
+abbrev pub remembered_kind : StoredKind RememberedRow
 remembered_kind = record {
   cmp = remembered_cmp;
   total = remembered_total;
@@ -54,10 +54,10 @@ module _ (row : RememberedRow) where
   cells = Blob row.supplier ∷ Int (pos row.side) ∷ Blob row.control ∷ Blob row.message ∷ Blob row.content ∷ []
 
   -- its number fits a u64
-  abbrev pub IsLow : Type 0
-  IsLow = row.side < 2 ^ 64
+  abbrev pub IsLowMemory : Type 0
+  IsLowMemory = row.side < 2 ^ 64
 
-  module _ (low : IsLow) where
+  module _ (low : IsLowMemory) where
     read_back : (n : ℤ) → remembered_in (Int n ∷ cells) ≡ row
     read_back n = rw (number_shown row.side low)
 
@@ -78,7 +78,7 @@ module _ (row : RememberedRow) where
       tt,
     )
 
-    pub remembers : Adds (Remember row) remember cells
+    pub remembers : AddsRow (Remember row) remember cells
     remembers =
         adds remembered_kind (Remember row) row cells remember terms 6 remember_is (λ t. refl)
         (λ t. refl) (λ db. rw (cast_null, cast_int (pos row.side))) read_back tied

@@ -15,12 +15,12 @@ use Rattle.hub_tables.proofs.KindOrders.{order_total}
 use Rattle.hub_schema.specs.Rows.{order_in}
 use Rattle.hub_schema.specs.Schema.{order_table}
 use Rattle.hub_schema.proofs.Single.{order_cells}
-use Rattle.hub_writes.proofs.Adds.{Adds, IsTied, adds}
+use Rattle.hub_writes.proofs.Adds.{AddsRow, IsTied, adds}
 use Rattle.hub_writes.proofs.Alters.{ReadsAs}
 use Rattle.hub_writes.proofs.Keys.{agreeing, bytes_are}
-use Rattle.hub_writes.proofs.RowKinds.{Kind}
+use Rattle.hub_writes.proofs.RowKinds.{StoredKind}
 
-abbrev pub order_kind : Kind OrderRow
+abbrev pub order_kind : StoredKind OrderRow
 order_kind = record {
   cmp = order_cmp;
   total = order_total;
@@ -63,7 +63,7 @@ module _ (row : OrderRow) where
     tt,
   )
 
-  pub adds_order : Adds (AddOrder row) add_order cells
+  pub adds_order : AddsRow (AddOrder row) add_order cells
   adds_order =
       adds order_kind (AddOrder row) row cells add_order terms 3 add_order_is (λ t. refl)
       (λ t. refl) (λ db. rw cast_null) (λ n. refl) tied

@@ -27,7 +27,7 @@ use Rattle.hub_schema.specs.State.{IsHub, IsUndone, Makes, ShowsTheSame, Stateme
 use Rattle.hub_schema.proofs.Leaving.{executed_leaves}
 use Rattle.hub_writes.specs.Faults.{placed, inserted, ended, refusal_of, fault_of}
 use Rattle.hub_writes.specs.Acts.{Acts, MakesFirst}
-use Rattle.hub_writes.proofs.Adds.{Adds}
+use Rattle.hub_writes.proofs.Adds.{AddsRow}
 use Rattle.hub_writes.proofs.Nowhere.{unplaced}
 use Rattle.hub_writes.proofs.Sets.{Sets}
 use Rattle.hub_schema.proofs.Same.{same_hub}
@@ -164,7 +164,7 @@ module _ {S : Type 0} (g : Ghosts S) (sql : List ℕ) (params : Row) (old new : 
   error_of (Err e) is h = let same : refusal_of e ≡ Unclean = cc in is ∙ ap (λ (x : Error). Err x) (refused_so e same)
 
   -- an INSERT
-  pub insert_acts : (change : Change) → Adds change sql params
+  pub insert_acts : (change : Change) → AddsRow change sql params
       → (out : Result (Unit {0}) StoreFault) → out ≡ inserted r → Acts (change ∷ []) (state g old) (state g new) out
   insert_acts change it out is = subst (Acts (change ∷ []) (state g old) (state g new)) (sym is) (record {
     makes = λ clean hub begun. on_inserted _ r (it.makes (state g old) (state g new) r hub begun (did.runs clean begun));

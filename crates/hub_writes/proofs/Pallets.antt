@@ -23,13 +23,13 @@ use Rattle.hub_schema.specs.Rows.{pallet_in}
 use Rattle.hub_schema.specs.Schema.{pallet_table}
 use Rattle.hub_schema.proofs.Single.{pallet_kinds, pallet_cells}
 use Rattle.hub_writes.specs.Pallet as spec
-use Rattle.hub_writes.proofs.Adds.{Adds, IsTied, adds}
+use Rattle.hub_writes.proofs.Adds.{AddsRow, IsTied, adds}
 use Rattle.hub_writes.proofs.Alters.{ReadsAs}
 use Rattle.hub_writes.proofs.Keys.{agreeing, bytes_are, number_shown, bytes_equal}
-use Rattle.hub_writes.proofs.RowKinds.{Kind}
+use Rattle.hub_writes.proofs.RowKinds.{StoredKind}
 use Rattle.hub_writes.proofs.Sets.{Sets, becomes, passes, sets}
 
-abbrev pub pallet_kind : Kind PalletRow
+abbrev pub pallet_kind : StoredKind PalletRow
 pallet_kind = record {
   cmp = pallet_cmp;
   total = pallet_total;
@@ -77,7 +77,7 @@ module _ (row : PalletRow) where
   abbrev pub cells : Row
   cells = spec.cells row
 
-  module _ (low : spec.IsLow row) where
+  module _ (low : spec.IsLowPallet row) where
     read_back : (n : ℤ) → pallet_in (Int n ∷ cells) ≡ row
     read_back n = rw (number_shown row.received low)
 
@@ -90,7 +90,7 @@ module _ (row : PalletRow) where
       (λ e. by_key r (bytes_are (column r 1) row.sscc typed.0 (agreeing (2 ∷ 1 ∷ []) r (Int n ∷ cells) e).1.0), tt),
     )
 
-    pub adds_pallet : Adds (AddPallet row) add_pallet cells
+    pub adds_pallet : AddsRow (AddPallet row) add_pallet cells
     adds_pallet =
         adds pallet_kind (AddPallet row) row cells add_pallet terms 5 add_pallet_is (λ t. refl)
         (λ t. refl) (λ db. rw (cast_null, cast_int (pos row.received))) read_back tied

@@ -15,12 +15,12 @@ use Rattle.hub_tables.proofs.KindOrders.{prefix_total}
 use Rattle.hub_schema.specs.Rows.{prefix_row_in}
 use Rattle.hub_schema.specs.Schema.{prefix_table}
 use Rattle.hub_schema.proofs.Single.{prefix_cells}
-use Rattle.hub_writes.proofs.Adds.{Adds, IsTied, adds}
+use Rattle.hub_writes.proofs.Adds.{AddsRow, IsTied, adds}
 use Rattle.hub_writes.proofs.Alters.{ReadsAs}
 use Rattle.hub_writes.proofs.Keys.{agreeing, bytes_are}
-use Rattle.hub_writes.proofs.RowKinds.{Kind}
+use Rattle.hub_writes.proofs.RowKinds.{StoredKind}
 
-abbrev pub prefix_kind : Kind PrefixRow
+abbrev pub prefix_kind : StoredKind PrefixRow
 prefix_kind = record {
   cmp = prefix_cmp;
   total = prefix_total;
@@ -62,7 +62,7 @@ module _ (row : PrefixRow) where
     tt,
   )
 
-  pub adds_prefix : Adds (AddPrefix row) add_prefix cells
+  pub adds_prefix : AddsRow (AddPrefix row) add_prefix cells
   adds_prefix =
       adds prefix_kind (AddPrefix row) row cells add_prefix terms 3 add_prefix_is (λ t. refl)
       (λ t. refl) (λ db. rw cast_null) (λ n. refl) tied

@@ -31,12 +31,12 @@ use Rattle.hub_schema.specs.Schema.{hub_schema, receipt_table}
 use Rattle.hub_schema.specs.State.{IsHub, Makes}
 use Rattle.hub_schema.proofs.InKeyOrder.{listed_filter}
 use Rattle.hub_schema.proofs.Single.{receipt_kinds, receipt_cells}
-use Rattle.hub_writes.proofs.Adds.{Adds, IsTied, adds}
+use Rattle.hub_writes.proofs.Adds.{AddsRow, IsTied, adds}
 use Rattle.hub_writes.proofs.Alters.{ReadsAs, altered}
 use Rattle.hub_writes.proofs.Keys.{agreeing, bytes_are, bytes_equal, number_shown}
-use Rattle.hub_writes.proofs.RowKinds.{Kind, makes_rows, ordered}
+use Rattle.hub_writes.proofs.RowKinds.{StoredKind, makes_rows, ordered}
 
-abbrev pub receipt_kind : Kind ReceiptRow
+abbrev pub receipt_kind : StoredKind ReceiptRow
 receipt_kind = record {
   cmp = receipt_cmp;
   total = receipt_total;
@@ -70,10 +70,10 @@ module _ (row : ReceiptRow) where
   cells = Blob row.sscc ∷ Blob row.gtin ∷ Int (pos row.accepted) ∷ Int (pos row.returned) ∷ Int (pos row.destroyed) ∷ []
 
   -- each number fits a u64
-  abbrev pub IsLow : Type 0
-  IsLow = (row.accepted < 2 ^ 64) × (row.returned < 2 ^ 64) × (row.destroyed < 2 ^ 64)
+  abbrev pub IsLowReceipt : Type 0
+  IsLowReceipt = (row.accepted < 2 ^ 64) × (row.returned < 2 ^ 64) × (row.destroyed < 2 ^ 64)
 
-  module _ (low : IsLow) where
+  module _ (low : IsLowReceipt) where
     read_back : (n : ℤ) → receipt_in (Int n ∷ cells) ≡ row
     read_back n = rw (number_shown row.accepted low.0, number_shown row.returned low.1, number_shown row.destroyed low.2)
 
@@ -87,7 +87,7 @@ module _ (row : ReceiptRow) where
       tt,
     )
 
-    pub adds_receipt : Adds (AddReceipt row) add_receipt cells
+    pub adds_receipt : AddsRow (AddReceipt row) add_receipt cells
     adds_receipt =
         adds receipt_kind (AddReceipt row) row cells add_receipt terms 6 add_receipt_is (λ t. refl)
         (λ t. refl) (λ db. rw (

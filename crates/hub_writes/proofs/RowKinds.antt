@@ -32,7 +32,7 @@ plain table = plain_table table.tree table.name table.columns table.primary tabl
 abbrev pub kinds_of : Table → List cell.Kind
 kinds_of table = map (λ c. c.kind) table.columns
 
-pub record Kind (X : Type 0) : Type 0 where
+pub record StoredKind (X : Type 0) : Type 0 where
   pub cmp : X → X → Ordering
   pub total : IsTotalOrder cmp
   -- reads a stored row as a row of this kind
@@ -64,7 +64,7 @@ at_place P [] place x is all = absurd cc
 at_place P (y ∷ ys) zero x is all = let same : y ≡ x = cc in subst P same all.0
 at_place P (y ∷ ys) (suc place) x is all = at_place P ys place x is all.1
 
-module _ {X : Type 0} (kind : Kind X) where
+module _ {X : Type 0} (kind : StoredKind X) where
   -- the row numbers of its table rise
   pub ordered : (trees : Trees) → AreOrdered trees → IsShaped shape.Table (trees kind.table.tree)
   ordered trees all =

@@ -22,7 +22,7 @@ use Rattle.hub_schema.specs.Schema.{hub_schema}
 use Rattle.hub_schema.specs.State.{IsHub, Makes}
 use Rattle.hub_schema.proofs.InKeyOrder.{listed_map}
 use Rattle.hub_writes.proofs.Alters.{ReadsAs, altered}
-use Rattle.hub_writes.proofs.RowKinds.{Kind, kinds_of, makes_rows, ordered, plain}
+use Rattle.hub_writes.proofs.RowKinds.{StoredKind, kinds_of, makes_rows, ordered, plain}
 use Rattle.hub_writes.proofs.Places.{place_met}
 
 -- what a statement that sets a row does, and that a row has the key exactly if the statement found one
@@ -35,7 +35,7 @@ pub record Sets (change : Change) (sql : List ℕ) (cells : Row) : Type 1 where
       → ExecutesInside 0 sql cells old new (Ok count)
       → have_places (change ∷ []) (tables_in old.now.trees) ≡ not (count == 0)
 
-module _ {X : Type 0} (kind : Kind X) (tests shows : List Term) (cells : Row) where
+module _ {X : Type 0} (kind : StoredKind X) (tests shows : List Term) (cells : Row) where
   -- the statement finds the row
   abbrev pub passes : Row → Bool
   passes = updates.passes kind.table.tree kind.stored tests shows cells

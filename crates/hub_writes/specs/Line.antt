@@ -10,6 +10,6 @@ cells row = Blob row.supplier ∷ Blob row.number ∷ Int (pos row.line) ∷ Blo
     ∷ Int (pos row.open_qty) ∷ Int (pos row.refused) ∷ Int (pos row.cancelled) ∷ Int (pos row.answer) ∷ []
 
 -- each number fits a u64
-abbrev pub IsLow : LineRow → Type 0
-IsLow row = (row.line < 2 ^ 64) × (row.ordered < 2 ^ 64) × (row.open_qty < 2 ^ 64) × (row.refused < 2 ^ 64)
+abbrev pub IsLowLine : LineRow → Type 0
+IsLowLine row = (row.line < 2 ^ 64) × (row.ordered < 2 ^ 64) × (row.open_qty < 2 ^ 64) × (row.refused < 2 ^ 64)
     × (row.cancelled < 2 ^ 64) × (row.answer < 2 ^ 64)

@@ -10,6 +10,6 @@ cells row = Blob row.supplier ∷ Int (pos row.number) ∷ Int (pos row.moment) 
     ∷ Blob row.document ∷ Blob row.body ∷ Int (pos row.taken) ∷ []
 
 -- each number fits a u64
-abbrev pub IsLow : MailRow → Type 0
-IsLow row = (row.number < 2 ^ 64) × (row.moment < 2 ^ 64) × (row.decimal < 2 ^ 64) × (row.kind < 2 ^ 64)
+abbrev pub IsLowMail : MailRow → Type 0
+IsLowMail row = (row.number < 2 ^ 64) × (row.moment < 2 ^ 64) × (row.decimal < 2 ^ 64) × (row.kind < 2 ^ 64)
     × (row.taken < 2 ^ 64)

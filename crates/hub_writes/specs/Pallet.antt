@@ -9,5 +9,5 @@ abbrev pub cells : PalletRow → Row
 cells row = Blob row.sscc ∷ Blob row.supplier ∷ Blob row.advice ∷ Int (pos row.received) ∷ []
 
 -- its number fits a u64
-abbrev pub IsLow : PalletRow → Type 0
-IsLow row = row.received < 2 ^ 64
+abbrev pub IsLowPallet : PalletRow → Type 0
+IsLowPallet row = row.received < 2 ^ 64

@@ -16,7 +16,7 @@ use sqlite_value::value::ValueRef;
 // Returns the values of a line.
 fn cells(row: &LineRow) -> [ValueRef<'_>; 9]
     ensures cells { bound result ≡ spec.cells row.now }
-    ensures low { spec.IsLow row.now }
+    ensures low { spec.IsLowLine row.now }
 {
     let supplier = gln_value(&row.supplier);
     let number = text_value(&row.number);

@@ -17,7 +17,7 @@ use sqlite_value::value::ValueRef;
 // Returns the values of an entry under a number.
 fn cells(row: &MailRow, number: StoredNumber) -> [ValueRef<'_>; 8]
     ensures cells { bound result ≡ spec.cells (record row.now { number = number }) }
-    ensures low { spec.IsLow (record row.now { number = number }) }
+    ensures low { spec.IsLowMail (record row.now { number = number }) }
 {
     let supplier = gln_value(&row.supplier);
     let number = number.value();

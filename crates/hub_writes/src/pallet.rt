@@ -16,7 +16,7 @@ use sqlite_value::value::ValueRef;
 // Returns the values of a pallet.
 fn cells(row: &PalletRow) -> [ValueRef<'_>; 4]
     ensures cells { bound result ≡ spec.cells row.now }
-    ensures low { spec.IsLow row.now }
+    ensures low { spec.IsLowPallet row.now }
 {
     let sscc = sscc_value(&row.sscc);
     let supplier = gln_value(&row.supplier);

@@ -7,7 +7,7 @@ use edi_base::Items;
 use edi_envelope::Moment;
 use gs1_ids::{Gln, Gtin, Prefix, Sscc};
 use hub_parties::Key;
-use hub_tables::{Answered, Arrival, Column, MailKind, Side};
+use hub_tables::{Arrival, Column, LineState, MailKind, Side};
 use sqlite_value::value::ValueRef;
 
 /// Returns the digits of a GLN.
@@ -75,7 +75,7 @@ pub(crate) fn moment_value<'a>(moment: Moment) -> ValueRef<'a>
 }
 
 /// Returns the letter of an answer.
-pub(crate) fn answer_value<'a>(answer: &Column<Answered>) -> ValueRef<'a>
+pub(crate) fn answer_value<'a>(answer: &Column<LineState>) -> ValueRef<'a>
     ensures value { owned result ≡ Int (pos answer.now) }
     ensures low { answer.now < 256 }
 {

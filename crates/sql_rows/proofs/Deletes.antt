@@ -27,7 +27,7 @@ use Rattle.sqlite.specs.Effect.{Database}
 use Rattle.sqlite.specs.State.{State, mode_of, Writes}
 use Rattle.sqlite.proofs.Callers.{one_step}
 use Rattle.sql_rows.specs.Tables.{plain_table}
-use Rattle.sql_rows.proofs.Inserts.{Leaves, went, same_value}
+use Rattle.sql_rows.proofs.Inserts.{LeavesTable, went, same_value}
 use Rattle.sql_rows.proofs.Sets.{taken_out, kept_shaped}
 use Rattle.sql_rows.proofs.Updates.{one_table, passes, show, answered}
 
@@ -37,7 +37,7 @@ module _ (schema : Schema) (place tree : ℕ) (name : List ℕ) (columns : List 
     (still : (olds news : List Row) → works schema Enforced 0 tree olds news ≡ []) where
   pub deletes : (old new : State) (params : Row) (text : List ℕ) (q : Program) (count : ℕ) → old.now.schema ≡ schema
       → Writes old new None (Delete place q) text params count
-      → (rows : List Row) × IsProgramAnswer (lets_of q) q.body old.now.trees params rows × Leaves schema old.now.trees
+      → (rows : List Row) × IsProgramAnswer (lets_of q) q.body old.now.trees params rows × LeavesTable schema old.now.trees
       (edit_of old.now.trees (plain_table tree name columns primary uniques orders) (ids_of rows) Given 0 []) new.now
   deletes old new params text q count has w =
       let table = plain_table tree name columns primary uniques orders in

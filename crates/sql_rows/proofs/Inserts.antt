@@ -47,7 +47,7 @@ went (inl stopped) = absurd (let e = stopped.2 in cc)
 went (inr on) = on
 
 -- what one step on a table leaves
-pub record Leaves (schema : Schema) (old : Trees) (edit : Edit) (now : Database) : Type 0 where
+pub record LeavesTable (schema : Schema) (old : Trees) (edit : Edit) (now : Database) : Type 0 where
   pub schema_is : now.schema ≡ schema
   pub step : Applies schema Enforced old edit now.trees
 
@@ -57,7 +57,7 @@ module _ (schema : Schema) (place tree : ℕ) (name : List ℕ) (columns : List 
     (still : (olds news : List Row) → works schema Enforced 0 tree olds news ≡ []) where
   pub inserts : (old new : State) (params : Row) (text : List ℕ) (terms : List Term) (width count : ℕ)
       → old.now.schema ≡ schema → Writes old new None (Insert place (Values terms width)) text params count
-      → Leaves schema old.now.trees
+      → LeavesTable schema old.now.trees
       (edit_of old.now.trees (plain_table tree name columns primary uniques orders) [] Chosen 0
       (value_rows (params ++ []) width (length terms / width) terms)) new.now
   inserts old new params text terms width count has w =

@@ -62,19 +62,19 @@ not_misplaced s c (inl h) = let e = h.0 in cc
 not_misplaced s c (inr h) = let e = h.0 in cc
 
 -- how the command ended if it was refused for this reason
-abbrev pub Refuses : State → List ℕ → Row → Compiled → ℕ → Type 0
-Refuses old sql params c now =
+abbrev pub IsRefusedFor : State → List ℕ → Row → Compiled → ℕ → Type 0
+IsRefusedFor old sql params c now =
     Does old.step_limit (mode_of old) (timed params c.formats now) old.now (text_of sql c) c.returning c.command
     (Err (Some not_unique))
 
 command_refused : (old new : State) (sql : List ℕ) (c : Compiled) (params : Row) (now : ℕ) → RunsCommand old new sql c
-    (timed params c.formats now) (Err not_unique) → IsUnchanged old new × Refuses old sql params c now
+    (timed params c.formats now) (Err not_unique) → IsUnchanged old new × IsRefusedFor old sql params c now
 command_refused old new sql c params now (inl (inl misplaced, same)) = absurd (not_misplaced old c misplaced)
 command_refused old new sql c params now (inl (inr did, same)) = (same, did.1)
 command_refused old new sql c params now (inr fails) = absurd (no_store_error fails.0 fails.1)
 
 pub why_refused : (old new : State) (sql : List ℕ) (params : Row) → ExecutesInside 0 sql params old new (Err not_unique)
-    → IsUnchanged old new × ((c : Compiled) × (it : IsStatement old sql params c) × Refuses old sql params c it.now)
+    → IsUnchanged old new × ((c : Compiled) × (it : IsStatement old sql params c) × IsRefusedFor old sql params c it.now)
 unfolding ExecutesIn IsNotRun
 why_refused old new sql params (inr ends) = absurd (let e = ends.1 in cc)
 why_refused old new sql params (inl (inl (inl none), later)) = absurd (no_statement old sql params none.0)

@@ -30,8 +30,8 @@ and_never false = refl
 
 module _ (o : Order) (places : List ℕ) (new : Row) where
   -- no row has the key of the new one
-  abbrev pub IsNew : List Row → Type 0
-  IsNew rows = AllByRecursion (λ r. agree o places r places new ≡ false) rows
+  abbrev pub HasNewKey : List Row → Type 0
+  HasNewKey rows = AllByRecursion (λ r. agree o places r places new ≡ false) rows
 
   agree_turned : (r : Row) → agree o places r places new ≡ false → agree o places new places r ≡ false
   agree_turned r none = elim (cases_Bool (agree o places new places r)) [
@@ -48,7 +48,7 @@ module _ (o : Order) (places : List ℕ) (new : Row) where
         (sym (ap (λ b. b || clashes o places xs r) e) ∙ free)
   ]
 
-  new_clashes : (n : ℤ) → rowid new ≡ Int n → (rows : List Row) → IsNew rows → clashes o places
+  new_clashes : (n : ℤ) → rowid new ≡ Int n → (rows : List Row) → HasNewKey rows → clashes o places
       (rows ++ new ∷ []) new ≡ false
   new_clashes n is [] fresh =
       ap (λ b. (agree o places new places new && b) || false) (ap₂ differ is is ∙ never_differs n) ∙ ap
@@ -61,13 +61,13 @@ module _ (db : Trees) (tree : ℕ) (new : Row) (n : ℤ) (is : rowid new ≡ Int
   -- no row has any of the new row's keys of this table
   abbrev pub AreNew : List Row → List Index → Type 0
   AreNew rows indexes = AllByRecursion
-      (λ i. (i.is_unique && (i.table == tree)) ≡ true → IsNew i.order i.columns new rows) indexes
+      (λ i. (i.is_unique && (i.table == tree)) ≡ true → HasNewKey i.order i.columns new rows) indexes
 
   abbrev after : List Row
   after = db tree ++ new ∷ []
 
-  abbrev Passes : List Index → Table → List Row → Row → Type 0
-  Passes indexes table rows row =
+  abbrev PassesIndexes : List Index → Table → List Row → Row → Type 0
+  PassesIndexes indexes table rows row =
       list_all (λ i. not (guards i table && clashes i.order i.columns rows row)) indexes ≡ true
 
   unguarded : (guard clash more : Bool) → (guard ≡ true → clash ≡ false → more ≡ false) → not (guard && clash) ≡ true
@@ -82,7 +82,7 @@ module _ (db : Trees) (tree : ℕ) (new : Row) (n : ℤ) (is : rowid new ≡ Int
 
   module _ (table : Table) (same : table.tree ≡ tree) where
     old_passes : (indexes : List Index) (row : Row) (rows : List Row) → AreNew (row ∷ rows) indexes
-        → Passes indexes table (db tree) row → Passes indexes table after row
+        → PassesIndexes indexes table (db tree) row → PassesIndexes indexes table after row
     old_passes [] row rows fresh h = refl
     old_passes (i ∷ more) row rows fresh h =
         let parts = and_parts (not (guards i table && clashes i.order i.columns (db tree) row)) _ h in
@@ -93,7 +93,7 @@ module _ (db : Trees) (tree : ℕ) (new : Row) (n : ℤ) (is : rowid new ≡ Int
         (fresh.0 (sym (ap (λ t. i.is_unique && (i.table == t)) same) ∙ guard)).0) free) parts.0)
         (old_passes more row rows fresh.1 parts.1)
 
-    new_passes : (indexes : List Index) → AreNew (db tree) indexes → Passes indexes table after new
+    new_passes : (indexes : List Index) → AreNew (db tree) indexes → PassesIndexes indexes table after new
     new_passes [] fresh = refl
     new_passes (i ∷ more) fresh =
         and_from _ _ (free_guard (guards i table) (clashes i.order i.columns after new)
@@ -105,24 +105,24 @@ module _ (db : Trees) (tree : ℕ) (new : Row) (n : ℤ) (is : rowid new ≡ Int
     fewer (i ∷ more) row rows fresh = (λ guard. (fresh.0 guard).1, fewer more row rows fresh.1)
 
     all_pass : (indexes : List Index) (rows : List Row) → AreNew rows indexes → AreNew (db tree) indexes
-        → AllByRecursion (Passes indexes table (db tree)) rows → AllByRecursion (Passes indexes table after)
+        → AllByRecursion (PassesIndexes indexes table (db tree)) rows → AllByRecursion (PassesIndexes indexes table after)
         (rows ++ new ∷ [])
     all_pass indexes [] fresh whole h = (new_passes indexes whole, tt)
     all_pass indexes (row ∷ rows) fresh whole h =
         (old_passes indexes row rows fresh h.0, all_pass indexes rows (fewer indexes row rows fresh) whole h.1)
 
   one_table : (indexes : List Index) (table : Table) (b : Bool) → (table.tree == tree) ≡ b → AreNew (db tree) indexes
-      → AllByRecursion (Passes indexes table (db table.tree)) (db table.tree)
-      → AllByRecursion (Passes indexes table (cond b after (db table.tree))) (cond b after (db table.tree))
+      → AllByRecursion (PassesIndexes indexes table (db table.tree)) (db table.tree)
+      → AllByRecursion (PassesIndexes indexes table (cond b after (db table.tree))) (cond b after (db table.tree))
   one_table indexes table true e fresh h =
       let same : table.tree ≡ tree = grind (arith, nat_tests, e) in
       all_pass table same indexes (db tree) fresh fresh
-      (subst (λ t. AllByRecursion (Passes indexes table (db t)) (db t)) same h)
+      (subst (λ t. AllByRecursion (PassesIndexes indexes table (db t)) (db t)) same h)
   one_table indexes table false e fresh h = h
 
   all_tables : (indexes : List Index) (tables : List Table) → AreNew (db tree) indexes → AllByRecursion
-      (λ t. AllByRecursion (Passes indexes t (db t.tree)) (db t.tree)) tables
-      → AllByRecursion (λ t. AllByRecursion (Passes indexes t (with_tree db tree after t.tree))
+      (λ t. AllByRecursion (PassesIndexes indexes t (db t.tree)) (db t.tree)) tables
+      → AllByRecursion (λ t. AllByRecursion (PassesIndexes indexes t (with_tree db tree after t.tree))
       (with_tree db tree after t.tree)) tables
   all_tables indexes [] fresh h = tt
   all_tables indexes (t ∷ ts) fresh h =

@@ -36,7 +36,7 @@ use Rattle.sqlite.specs.State.{State, mode_of, Writes}
 use Rattle.sqlite.proofs.Callers.{one_step}
 use Rattle.sql_rows.specs.Tables.{plain_table}
 use Rattle.sql_rows.proofs.Answers.{matched, map_twice, length_map}
-use Rattle.sql_rows.proofs.Inserts.{Leaves, went, same_value}
+use Rattle.sql_rows.proofs.Inserts.{LeavesTable, went, same_value}
 use Rattle.sql_rows.proofs.Sets.{replaced, still_shaped}
 
 module _ (schema : Schema) (place tree : ℕ) (name : List ℕ) (columns : List Column) (primary : List ℕ)
@@ -45,7 +45,7 @@ module _ (schema : Schema) (place tree : ℕ) (name : List ℕ) (columns : List 
     (still : (olds news : List Row) → works schema Enforced 0 tree olds news ≡ []) where
   pub updates : (old new : State) (params : Row) (text : List ℕ) (q : Program) (count : ℕ) → old.now.schema ≡ schema
       → Writes old new None (Update place q) text params count
-      → (rows : List Row) × IsProgramAnswer (lets_of q) q.body old.now.trees params rows × Leaves schema old.now.trees
+      → (rows : List Row) × IsProgramAnswer (lets_of q) q.body old.now.trees params rows × LeavesTable schema old.now.trees
       (edit_of old.now.trees (plain_table tree name columns primary uniques orders)
       (ids_of rows) Given 1 rows) new.now
       × (count ≡ length (edit_of old.now.trees (plain_table tree name columns primary uniques orders)

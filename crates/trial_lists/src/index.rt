@@ -5,7 +5,7 @@ ghost use Rattle.std.specs.Ordering.{is_eq};
 ghost use Rattle.hub_parties.specs.KeyOrder.{put, replace, Rises};
 ghost use Rattle.trial_lists.specs.Index.{IsIndex};
 
-use crate::key::SameKey;
+use crate::key::OwnKey;
 use crate::search::rows_at;
 use crate::table::{drop_row, has_key, put_row, set_row};
 use edi_base::MemoryFault;
@@ -66,7 +66,7 @@ impl Row for PalletKey {
 }
 
 /// A row that an index may list.
-pub(crate) trait Indexed<K: Row>: Settable {
+pub(crate) trait IndexedRow<K: Row>: Settable {
     /// The key that the index lists for a row.
     ghost key: { Self → K };
 
@@ -92,7 +92,7 @@ pub(crate) trait Indexed<K: Row>: Settable {
         K.compared (key x) (key y) ≡ Self.compared x y };
 }
 
-impl Indexed<EntryKey> for MailRow {
+impl IndexedRow<EntryKey> for MailRow {
     ghost use Rattle.trial_lists.specs.Index.{entry_key, is_untaken, entry_tied};
 
     ghost key = { entry_key };
@@ -117,7 +117,7 @@ impl Indexed<EntryKey> for MailRow {
     ghost in_order = { λ x y _. refl };
 }
 
-impl Indexed<PalletKey> for PalletRow {
+impl IndexedRow<PalletKey> for PalletRow {
     ghost use Rattle.trial_lists.specs.Index.{owned_key, owned_tied, owned_in_order};
 
     ghost key = { owned_key };
@@ -143,7 +143,7 @@ impl Indexed<PalletKey> for PalletRow {
 }
 
 // Adds a row's key to an index that has room for it, if the index lists the row.
-fn list_key<T: Indexed<K>, K: Row>(index: &mut Vec<K>, row: &T)
+fn list_key<T: IndexedRow<K>, K: Row>(index: &mut Vec<K>, row: &T)
     requires room { vec_len index.old < vec_capacity index.old }
     requires rises { Rises K.compared index.old.items }
     ensures items { list_any (λ old. is_eq (K.compared old (T.key row.now))) index.old.items ≡ false →
@@ -159,7 +159,7 @@ fn list_key<T: Indexed<K>, K: Row>(index: &mut Vec<K>, row: &T)
 
 /// Inserts a row at its place, and into the index if that lists it; both must have room. If the row's key exists
 /// already, the row is left out.
-pub(crate) fn put_indexed<T: Indexed<K>, K: Row>(rows: &mut Vec<T>, index: &mut Vec<K>, row: T)
+pub(crate) fn put_indexed<T: IndexedRow<K>, K: Row>(rows: &mut Vec<T>, index: &mut Vec<K>, row: T)
     requires room { vec_len rows.old < vec_capacity rows.old }
     requires index_room { vec_len index.old < vec_capacity index.old }
     requires rises { Rises T.compared rows.old.items }
@@ -183,7 +183,7 @@ pub(crate) fn put_indexed<T: Indexed<K>, K: Row>(rows: &mut Vec<T>, index: &mut 
 
 /// Replaces the row with the same key, also in the index, which must have room for one more. If no row has the key, the
 /// new row is left out.
-pub(crate) fn set_indexed<T: Indexed<K>, K: Row>(rows: &mut Vec<T>, index: &mut Vec<K>, row: T)
+pub(crate) fn set_indexed<T: IndexedRow<K>, K: Row>(rows: &mut Vec<T>, index: &mut Vec<K>, row: T)
     requires index_room { vec_len index.old < vec_capacity index.old }
     requires rises { Rises T.compared rows.old.items }
     requires index { IsIndex K.compared T.supplier T.key T.listed index.old.items rows.old.items }
@@ -195,7 +195,7 @@ pub(crate) fn set_indexed<T: Indexed<K>, K: Row>(rows: &mut Vec<T>, index: &mut 
     ensures index_len { vec_len index.new ≤ vec_len index.old + 1 }
     ensures index_capacity { vec_capacity index.new ≡ vec_capacity index.old }
 {
-    let Some(old) = rows_at(rows.as_slice(), &SameKey { row: &row }).first() else {
+    let Some(old) = rows_at(rows.as_slice(), &OwnKey { row: &row }).first() else {
         return;
     };
     drop_row(index, &old.index_key());

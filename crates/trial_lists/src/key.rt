@@ -20,7 +20,7 @@ use std::cmp::Ordering;
 use trial_rows::Row;
 
 /// What is searched for: a key, the first part of one, or all keys above one.
-pub(crate) trait Key<T: Row> {
+pub(crate) trait SearchKey<T: Row> {
     /// The place of a row relative to the key.
     ghost place: { Self → T → Order };
 
@@ -40,19 +40,19 @@ pub(crate) trait Key<T: Row> {
 
 /// The key of a row itself.
 #[derive(Drop)]
-pub(crate) struct SameKey<'a, T> {
+pub(crate) struct OwnKey<'a, T> {
     pub(crate) row: &'a T,
 }
 
 /// All rows of a supplier.
 #[derive(Drop)]
-pub(crate) struct OfSupplier<'a> {
+pub(crate) struct BySupplier<'a> {
     pub(crate) supplier: &'a Gln,
 }
 
 /// The rows of a supplier with a document number.
 #[derive(Drop)]
-pub(crate) struct Numbered<'a> {
+pub(crate) struct WithNumber<'a> {
     pub(crate) supplier: &'a Gln,
     pub(crate) number: &'a [u8],
 }
@@ -67,13 +67,13 @@ pub(crate) struct LineAt<'a> {
 
 /// The pallet with an SSCC, and what is on it.
 #[derive(Drop)]
-pub(crate) struct OnPallet<'a> {
+pub(crate) struct ByPallet<'a> {
     pub(crate) sscc: &'a Sscc,
 }
 
 /// What is remembered for a side of a supplier under two references.
 #[derive(Drop)]
-pub(crate) struct Reference<'a> {
+pub(crate) struct ByReference<'a> {
     pub(crate) supplier: &'a Gln,
     pub(crate) side: Side,
     pub(crate) control: &'a [u8],
@@ -82,12 +82,12 @@ pub(crate) struct Reference<'a> {
 
 /// The entries above a number in a supplier's mailbox, of those that an index lists.
 #[derive(Drop)]
-pub(crate) struct Above<'a> {
+pub(crate) struct AboveNumber<'a> {
     pub(crate) supplier: &'a Gln,
     pub(crate) number: u64,
 }
 
-impl<'a, T: Row> Key<T> for SameKey<'a, T> {
+impl<'a, T: Row> SearchKey<T> for OwnKey<'a, T> {
     ghost use Rattle.std.specs.Prelude.{refl};
 
     ghost place = { λ key row. T.compared row key.row.now };
@@ -103,7 +103,7 @@ impl<'a, T: Row> Key<T> for SameKey<'a, T> {
     ghost kept = { λ key. by_key T.total (λ row. row) key.row.now };
 }
 
-impl<'a> Key<LineRow> for OfSupplier<'a> {
+impl<'a> SearchKey<LineRow> for BySupplier<'a> {
     ghost place = { λ key row. bytes_cmp row.supplier key.supplier.now };
 
     ghost wanted = { λ key row. same row.supplier key.supplier.now };
@@ -118,7 +118,7 @@ impl<'a> Key<LineRow> for OfSupplier<'a> {
         (by_key nat_list_cmp_total (λ row. row.supplier) key.supplier.now) };
 }
 
-impl<'a> Key<MailRow> for OfSupplier<'a> {
+impl<'a> SearchKey<MailRow> for BySupplier<'a> {
     ghost place = { λ key row. bytes_cmp row.supplier key.supplier.now };
 
     ghost wanted = { λ key row. same row.supplier key.supplier.now };
@@ -133,7 +133,7 @@ impl<'a> Key<MailRow> for OfSupplier<'a> {
         (by_key nat_list_cmp_total (λ row. row.supplier) key.supplier.now) };
 }
 
-impl<'a> Numbered<'a> {
+impl<'a> WithNumber<'a> {
     // Compares a supplier and a number with those that are searched for.
     fn compare(&self, supplier: &Gln, number: &[u8]) -> Ordering
         ensures { result ≡ ordering_then (bytes_cmp supplier.now self.now.supplier.now)
@@ -143,7 +143,7 @@ impl<'a> Numbered<'a> {
     }
 }
 
-impl<'a> Key<OrderRow> for Numbered<'a> {
+impl<'a> SearchKey<OrderRow> for WithNumber<'a> {
     ghost place = { λ key row. ordering_then (bytes_cmp row.supplier key.supplier.now)
         (bytes_cmp row.number key.number.now) };
 
@@ -161,7 +161,7 @@ impl<'a> Key<OrderRow> for Numbered<'a> {
         row.supplier) key.supplier.now _ _ (by_key nat_list_cmp_total (λ row. row.number) key.number.now) };
 }
 
-impl<'a> Key<LineRow> for Numbered<'a> {
+impl<'a> SearchKey<LineRow> for WithNumber<'a> {
     ghost place = { λ key row. ordering_then (bytes_cmp row.supplier key.supplier.now)
         (bytes_cmp row.number key.number.now) };
 
@@ -179,7 +179,7 @@ impl<'a> Key<LineRow> for Numbered<'a> {
         (first_part _ _ _ (by_key nat_list_cmp_total (λ row. row.number) key.number.now)) };
 }
 
-impl<'a> Key<AdviceRow> for Numbered<'a> {
+impl<'a> SearchKey<AdviceRow> for WithNumber<'a> {
     ghost place = { λ key row. ordering_then (bytes_cmp row.supplier key.supplier.now)
         (bytes_cmp row.number key.number.now) };
 
@@ -197,7 +197,7 @@ impl<'a> Key<AdviceRow> for Numbered<'a> {
         row.supplier) key.supplier.now _ _ (by_key nat_list_cmp_total (λ row. row.number) key.number.now) };
 }
 
-impl<'a> Key<LineRow> for LineAt<'a> {
+impl<'a> SearchKey<LineRow> for LineAt<'a> {
     ghost place = { λ key row. ordering_then (bytes_cmp row.supplier key.supplier.now)
         (ordering_then (bytes_cmp row.number key.number.now) (nat_cmp row.line key.line)) };
 
@@ -220,7 +220,7 @@ impl<'a> Key<LineRow> for LineAt<'a> {
         (by_key nat_cmp_total (λ row. row.line) key.line)) };
 }
 
-impl<'a> Key<PalletRow> for OnPallet<'a> {
+impl<'a> SearchKey<PalletRow> for ByPallet<'a> {
     ghost place = { λ key row. bytes_cmp row.sscc key.sscc.now };
 
     ghost wanted = { λ key row. same row.sscc key.sscc.now };
@@ -234,7 +234,7 @@ impl<'a> Key<PalletRow> for OnPallet<'a> {
     ghost kept = { λ key. by_key nat_list_cmp_total (λ row. row.sscc) key.sscc.now };
 }
 
-impl<'a> Key<ContentRow> for OnPallet<'a> {
+impl<'a> SearchKey<ContentRow> for ByPallet<'a> {
     ghost place = { λ key row. bytes_cmp row.sscc key.sscc.now };
 
     ghost wanted = { λ key row. same row.sscc key.sscc.now };
@@ -248,7 +248,7 @@ impl<'a> Key<ContentRow> for OnPallet<'a> {
     ghost kept = { λ key. first_part _ _ _ (by_key nat_list_cmp_total (λ row. row.sscc) key.sscc.now) };
 }
 
-impl<'a> Key<ReceiptRow> for OnPallet<'a> {
+impl<'a> SearchKey<ReceiptRow> for ByPallet<'a> {
     ghost place = { λ key row. bytes_cmp row.sscc key.sscc.now };
 
     ghost wanted = { λ key row. same row.sscc key.sscc.now };
@@ -262,7 +262,7 @@ impl<'a> Key<ReceiptRow> for OnPallet<'a> {
     ghost kept = { λ key. first_part _ _ _ (by_key nat_list_cmp_total (λ row. row.sscc) key.sscc.now) };
 }
 
-impl<'a> Key<RememberedRow> for Reference<'a> {
+impl<'a> SearchKey<RememberedRow> for ByReference<'a> {
     ghost place = { λ key row. ordering_then (bytes_cmp row.supplier key.supplier.now)
         (ordering_then (nat_cmp row.side (side_letter key.side))
         (ordering_then (bytes_cmp row.control key.control.now) (bytes_cmp row.message key.message.now))) };
@@ -289,7 +289,7 @@ impl<'a> Key<RememberedRow> for Reference<'a> {
         (by_key nat_list_cmp_total (λ row. row.message) key.message.now))) };
 }
 
-impl Key<MailRow> for EntryKey {
+impl SearchKey<MailRow> for EntryKey {
     ghost place = { λ key row. ordering_then (bytes_cmp row.supplier key.supplier)
         (nat_cmp row.number key.number) };
 
@@ -308,7 +308,7 @@ impl Key<MailRow> for EntryKey {
         row.supplier) key.supplier _ _ (by_key nat_cmp_total (λ row. row.number) key.number) };
 }
 
-impl Key<PalletRow> for PalletKey {
+impl SearchKey<PalletRow> for PalletKey {
     ghost place = { λ key row. bytes_cmp row.sscc key.sscc };
 
     ghost wanted = { λ key row. same row.sscc key.sscc };
@@ -322,7 +322,7 @@ impl Key<PalletRow> for PalletKey {
     ghost kept = { λ key. by_key nat_list_cmp_total (λ row. row.sscc) key.sscc };
 }
 
-impl<'a> Key<PalletKey> for OfSupplier<'a> {
+impl<'a> SearchKey<PalletKey> for BySupplier<'a> {
     ghost place = { λ key row. bytes_cmp row.supplier key.supplier.now };
 
     ghost wanted = { λ key row. same row.supplier key.supplier.now };
@@ -337,7 +337,7 @@ impl<'a> Key<PalletKey> for OfSupplier<'a> {
         (by_key nat_list_cmp_total (λ row. row.supplier) key.supplier.now) };
 }
 
-impl<'a> Key<EntryKey> for Above<'a> {
+impl<'a> SearchKey<EntryKey> for AboveNumber<'a> {
     ghost place = { λ key row. ordering_then (bytes_cmp row.supplier key.supplier.now)
         (above key.number row.number) };
 

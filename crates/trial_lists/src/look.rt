@@ -13,9 +13,9 @@ ghost use Rattle.hub_store.specs.Heads.{head_of};
 ghost use Rattle.trial_lists.specs.Index.{IsIndex, entry_cmp, entry_key, is_untaken, owned_cmp, owned_key};
 
 use crate::index::{EntryKey, PalletKey};
-use crate::key::{Above, Key, LineAt, Numbered, OfSupplier, OnPallet, Reference};
+use crate::key::{AboveNumber, ByPallet, ByReference, BySupplier, LineAt, SearchKey, WithNumber};
 use crate::search::rows_at;
-use edi_base::{Items, MemoryFault, copied};
+use edi_base::{Items, MemoryFault, copy_bytes};
 use gs1_ids::{Gln, Sscc};
 use hub_store::MailHead;
 use hub_tables::{
@@ -48,7 +48,7 @@ fn first_copy<T: Row>(alloc: Global, rows: &[T]) -> Result<Option<T>, MemoryFaul
 }
 
 // Copies the rows that the keys search for, the first for each key.
-fn copies_at<T: Row, K: Key<T>>(
+fn copies_at<T: Row, K: SearchKey<T>>(
     alloc: Global,
     rows: &[T],
     keys: &[K],
@@ -72,7 +72,7 @@ fn head(alloc: Global, entry: &MailRow) -> Result<MailHead, MemoryFault>
     Ok(MailHead {
         number: entry.number,
         kind: Column::of(entry.kind.case()),
-        document: copied(alloc, entry.document.as_slice())?,
+        document: copy_bytes(alloc, entry.document.as_slice())?,
     })
 }
 
@@ -99,7 +99,7 @@ fn heads_at(
 pub(crate) fn remembered_with(
     alloc: Global,
     rows: &[RememberedRow],
-    reference: &Reference<'_>,
+    reference: &ByReference<'_>,
 ) -> Result<Option<Items<u8>>, MemoryFault>
     requires { Rises remembered_cmp rows.now }
     ensures { IfOk result (λ found.
@@ -108,7 +108,7 @@ pub(crate) fn remembered_with(
         (filter (λ row. same row.supplier reference.now.supplier.now) rows.now))) }
 {
     match rows_at(rows, reference).first() {
-        Some(row) => Ok(Some(copied(alloc, row.content.as_slice())?)),
+        Some(row) => Ok(Some(copy_bytes(alloc, row.content.as_slice())?)),
         None => Ok(None),
     }
 }
@@ -117,7 +117,7 @@ pub(crate) fn remembered_with(
 /// `None` if nothing is remembered.
 pub(crate) fn matches_remembered(
     rows: &[RememberedRow],
-    reference: &Reference<'_>,
+    reference: &ByReference<'_>,
     text: &[u8],
 ) -> Option<bool>
     requires { Rises remembered_cmp rows.now }
@@ -139,7 +139,7 @@ pub(crate) fn has_order(orders: &[OrderRow], supplier: &Gln, number: &[u8]) -> b
     ensures { result ≡ list_any (λ order. same order.number number.now)
         (filter (λ row. same row.supplier supplier.now) orders.now) }
 {
-    !rows_at(orders, &Numbered { supplier, number }).is_empty()
+    !rows_at(orders, &WithNumber { supplier, number }).is_empty()
 }
 
 /// Whether the supplier has an advice with this number.
@@ -149,7 +149,7 @@ pub(crate) fn has_advice(advices: &[AdviceRow], supplier: &Gln, number: &[u8]) -
     ensures { result ≡ list_any (λ advice. same advice.number number.now)
         (filter (λ row. same row.supplier supplier.now) advices.now) }
 {
-    !rows_at(advices, &Numbered { supplier, number }).is_empty()
+    !rows_at(advices, &WithNumber { supplier, number }).is_empty()
 }
 
 /// Returns the lines of a supplier's order.
@@ -163,7 +163,7 @@ pub(crate) fn lines_with(
     ensures { IfOk result (λ found. found ≡ filter (λ line.
         same line.number number.now) (filter (λ row. same row.supplier supplier.now) lines.now)) }
 {
-    copies(alloc, rows_at(lines, &Numbered { supplier, number }))
+    copies(alloc, rows_at(lines, &WithNumber { supplier, number }))
 }
 
 // Returns the lines of a supplier's order that have this line number.
@@ -223,7 +223,7 @@ pub(crate) fn lines_from(
     requires { Rises line_cmp lines.now }
     ensures { IfOk result (λ found. found ≡ filter (λ row. same row.supplier supplier.now) lines.now) }
 {
-    copies(alloc, rows_at(lines, &OfSupplier { supplier }))
+    copies(alloc, rows_at(lines, &BySupplier { supplier }))
 }
 
 /// Whether any supplier has a pallet with this SSCC.
@@ -232,7 +232,7 @@ pub(crate) fn has_sscc(pallets: &[PalletRow], sscc: &Sscc) -> bool
     requires { Rises pallet_cmp pallets.now }
     ensures { result ≡ list_any (λ pallet. same pallet.sscc sscc.now) pallets.now }
 {
-    !rows_at(pallets, &OnPallet { sscc }).is_empty()
+    !rows_at(pallets, &ByPallet { sscc }).is_empty()
 }
 
 // Whether one of the pallets is the supplier's.
@@ -247,7 +247,7 @@ fn holds_pallet(pallets: &[PalletRow], supplier: &Gln, sscc: &Sscc) -> bool
     requires { Rises pallet_cmp pallets.now }
     ensures { result ≡ holds supplier.now pallets.now sscc.now }
 {
-    any_from(rows_at(pallets, &OnPallet { sscc }), supplier)
+    any_from(rows_at(pallets, &ByPallet { sscc }), supplier)
 }
 
 // Returns the first pallet of a supplier.
@@ -270,7 +270,7 @@ pub(crate) fn pallet_with(
     ensures { IfOk result (λ found. found ≡ find (λ pallet.
         same pallet.sscc sscc.now) (filter (λ row. same row.supplier supplier.now) pallets.now)) }
 {
-    match first_from(rows_at(pallets, &OnPallet { sscc }), supplier) {
+    match first_from(rows_at(pallets, &ByPallet { sscc }), supplier) {
         Some(pallet) => Ok(Some(pallet.copy(alloc)?)),
         None => Ok(None),
     }
@@ -288,7 +288,7 @@ pub(crate) fn pallets_from(
         (λ pallet. true) owned.now pallets.now }
     ensures { IfOk result (λ found. found ≡ filter (λ row. same row.supplier supplier.now) pallets.now) }
 {
-    copies_at(alloc, pallets, rows_at(owned, &OfSupplier { supplier }))
+    copies_at(alloc, pallets, rows_at(owned, &BySupplier { supplier }))
 }
 
 /// Returns the contents of a pallet, whichever supplier has it.
@@ -300,7 +300,7 @@ pub(crate) fn contents_on(
     requires { Rises content_cmp contents.now }
     ensures { IfOk result (λ found. found ≡ filter (λ content. same content.sscc sscc.now) contents.now) }
 {
-    copies(alloc, rows_at(contents, &OnPallet { sscc }))
+    copies(alloc, rows_at(contents, &ByPallet { sscc }))
 }
 
 /// Returns the contents of a pallet, if it is the supplier's.
@@ -331,7 +331,7 @@ pub(crate) fn receipts_on(
     requires { Rises receipt_cmp receipts.now }
     ensures { IfOk result (λ found. found ≡ filter (λ receipt. same receipt.sscc sscc.now) receipts.now) }
 {
-    copies(alloc, rows_at(receipts, &OnPallet { sscc }))
+    copies(alloc, rows_at(receipts, &ByPallet { sscc }))
 }
 
 /// Returns the receipts of a pallet, if it is the supplier's.
@@ -360,7 +360,7 @@ pub(crate) fn last_number(mail: &[MailRow], supplier: &Gln) -> u64
     ensures { result ≡ unwrap_or (option_map (λ entry.
         entry.number) (last_or None (filter (λ row. same row.supplier supplier.now) mail.now))) 0 }
 {
-    match rows_at(mail, &OfSupplier { supplier }).last() {
+    match rows_at(mail, &BySupplier { supplier }).last() {
         Some(entry) => entry.number,
         None => 0,
     }
@@ -390,7 +390,7 @@ pub(crate) fn heads_after(
     alloc: Global,
     mail: &[MailRow],
     untaken: &[EntryKey],
-    above: &Above<'_>,
+    above: &AboveNumber<'_>,
     limit: usize,
 ) -> Result<Items<MailHead>, MemoryFault>
     requires mail { Rises mail_cmp mail.now }

@@ -4,28 +4,28 @@ ghost use Rattle.std.specs.List.{prefix_len};
 ghost use Rattle.std.specs.Ordering.{is_lt, is_le};
 ghost use Rattle.hub_parties.specs.KeyOrder.{Rises};
 
-use crate::key::Key;
+use crate::key::SearchKey;
 use trial_rows::Row;
 
 // The number of rows at the start that are searched first.
 const NEAR: usize = 16;
 
 // Whether a row is below a key.
-fn is_below<T: Row, K: Key<T>>(row: &T, key: &K) -> bool
+fn is_below<T: Row, K: SearchKey<T>>(row: &T, key: &K) -> bool
     ensures { result ≡ is_lt (K.place key.now row.now) }
 {
     key.place_of(row).is_lt()
 }
 
 // Whether a row is below a key or at it.
-fn is_within<T: Row, K: Key<T>>(row: &T, key: &K) -> bool
+fn is_within<T: Row, K: SearchKey<T>>(row: &T, key: &K) -> bool
     ensures { result ≡ is_le (K.place key.now row.now) }
 {
     key.place_of(row).is_le()
 }
 
 /// Returns how many rows are below a key.
-pub(crate) fn count_below<T: Row, K: Key<T>>(rows: &[T], key: &K) -> usize
+pub(crate) fn count_below<T: Row, K: SearchKey<T>>(rows: &[T], key: &K) -> usize
     requires { Rises T.compared rows.now }
     ensures within { result ≤ length rows.now }
     ensures count { result ≡ prefix_len (λ row. is_lt (K.place key.now row)) rows.now }
@@ -34,7 +34,7 @@ pub(crate) fn count_below<T: Row, K: Key<T>>(rows: &[T], key: &K) -> usize
 }
 
 // Returns how many rows are below a key or at it, by a search among all rows.
-fn count_among<T: Row, K: Key<T>>(rows: &[T], key: &K) -> usize
+fn count_among<T: Row, K: SearchKey<T>>(rows: &[T], key: &K) -> usize
     requires { Rises T.compared rows.now }
     ensures within { result ≤ length rows.now }
     ensures count { result ≡ prefix_len (λ row. is_le (K.place key.now row)) rows.now }
@@ -44,7 +44,7 @@ fn count_among<T: Row, K: Key<T>>(rows: &[T], key: &K) -> usize
 
 // Returns how many rows are below a key or at it, by a search among the first rows, because usually they are few.
 #[tactic(auto, using(crate::proofs::Searching::rises_take))]
-fn count_within<T: Row, K: Key<T>>(rows: &[T], key: &K) -> usize
+fn count_within<T: Row, K: SearchKey<T>>(rows: &[T], key: &K) -> usize
     requires { Rises T.compared rows.now }
     ensures within { result ≤ length rows.now }
     ensures count { result ≡ prefix_len (λ row. is_le (K.place key.now row)) rows.now }
@@ -59,7 +59,7 @@ fn count_within<T: Row, K: Key<T>>(rows: &[T], key: &K) -> usize
 
 /// Returns the rows that a key searches for, in their order.
 #[tactic(auto, using(crate::proofs::Searching::rises_drop))]
-pub(crate) fn rows_at<'a, T: Row, K: Key<T>>(rows: &'a [T], key: &K) -> &'a [T]
+pub(crate) fn rows_at<'a, T: Row, K: SearchKey<T>>(rows: &'a [T], key: &K) -> &'a [T]
     requires { Rises T.compared rows.now }
     ensures { result.now ≡ filter (K.wanted key.now) rows.now }
 {

@@ -5,7 +5,7 @@ ghost use Rattle.std.specs.Ordering.{is_eq};
 ghost use Rattle.hub_parties.specs.KeyOrder.{put, replace, Rises};
 ghost use Rattle.hub_tables.specs.Rows.{same, receipt_cmp};
 
-use crate::key::SameKey;
+use crate::key::OwnKey;
 use crate::search::{count_below, rows_at};
 use gs1_ids::Sscc;
 use hub_tables::ReceiptRow;
@@ -17,7 +17,7 @@ pub(crate) fn has_key<T: Row>(rows: &[T], row: &T) -> bool
     requires { Rises T.compared rows.now }
     ensures { result ≡ list_any (λ old. is_eq (T.compared old row.now)) rows.now }
 {
-    !rows_at(rows, &SameKey { row }).is_empty()
+    !rows_at(rows, &OwnKey { row }).is_empty()
 }
 
 // Inserts a row for which there is room.
@@ -44,7 +44,7 @@ pub(crate) fn put_row<T: Row>(rows: &mut Vec<T>, row: T)
     ensures capacity { vec_capacity rows.new ≡ vec_capacity rows.old }
 {
     let old = rows.as_slice();
-    let at = count_below(old, &SameKey { row: &row });
+    let at = count_below(old, &OwnKey { row: &row });
     let is_there = has_key(old, &row);
     if !is_there {
         insert_at(rows, at, row);
@@ -60,7 +60,7 @@ pub(crate) fn drop_row<T: Row>(rows: &mut Vec<T>, row: &T)
     ensures capacity { vec_capacity rows.new ≡ vec_capacity rows.old }
 {
     let old = rows.as_slice();
-    let at = count_below(old, &SameKey { row });
+    let at = count_below(old, &OwnKey { row });
     let is_there = has_key(old, row);
     if is_there {
         drop(rows.remove(at));
@@ -87,7 +87,7 @@ pub(crate) fn set_row<T: Settable>(rows: &mut Vec<T>, row: T)
     ensures capacity { vec_capacity rows.new ≡ vec_capacity rows.old }
 {
     let old = rows.as_slice();
-    let at = count_below(old, &SameKey { row: &row });
+    let at = count_below(old, &OwnKey { row: &row });
     let is_there = has_key(old, &row);
     if is_there {
         rows[at] = row;

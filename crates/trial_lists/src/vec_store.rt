@@ -4,7 +4,7 @@ ghost use Rattle.hub_tables.specs.Register.{founded};
 ghost use Rattle.hub_tables.specs.Tables.{empty};
 ghost use Rattle.trial_lists.specs.Lists.{tables_in, AreInOrder};
 
-use crate::key::{Above, Reference};
+use crate::key::{AboveNumber, ByReference};
 use crate::lists::{Lists, apply_each, copies_of, take_room};
 use crate::look;
 use edi_base::{Items, MemoryFault};
@@ -112,7 +112,7 @@ impl Store for VecStore {
         message: &[u8],
     ) -> Result<Option<Items<u8>>, StoreFault> {
         let rows = self.lists.remembered.as_slice();
-        let reference = Reference {
+        let reference = ByReference {
             supplier,
             side,
             control,
@@ -130,7 +130,7 @@ impl Store for VecStore {
         text: &[u8],
     ) -> Result<Option<bool>, StoreFault> {
         let remembered = self.lists.remembered.as_slice();
-        let reference = Reference {
+        let reference = ByReference {
             supplier,
             side,
             control,
@@ -187,7 +187,7 @@ impl Store for VecStore {
     ) -> Result<Items<MailHead>, StoreFault> {
         let mail = self.lists.mail.as_slice();
         let untaken = self.lists.untaken.as_slice();
-        let above = Above { supplier, number };
+        let above = AboveNumber { supplier, number };
         Ok(look::heads_after(self.alloc, mail, untaken, &above, limit)?)
     }
 

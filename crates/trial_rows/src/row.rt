@@ -4,7 +4,7 @@ ghost use Rattle.std.specs.Cmp.{IsTotalOrder};
 ghost use Rattle.std.specs.Ordering.{is_eq};
 ghost use Rattle.std.specs.declared.cmp.Ordering.{Ordering as Order};
 
-use edi_base::{MemoryFault, copied};
+use edi_base::{MemoryFault, copy_bytes};
 use hub_tables::{
     AdviceRow, Column, ContentRow, HubRow, KeyRow, LineRow, MailRow, OrderRow, PalletRow,
     PrefixRow, ReceiptRow, RememberedRow,
@@ -105,7 +105,7 @@ impl Row for OrderRow {
     fn copy(&self, alloc: Global) -> Result<Self, MemoryFault> {
         Ok(OrderRow {
             supplier: self.supplier,
-            number: copied(alloc, self.number.as_slice())?,
+            number: copy_bytes(alloc, self.number.as_slice())?,
         })
     }
 
@@ -130,7 +130,7 @@ impl Row for LineRow {
     fn copy(&self, alloc: Global) -> Result<Self, MemoryFault> {
         Ok(LineRow {
             supplier: self.supplier,
-            number: copied(alloc, self.number.as_slice())?,
+            number: copy_bytes(alloc, self.number.as_slice())?,
             line: self.line,
             gtin: self.gtin,
             ordered: self.ordered,
@@ -159,7 +159,7 @@ impl Row for AdviceRow {
     fn copy(&self, alloc: Global) -> Result<Self, MemoryFault> {
         Ok(AdviceRow {
             supplier: self.supplier,
-            number: copied(alloc, self.number.as_slice())?,
+            number: copy_bytes(alloc, self.number.as_slice())?,
         })
     }
 
@@ -180,7 +180,7 @@ impl Row for PalletRow {
         Ok(PalletRow {
             sscc: self.sscc,
             supplier: self.supplier,
-            advice: copied(alloc, self.advice.as_slice())?,
+            advice: copy_bytes(alloc, self.advice.as_slice())?,
             received: Column::of(self.received.case()),
         })
     }
@@ -204,7 +204,7 @@ impl Row for ContentRow {
         Ok(ContentRow {
             sscc: self.sscc,
             place: self.place,
-            number: copied(alloc, self.number.as_slice())?,
+            number: copy_bytes(alloc, self.number.as_slice())?,
             line: self.line,
             quantity: self.quantity,
         })
@@ -257,9 +257,9 @@ impl Row for RememberedRow {
         Ok(RememberedRow {
             supplier: self.supplier,
             side: Column::of(self.side.case()),
-            control: copied(alloc, self.control.as_slice())?,
-            message: copied(alloc, self.message.as_slice())?,
-            content: copied(alloc, self.content.as_slice())?,
+            control: copy_bytes(alloc, self.control.as_slice())?,
+            message: copy_bytes(alloc, self.message.as_slice())?,
+            content: copy_bytes(alloc, self.content.as_slice())?,
         })
     }
 
@@ -285,8 +285,8 @@ impl Row for MailRow {
             moment: self.moment,
             decimal: self.decimal,
             kind: Column::of(self.kind.case()),
-            document: copied(alloc, self.document.as_slice())?,
-            body: copied(alloc, self.body.as_slice())?,
+            document: copy_bytes(alloc, self.document.as_slice())?,
+            body: copy_bytes(alloc, self.body.as_slice())?,
             taken: Column::of(self.taken.case()),
         })
     }

@@ -1,26 +1,26 @@
 //! Reads the requests of a script.
 use crate::fault::ScriptFault;
-use crate::script::{Script, Words};
-use edi_base::copied;
+use crate::script::{LineWords, Script};
+use edi_base::copy_bytes;
 use gs1_ids::Prefix;
 use hub_http::{Join, Request, read_cancel};
 use std::alloc::Global;
 
 // Reads the number of a mailbox entry.
-fn number(words: &mut Words<'_>) -> Result<u64, ScriptFault> {
+fn number(words: &mut LineWords<'_>) -> Result<u64, ScriptFault> {
     words.next_number().ok_or(ScriptFault::Line)
 }
 
 fn upload(
     alloc: Global,
-    words: &mut Words<'_>,
+    words: &mut LineWords<'_>,
     script: &mut Script<'_>,
 ) -> Result<Option<Request>, ScriptFault> {
-    let bytes = copied(alloc, payload(words, script)?)?;
+    let bytes = copy_bytes(alloc, payload(words, script)?)?;
     Ok(Some(Request::Upload(bytes)))
 }
 
-fn status_of(words: &mut Words<'_>) -> Result<Option<Request>, ScriptFault> {
+fn status_of(words: &mut LineWords<'_>) -> Result<Option<Request>, ScriptFault> {
     match words.next_gln() {
         Some(supplier) => Ok(Some(Request::StatusOf(supplier))),
         None => Err(ScriptFault::Line),
@@ -29,7 +29,7 @@ fn status_of(words: &mut Words<'_>) -> Result<Option<Request>, ScriptFault> {
 
 fn cancel(
     alloc: Global,
-    words: &mut Words<'_>,
+    words: &mut LineWords<'_>,
     script: &mut Script<'_>,
 ) -> Result<Option<Request>, ScriptFault> {
     match read_cancel(alloc, payload(words, script)?)? {
@@ -48,7 +48,7 @@ fn prefixes_of(alloc: Global, word: &[u8]) -> Result<Vec<Prefix>, ScriptFault> {
     Ok(prefixes)
 }
 
-fn join(alloc: Global, words: &mut Words<'_>) -> Result<Option<Request>, ScriptFault> {
+fn join(alloc: Global, words: &mut LineWords<'_>) -> Result<Option<Request>, ScriptFault> {
     let supplier = words.next_gln().ok_or(ScriptFault::Line)?;
     let key = words.next_word();
     let prefixes = prefixes_of(alloc, words.next_word())?;
@@ -62,7 +62,7 @@ fn join(alloc: Global, words: &mut Words<'_>) -> Result<Option<Request>, ScriptF
 pub fn request_of(
     alloc: Global,
     word: &[u8],
-    words: &mut Words<'_>,
+    words: &mut LineWords<'_>,
     script: &mut Script<'_>,
 ) -> Result<Option<Request>, ScriptFault> {
     match word {
@@ -80,7 +80,7 @@ pub fn request_of(
 
 /// Returns the bytes that follow a line; its next word is their number.
 pub fn payload<'a>(
-    words: &mut Words<'_>,
+    words: &mut LineWords<'_>,
     script: &mut Script<'a>,
 ) -> Result<&'a [u8], ScriptFault> {
     let count = words.next_count().ok_or(ScriptFault::Line)?;

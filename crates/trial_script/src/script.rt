@@ -38,13 +38,13 @@ impl<'a> Script<'a> {
     }
 
     /// Returns the words of the next line; `None` at the end of the script.
-    pub fn next_line(&mut self) -> Option<Words<'a>> {
+    pub fn next_line(&mut self) -> Option<LineWords<'a>> {
         if self.rest.is_empty() {
             return None;
         }
         let (line, after) = cut_at(b'\n', self.rest);
         self.rest = after;
-        Some(Words { rest: line })
+        Some(LineWords { rest: line })
     }
 
     /// Returns the next `count` bytes and skips the line end after them; `None` if there are not that many.
@@ -63,11 +63,11 @@ impl<'a> Script<'a> {
 
 /// The words that are left of a line, separated by single blanks.
 #[derive(Drop)]
-pub struct Words<'a> {
+pub struct LineWords<'a> {
     rest: &'a [u8],
 }
 
-impl<'a> Words<'a> {
+impl<'a> LineWords<'a> {
     /// Returns the next word, which is empty at the end of the line.
     pub fn next_word(&mut self) -> &'a [u8] {
         let (word, after) = cut_at(b' ', self.rest);

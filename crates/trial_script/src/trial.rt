@@ -6,9 +6,9 @@ use crate::fault::ScriptFault;
 use crate::opening::Opener;
 use crate::print::{write_counts, write_fault, write_replies, write_served};
 use crate::request::{payload, request_of};
-use crate::script::{Script, Words};
+use crate::script::{LineWords, Script};
 use crate::wire::{Incoming, Manner, Outgoing};
-use edi_base::{Items, Sink, copied};
+use edi_base::{Items, Sink, copy_bytes};
 use edi_envelope::Moment;
 use gs1_ids::Gln;
 use hub_http::{Hub, Input, IoFault, Paths, Reply, Request, Served, serve_one};
@@ -47,7 +47,7 @@ enum Failure {
 }
 
 // Reads how the store of a line fails; `None` if the line has no more words.
-fn failure_of(words: &mut Words<'_>) -> Result<Option<Failure>, ScriptFault> {
+fn failure_of(words: &mut LineWords<'_>) -> Result<Option<Failure>, ScriptFault> {
     let word = words.next_word();
     if word.is_empty() {
         return Ok(None);
@@ -81,11 +81,11 @@ fn register_of(alloc: Global, bytes: &[u8]) -> Result<Register, ScriptFault> {
 }
 
 // Reads the caller and the moment from the words of a line.
-fn asker_of(alloc: Global, words: &mut Words<'_>) -> Result<Asker, ScriptFault> {
+fn asker_of(alloc: Global, words: &mut LineWords<'_>) -> Result<Asker, ScriptFault> {
     let seconds = words.next_number().ok_or(ScriptFault::Line)?;
     let moment = Moment::new(seconds).ok_or(ScriptFault::Line)?;
     let gln = words.next_gln().ok_or(ScriptFault::Line)?;
-    let key = copied(alloc, words.next_word())?;
+    let key = copy_bytes(alloc, words.next_word())?;
     Ok(Asker { moment, gln, key })
 }
 
@@ -94,7 +94,7 @@ fn input_of(alloc: Global, asker: Option<&Asker>, request: Request) -> Result<In
     let Some(asker) = asker else {
         return Err(ScriptFault::Line);
     };
-    let key = copied(alloc, asker.key.as_slice())?;
+    let key = copy_bytes(alloc, asker.key.as_slice())?;
     Ok(Input {
         moment: asker.moment,
         caller: asker.gln,
@@ -169,7 +169,7 @@ impl<S: Store + Drop, O: Opener<S>> Trial<S, O> {
     fn obey<W: Sink>(
         &mut self,
         rt: &HostRuntime,
-        words: &mut Words<'_>,
+        words: &mut LineWords<'_>,
         script: &mut Script<'_>,
         out: &mut W,
     ) -> Result<(), ScriptFault> {
@@ -185,7 +185,7 @@ impl<S: Store + Drop, O: Opener<S>> Trial<S, O> {
         &mut self,
         rt: &HostRuntime,
         command: Command,
-        words: &mut Words<'_>,
+        words: &mut LineWords<'_>,
         script: &mut Script<'_>,
         out: &mut W,
     ) -> Result<(), ScriptFault> {
@@ -208,7 +208,7 @@ impl<S: Store + Drop, O: Opener<S>> Trial<S, O> {
     fn make_hub<W: Sink>(
         &mut self,
         rt: &HostRuntime,
-        words: &mut Words<'_>,
+        words: &mut LineWords<'_>,
         script: &mut Script<'_>,
         out: &mut W,
     ) -> Result<(), ScriptFault> {
@@ -242,7 +242,7 @@ impl<S: Store + Drop, O: Opener<S>> Trial<S, O> {
     }
 
     // Sets the caller of the requests that follow, and their moment.
-    fn set_asker(&mut self, words: &mut Words<'_>) -> Result<(), ScriptFault> {
+    fn set_asker(&mut self, words: &mut LineWords<'_>) -> Result<(), ScriptFault> {
         self.asker = Some(asker_of(self.alloc, words)?);
         Ok(())
     }
@@ -298,7 +298,7 @@ impl<S: Store + Drop, O: Opener<S>> Trial<S, O> {
     // Serves a connection whose bytes follow, and prints the status that was written, or the fault, and what was sent.
     fn serve<W: Sink>(
         &mut self,
-        words: &mut Words<'_>,
+        words: &mut LineWords<'_>,
         script: &mut Script<'_>,
         out: &mut W,
     ) -> Result<(), ScriptFault> {

@@ -1,6 +1,6 @@
 //! Simulates connections whose bytes a script gives, and whose reads and writes fail as it says.
 use crate::fault::ScriptFault;
-use crate::script::Words;
+use crate::script::LineWords;
 use edi_base::{Sink, Source};
 use std::alloc::{AllocError, Global};
 use std::io;
@@ -25,7 +25,7 @@ pub struct Manner {
 
 impl Manner {
     /// Reads the words of a line: `piece`, `reads`, `takes` and `writes`, each with a number, and `interrupted`.
-    pub fn of(words: &mut Words<'_>) -> Result<Manner, ScriptFault> {
+    pub fn of(words: &mut LineWords<'_>) -> Result<Manner, ScriptFault> {
         let mut manner = Manner {
             piece: usize::MAX,
             reads: u64::MAX,

@@ -3,7 +3,7 @@ use Rattle.std.specs.List.{flat_map}
 use Rattle.edi_segments.specs.Segment.{element_at}
 use Rattle.edi_segments.specs.SegmentRef.{segment_in}
 use Rattle.edi_tokens.specs.Text.{element_text}
-use Rattle.edi_tokens.specs.Appending.{Keeps, elements_with, with_first}
+use Rattle.edi_tokens.specs.Appending.{KeepsFront, elements_with, with_first}
 use Rattle.edi_tokens.proofs.Appended.{all_elements, appended, element_beside, element_with, ended, ended_by}
 use Rattle.edi_tokens.proofs.Appended.{kept_as, kept_more, kept_still, kept_through}
 use Rattle.edi_tokens.proofs.appending.append_parts_with.Goals as goal
@@ -29,7 +29,7 @@ loop-element-preserved c =
                 (ap (λ new. new.items) w.out-is ∙ w.in_ok-append_element_with.ensures.ok);
             kept =
                 kept_through c.args.out.now.items out c.if-element-place.out.items c.loop-element.invariant.kept
-                (subst (λ new. Keeps out new.items) (sym w.out-is) w.in_ok-append_element_with.ensures.kept);
+                (subst (λ new. KeepsFront out new.items) (sym w.out-is) w.in_ok-append_element_with.ensures.kept);
           }
       | else-element-place+in_ok-append_element w ↦
           record {
@@ -40,7 +40,7 @@ loop-element-preserved c =
                 (ap (λ new. new.items) w.out-is ∙ w.in_ok-append_element.ensures.ok);
             kept =
                 kept_through c.args.out.now.items out c.if-element-place.out.items c.loop-element.invariant.kept
-                (subst (λ new. Keeps out new.items) (sym w.out-is) w.in_ok-append_element.ensures.kept);
+                (subst (λ new. KeepsFront out new.items) (sym w.out-is) w.in_ok-append_element.ensures.kept);
           }
     ]
 

@@ -2,7 +2,7 @@ use Rattle.std.proofs.Common.{◌≡◌, ◌++◌, drop}
 use Rattle.std.specs.List.{flat_map}
 use Rattle.edi_segments.specs.SegmentRef.{segment_in}
 use Rattle.edi_tokens.specs.Text.{element_text}
-use Rattle.edi_tokens.specs.Appending.{Keeps, elements_with}
+use Rattle.edi_tokens.specs.Appending.{KeepsFront, elements_with}
 use Rattle.edi_tokens.proofs.appending.append_parts_with.Given as goal
 
 abbrev pub invariant-loop-element : goal.invariant-loop-element
@@ -10,5 +10,5 @@ invariant-loop-element l = record {
   text : l.out.items ++ flat_map element_text (drop l.element (elements_with (segment_in l.segment).elements l.place l.first))
       ≡ l.fn.out.items
       ++ ((segment_in l.segment).tag ++ flat_map element_text (elements_with (segment_in l.segment).elements l.place l.first));
-  kept : Keeps l.fn.out.items l.out.items;
+  kept : KeepsFront l.fn.out.items l.out.items;
 }

@@ -1,6 +1,6 @@
 use Rattle.std.proofs.Common.{[], ◌++◌, sym, rules}
 use Rattle.std.proofs.lemmas.List.{append-nil}
-use Rattle.edi_base.specs.Buffer.{Goes}
+use Rattle.edi_base.specs.Buffer.{WritesSome}
 use Rattle.edi_tokens.specs.Text.{text}
 use Rattle.edi_base.proofs.Going.{goes_none, goes_put, goes_cut, goes_as, puts_cut, puts_last}
 use Rattle.edi_tokens.proofs.text.put_all.Given as given
@@ -16,7 +16,7 @@ returns-in_err-put-clause-bytes g c =
 
 -- the text is next, and nothing after it
 text_next : (g : given.Over) (c : After-put_text g)
-    → Goes (g.W.Sink.contents c.args.out.now) (g.W.Sink.contents c.put.new.out) [] c.put.new.self
+    → WritesSome (g.W.Sink.contents c.args.out.now) (g.W.Sink.contents c.put.new.out) [] c.put.new.self
     (text c.args.segments.now ++ []) (c.args.front.now ++ text c.args.segments.now)
 text_next g c =
     goes_as _ _ (sym (append-nil (text c.args.segments.now)))

@@ -1,6 +1,6 @@
 use Rattle.std.proofs.Common.{◌++◌, ap, ◌∙◌}
 use Rattle.std.proofs.lemmas.List.{nil_from_length}
-use Rattle.edi_base.specs.Buffer.{Goes}
+use Rattle.edi_base.specs.Buffer.{WritesSome}
 use Rattle.edi_tokens.specs.Text.{component_text}
 use Rattle.edi_tokens.proofs.Canonical.{component_text-plain, component_text-released}
 use Rattle.edi_base.proofs.Going.{goes_put, goes_cut, goes_as, puts_cut}
@@ -10,7 +10,7 @@ use Rattle.edi_tokens.proofs.text.put_component.Goals.{After-split_at}
 
 -- plain bytes are next
 plain_next : (g : given.Over) (c : After-split_at g)
-    → Goes (g.W.Sink.contents c.args.out.now) (g.W.Sink.contents c.loop-byte.out) c.args.buffer.now c.loop-byte.buffer
+    → WritesSome (g.W.Sink.contents c.args.out.now) (g.W.Sink.contents c.loop-byte.out) c.args.buffer.now c.loop-byte.buffer
     (c.split_at.result.0.now ++ component_text c.split_at.result.1.now) (component_text c.args.component.now)
 plain_next g c =
     goes_as _ _

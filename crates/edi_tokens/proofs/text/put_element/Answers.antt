@@ -1,6 +1,6 @@
 use Rattle.std.proofs.Common.{ℕ, List, ◌+◌, [], ◌∷◌, ◌++◌, drop, ap, ◌∙◌}
 use Rattle.std.specs.List.{flat_map}
-use Rattle.edi_base.specs.Buffer.{Goes}
+use Rattle.edi_base.specs.Buffer.{WritesSome}
 use Rattle.edi_tokens.specs.Text.{component_text, components_text, element_text}
 use Rattle.edi_base.proofs.Going.{goes_none, goes_put, goes_cut, goes_as, puts_cut}
 use Rattle.std.proofs.lemmas.List.{nil_from_length}
@@ -18,7 +18,7 @@ returns-in_err-put-clause-bytes g c =
 
 -- the first component is next
 first_next : (g : given.Over) (c : After-put_component g)
-    → Goes (g.W.Sink.contents c.args.out.now) (g.W.Sink.contents c.put.new.out) c.args.buffer.now c.put.new.self
+    → WritesSome (g.W.Sink.contents c.args.out.now) (g.W.Sink.contents c.put.new.out) c.args.buffer.now c.put.new.self
     (component_text c.in-Some.first.now ++ flat_map (λ component. 58 ∷ component_text component) c.in-Some.others.now)
     (element_text c.args.components.now)
 first_next g c =

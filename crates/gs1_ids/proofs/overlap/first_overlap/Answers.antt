@@ -12,7 +12,7 @@ here : (c : In-Some) → IsFirstOverlap c.args.prefixes.now c.loop-first.first (
 here c =
     let ps = c.args.prefixes.now in
     let i = c.loop-first.first in
-    let e = search_behind overlap [] ps i _ _ c.loop-first-test.true c.index-prefixes-first.is c.overlapped.ensures in
+    let e = search_behind overlap [] ps i _ _ c.loop-first-test.true c.index-prefixes-first.is c.find_overlap.ensures in
     let found = found_behind overlap [] ps i c.in-Some.offset (sym e ∙ c.in-Some.is) in
     record {
       here = found.0;
@@ -31,7 +31,7 @@ pub returns-in-Some-clause-value : goal.returns-in-Some-clause-value
 returns-in-Some-clause-value c =
     let ps = c.args.prefixes.now in
     let i = c.loop-first.first in
-    let e = search_behind overlap [] ps i _ _ c.loop-first-test.true c.index-prefixes-first.is c.overlapped.ensures in
+    let e = search_behind overlap [] ps i _ _ c.loop-first-test.true c.index-prefixes-first.is c.find_overlap.ensures in
     sym (c.loop-first.invariant.left ∙ found_next overlap [] ps i c.loop-first-test.true c.in-Some.offset (sym e ∙ c.in-Some.is))
 
 pub loop-first-init : goal.loop-first-init
@@ -41,7 +41,7 @@ pub loop-first-preserved : goal.loop-first-preserved
 loop-first-preserved c =
     let ps = c.args.prefixes.now in
     let first = c.loop-first.first in
-    let e = search_behind overlap [] ps first _ _ c.loop-first-test.true c.index-prefixes-first.is c.overlapped.ensures in
+    let e = search_behind overlap [] ps first _ _ c.loop-first-test.true c.index-prefixes-first.is c.find_overlap.ensures in
     record {
       none =
           λ i j h o.

@@ -6,7 +6,7 @@ use Rattle.hub_audit.proofs.every.every.Goals as goal
 
 pub returns-clause-asks : goal.returns-clause-asks
 returns-clause-asks g c =
-    asked_more (AreRead g.T.Shown.shown g.T.Shown.clean c.args.parts.now) (λ rows. ⊥) c.args.text.now _
+    asked_more (AreRead g.T.ShownRow.shown g.T.ShownRow.clean c.args.parts.now) (λ rows. ⊥) c.args.text.now _
     (state g.S.Store c.args.conn.now) (state g.S.Store c.query.new.conn) c.in_ok-rows.rows c.read_rows.result
     c.in_ok-rows.ensures.asks (rw c.as_slice.ensures.value at c.read_rows.ensures.read)
     (never_unclean c.read_rows.result c.read_rows.ensures.memory) (only_memory c.read_rows.result c.read_rows.ensures.memory)

@@ -4,8 +4,8 @@ use Rattle.hub_audit.proofs.every.read_rows.Given as goal
 
 abbrev pub invariant-rows : goal.invariant-rows
 invariant-rows g l =
-    let shown = g.T.Shown.shown in
+    let shown = g.T.ShownRow.shown in
     record {
       told : map shown l.rows ≡ l.items ++ map shown (drop l.row-index l.rows);
-      clean : list_all g.T.Shown.clean l.items ≡ true;
+      clean : list_all g.T.ShownRow.clean l.items ≡ true;
     }

@@ -2,7 +2,7 @@ use Rattle.std.proofs.Common.{◌≡◌, ◌+◌, Bool, false, Err, inl, refl, s
 use Rattle.http_messages.specs.Head.{longest_head}
 use Rattle.hub_http.specs.Answer.{AnswersOrFails, HubReplies, size_asked}
 use Rattle.hub_http.specs.Asked.{asked_by, longest_body}
-use Rattle.hub_http.specs.declared.answer.Answered.{Answered}
+use Rattle.hub_http.specs.declared.answer.AnswerAfterRead.{AnswerAfterRead}
 use Rattle.hub_http.specs.declared.refusal.Refusal.TheVariants.{BadRequest}
 use Rattle.hub_http.proofs.Bounds.{asked_short, body_within, both_taken, taken_within}
 use Rattle.hub_http.proofs.Extents.{ends_none, ends_with}
@@ -52,7 +52,7 @@ returns-in-None-clause-or_fails g c = ((Err BadRequest, inl (refl, c.refusal_ans
 pub returns-in-Some-clause-to_end : goal.returns-in-Some-clause-to_end
 returns-in-Some-clause-to_end g c =
     let found = c.in_ok-head.ensures.head in
-    ends_with (λ (answered : Answered). answered.read_to_end) _ _ _ c.in-Some.head c.answer_head.result (rw c.in-Some.is at found)
+    ends_with (λ (answered : AnswerAfterRead). answered.read_to_end) _ _ _ c.in-Some.head c.answer_head.result (rw c.in-Some.is at found)
     c.answer_head.ensures.to_end
 
 pub returns-in-None-clause-to_end : goal.returns-in-None-clause-to_end

@@ -24,7 +24,7 @@ loop-index-preserved c = λ next.
     ∙ ap₂ (λ one xs. one ∷ drop (i + 1) xs) (sym c.index-lines-index.is) c.as_slice-lines.ensures in
     let known : not (has_order before said.order) ≡ false =
     ap not (sym (c.has.ensures ∙ ap (has_order before) c.as_slice-order.ensures) ∙ c.if-not-has.false) in
-    let number : List ℕ = c.in_ok-copied.field-0 in
+    let number : List ℕ = c.in_ok-copy_bytes.field-0 in
     let found_there : facts_among (lines_in before c.as_slice-order.result.now) said.order_line said.gtin ≡ Some line =
     sym c.line.ensures.line ∙ ap (option_map (λ line. line.now)) c.in-Some.is in
     let found : facts_among (lines_in before said.order) said.order_line said.gtin ≡ Some line =
@@ -36,6 +36,6 @@ loop-index-preserved c = λ next.
     c.loop-index.invariant next
     ∙ ap (λ said. joined c.loop-index.changes (lines_from unit.sscc i said before next)) ahead
     ∙ despatched_next unit.sscc i said rest c.loop-index.changes before c.set.new.self line row number next known
-    found c.in_default-line_fault.ensures.none c.in_ok-row.ensures (c.in_ok-copied.ensures ∙ c.as_slice.ensures) set
+    found c.in_default-line_fault.ensures.none c.in_ok-row.ensures (c.in_ok-copy_bytes.ensures ∙ c.as_slice.ensures) set
     ∙ ap (λ changes. joined changes (lines_from unit.sscc (i + 1) rest c.set.new.self next))
     (sym (c.in_ok-push-2.ensures.ok ∙ ap (λ changes. changes ++ content ∷ []) c.in_ok-push.ensures.ok))

@@ -48,5 +48,5 @@ returns c =
     (sym c.is_full.ensures.value ∙ c.if-is_full.false) told.mails told.pallets
     )) c.judge_units.ensures
 
-pub remembered_and_mailed-requires : goal.remembered_and_mailed-requires
-remembered_and_mailed-requires c = search rules
+pub remember_and_mail-requires : goal.remember_and_mail-requires
+remember_and_mail-requires c = search rules

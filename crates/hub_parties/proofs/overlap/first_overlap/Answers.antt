@@ -11,7 +11,7 @@ returns-in-Some-clause-free c =
     let suppliers = c.args.suppliers.now in
     let first = c.loop-first.first in
     let within = c.loop-first-test.true in
-    let e = search_behind overlap_some [] suppliers first _ _ within c.index-suppliers-first.is c.overlapped.ensures in
+    let e = search_behind overlap_some [] suppliers first _ _ within c.index-suppliers-first.is c.find_overlap.ensures in
     let found : first_overlap_between suppliers ≡ Some (first, first + 1 + c.in-Some.offset) =
     c.loop-first.invariant ∙ found_next overlap_some [] suppliers first within c.in-Some.offset (sym e ∙ c.in-Some.is) in
     (λ h. absurd (true≢false h), λ free. let none = none_between_if_free suppliers free in cc)
@@ -21,7 +21,7 @@ returns-in-Some-clause-within c =
     let suppliers = c.args.suppliers.now in
     let first = c.loop-first.first in
     let within = c.loop-first-test.true in
-    let e = search_behind overlap_some [] suppliers first _ _ within c.index-suppliers-first.is c.overlapped.ensures in
+    let e = search_behind overlap_some [] suppliers first _ _ within c.index-suppliers-first.is c.find_overlap.ensures in
     let found = (found_behind overlap_some [] suppliers first c.in-Some.offset (sym e ∙ c.in-Some.is)).0 in
     (found.before, found.within)
 

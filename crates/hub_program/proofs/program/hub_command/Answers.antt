@@ -1,4 +1,4 @@
 use Rattle.hub_program.proofs.program.hub_command.Goals as goal
 
 pub returns : goal.returns
-returns c = c.choosing.ensures _ c.named.ensures
+returns c = c.choosing.ensures _ c.bare_command.ensures

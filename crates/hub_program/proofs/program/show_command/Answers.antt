@@ -1,4 +1,4 @@
 use Rattle.hub_program.proofs.program.show_command.Goals as goal
 
 pub returns : goal.returns
-returns c = c.named.ensures
+returns c = c.bare_command.ensures

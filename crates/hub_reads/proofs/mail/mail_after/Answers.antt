@@ -15,6 +15,6 @@ returns-then-low-clause-looks g c =
 
 pub returns-clause-looks : goal.returns-clause-looks
 returns-clause-looks g c =
-    after_look (state g.S.Store c.args.conn.now) (state g.S.Store c.has_low.new.conn) (state g.S.Store c.untaken_above.new.conn)
+    after_look (state g.S.Store c.args.conn.now) (state g.S.Store c.has_low.new.conn) (state g.S.Store c.untaken_heads_above.new.conn)
     c.args.supplier.now c.args.number c.args.limit c.in_ok-low.low c.if-low.false c.in_ok-low.ensures.looks
-    c.untaken_above.result c.untaken_above.ensures.looks
+    c.untaken_heads_above.result c.untaken_heads_above.ensures.looks

@@ -7,7 +7,7 @@ use Rattle.hub_parties.specs.declared.row.SupplierRow.{SupplierRow}
 use Rattle.hub_register.specs.Document.{row_with}
 use Rattle.hub_register.specs.Entries.{row_in}
 use Rattle.hub_register.specs.InOrder.{put, put_all, with_sorted_prefixes}
-use Rattle.hub_register.specs.declared.document.Entry.{Entry}
+use Rattle.hub_register.specs.declared.document.SupplierStrings.{SupplierStrings}
 use Rattle.hub_register.proofs.Rest.{same_row, at_place, rows_next, keys_next}
 use Rattle.hub_register.proofs.columns.suppliers.Goals as goal
 
@@ -28,9 +28,9 @@ loop-place-preserved c =
     let i = c.loop-place.place in
     let within = c.loop-place-test.true in
     let before = values c.loop-place.suppliers in
-    let entry : Entry = c.index-entries-place.result in
-    let there : Entry = get_or entries i entry in
-    let key : entry.key.now ≡ there.key.now = ap (λ (e : Entry). e.key.now) c.index-entries-place.is in
+    let entry : SupplierStrings = c.index-entries-place.result in
+    let there : SupplierStrings = get_or entries i entry in
+    let key : entry.key.now ≡ there.key.now = ap (λ (e : SupplierStrings). e.key.now) c.index-entries-place.is in
     let row : SupplierRow = row_with c.index-glns-place.result c.index-prefixes-place.result entry.key.now in
     let is : with_sorted_prefixes (row_in there) ≡ row =
     same_row _ _ _ there (at_place entries i entry within (λ r. r.gln) _ _ c.requires.glns c.index-glns-place.is)

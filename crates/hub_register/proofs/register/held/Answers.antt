@@ -4,8 +4,8 @@ use Rattle.hub_parties.specs.Rows.{IsRegister, rows_by}
 use Rattle.hub_register.proofs.Kept.{kept_right, kept_stand}
 use Rattle.hub_register.proofs.register.held.Goals as goal
 
-pub assembled-requires-clause-right : goal.assembled-requires-clause-right
-assembled-requires-clause-right c =
+pub register_of_parties-requires-clause-right : goal.register_of_parties-requires-clause-right
+register_of_parties-requires-clause-right c =
     let hub = c.args.hub in
     let retailer = c.args.retailer in
     let stand = c.in_ok-suppliers.ensures.rows ∙ kept_stand hub retailer c.args.retailer_key c.args.suppliers.items c.requires in
@@ -16,6 +16,6 @@ assembled-requires-clause-right c =
 
 pub returns-clause-value : goal.returns-clause-value
 returns-clause-value c =
-    c.assembled.ensures.value
+    c.register_of_parties.ensures.value
     ∙ ap (rows_by c.args.hub c.args.retailer c.args.retailer_key)
     (c.in_ok-suppliers.ensures.rows ∙ kept_stand c.args.hub c.args.retailer c.args.retailer_key c.args.suppliers.items c.requires)

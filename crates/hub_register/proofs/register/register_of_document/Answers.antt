@@ -13,8 +13,8 @@ use Rattle.hub_register.proofs.Right.{register_right, same_rows}
 use Rattle.hub_register.proofs.SortedPrefixes.{same_overlap}
 use Rattle.hub_register.proofs.register.register_of_document.Goals as goal
 
-pub assembled-requires-clause-right : goal.assembled-requires-clause-right
-assembled-requires-clause-right c =
+pub register_of_parties-requires-clause-right : goal.register_of_parties-requires-clause-right
+register_of_parties-requires-clause-right c =
     let rows = rows_from c.args.document.now in
     let items = c.args.document.now.suppliers.items in
     let entries = c.as_slice-entries.result.now in

@@ -7,8 +7,8 @@ use Rattle.hub_rows.proofs.ask.rows_of.Goals as goal
 
 pub returns-clause-asks : goal.returns-clause-asks
 returns-clause-asks g c =
-    asked_more (λ rows items. items ≡ map g.T.Shown.shown rows)
-    (λ rows. list_all g.T.Shown.clean (map g.T.Shown.shown rows) ≡ false) c.args.text.now (bound c.args.params.now)
+    asked_more (λ rows items. items ≡ map g.T.ShownRow.shown rows)
+    (λ rows. list_all g.T.ShownRow.clean (map g.T.ShownRow.shown rows) ≡ false) c.args.text.now (bound c.args.params.now)
     (state g.S.Store c.args.conn.now) (state g.S.Store c.query.new.conn) c.in_ok-rows.rows c.all_shown.result
     c.in_ok-rows.ensures.asks (rw c.as_slice.ensures.value at c.all_shown.ensures.ok)
     (rw c.as_slice.ensures.value at c.all_shown.ensures.unclean) c.all_shown.ensures.fails

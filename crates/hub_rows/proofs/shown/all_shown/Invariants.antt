@@ -4,10 +4,10 @@ use Rattle.hub_rows.proofs.shown.all_shown.Given as goal
 
 abbrev pub invariant-rows : goal.invariant-rows
 invariant-rows g l =
-    let shown = g.T.Shown.shown in
+    let shown = g.T.ShownRow.shown in
     record {
       told : map shown l.rows ≡ l.items ++ map shown (drop l.row-index l.rows);
-      clean : list_all g.T.Shown.clean l.items ≡ true;
-      spoiled : list_all g.T.Shown.clean (map shown (drop l.row-index l.rows)) ≡ false
-          → list_all g.T.Shown.clean (map shown l.rows) ≡ false;
+      clean : list_all g.T.ShownRow.clean l.items ≡ true;
+      spoiled : list_all g.T.ShownRow.clean (map shown (drop l.row-index l.rows)) ≡ false
+          → list_all g.T.ShownRow.clean (map shown l.rows) ≡ false;
     }

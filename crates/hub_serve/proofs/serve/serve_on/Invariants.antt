@@ -3,7 +3,7 @@ use Rattle.hub_http.specs.HubCore.Hub.{RunsFrom, StaysSound}
 use Rattle.hub_serve.specs.Connections.{known}
 use Rattle.hub_serve.specs.Broken.{StopsAtOnce}
 use Rattle.hub_serve.specs.declared.serve.OnBroken.TheVariants.{Stop}
-use Rattle.hub_serve.proofs.SoFar.{SoFar}
+use Rattle.hub_serve.proofs.SoFar.{ServedSoFar}
 use Rattle.hub_serve.proofs.serve.serve_on.Given as goal
 
 abbrev pub invariant-loop-number : goal.invariant-loop-number
@@ -15,7 +15,7 @@ invariant-loop-number g l = record {
   goes_on : l.on_broken ≡ Stop → (l.number ≡ 0) ⊎ (g.S.Store.broken l.hub.1 ≡ None);
   was_honest : g.S.Store.honest l.hub.1 → g.S.Store.honest l.fn.hub.1;
   held : StaysSound g.S.Store l.fn.hub l.hub;
-  so_far : SoFar (RunsFrom g.S.Store l.fn.hub l.hub)
+  so_far : ServedSoFar (RunsFrom g.S.Store l.fn.hub l.hub)
       (StopsAtOnce g.S.Store l.on_broken l.fn.hub l.hub) l.fn.hub.0
       (known (g.L.Connections.coming l.fn.connections) (g.L.Connections.closed l.fn.connections) (g.M.Moments.coming l.fn.moments))
       (known (g.L.Connections.coming l.connections) (g.L.Connections.closed l.connections) (g.M.Moments.coming l.moments))

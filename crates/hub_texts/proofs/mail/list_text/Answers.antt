@@ -11,6 +11,6 @@ returns c = λ all h.
     c.from_vec.ensures ∙ c.in_ok-put_line.ensures
     ∙ ap₂ (λ (items word : List ℕ). items ++ line (word ∷ [])) (c.in_ok-put_heads.ensures
     ∙ ap₂ (λ (items : List ℕ) (heads : List MailHead). items ++ flat_map head_line heads) c.new-out.ensures.items
-    c.listed.ensures)
+    c.listed_heads.ensures)
     (c.as_bytes.ensures.value ∙ c.last_word.ensures)
     ∙ list_of_first all c.args.heads.now h

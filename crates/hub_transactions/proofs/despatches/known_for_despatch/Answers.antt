@@ -33,7 +33,7 @@ asked g c honest old =
     let first = c.advice_known.ensures.looks.was_honest second in
     let stays = c.in_ok-used.ensures.stays.content_stays third ∙ c.advice_known.ensures.looks.content_stays second
     ∙ c.is_repetition.ensures.looks.content_stays first in
-    let before = view supplier (g.S.Store.content c.used_of.new.store) in
+    let before = view supplier (g.S.Store.content c.units_in_use.new.store) in
     let apart = map (λ number. number.now) c.know_orders.new.apart in
     subst (λ (orders : Orders). KeepsAsked asks orders apart (view supplier (g.S.Store.content c.args.store.now)))
     (sym c.index_units.ensures)
@@ -87,8 +87,8 @@ returns-then-is_some-clause-told g c = λ honest old.
     let one = c.is_repetition.ensures.looks.content_stays first in
     let remembered = c.in_ok-remembered.ensures.looks.answers first in
     let known = c.in_ok-number_known.ensures.looks.answers honest in
-    let as_it_was = c.known_with.ensures.remembered in
-    let as_known = c.known_with.ensures.number in
+    let as_it_was = c.known_for_message.ensures.remembered in
+    let as_known = c.known_for_message.ensures.number in
     record {
       seen = view c.args.supplier.now t;
       alike = λ retailer row. refl;
@@ -111,4 +111,4 @@ returns-then-is_some-clause-kept g c = λ honest old kept forgets.
     kept_whole (λ order number. true) state [] c.args.orders kept (none_apart (λ order number. true) state c.args.orders old)
     (subst (λ (xs : List (Bor (List ℕ))). ForgetsOrders (map (λ number. number.now) xs) c.args.orders kept) c.new-apart.ensures
     (subst (λ (orders : Orders). ForgetsOrders (map
-    (λ number. number.now) c.new-apart.result) orders kept) c.known_with.ensures.orders forgets))
+    (λ number. number.now) c.new-apart.result) orders kept) c.known_for_message.ensures.orders forgets))

@@ -23,7 +23,7 @@ loop-pallet-preserved g c =
       stays = search rules;
       broken = search rules;
       text = λ honest state same sees.
-          let second = c.received_of.ensures.stays.was_honest honest in
+          let second = c.receipt_rows_of.ensures.stays.was_honest honest in
           let first = c.contents_on.ensures.looks.was_honest second in
           let was = before.stays.content_stays first in
           let then = c.contents_on.ensures.looks.content_stays second ∙ was in
@@ -42,7 +42,7 @@ loop-pallet-preserved g c =
 -- the pallet at which the report stops
 unclean_pallet : (g : given.Over) (c : In_err-whole g)
     → IsUnclean c.args.lines.now c.as_slice-contents.result.now c.as_slice-receipts.result.now
-    → g.S.Store.honest c.received_of.new.store
+    → g.S.Store.honest c.receipt_rows_of.new.store
     → PalletUnclean (g.S.Store.content c.args.store.now) c.args.lines.now c.args.pallets.now
 unclean_pallet g c unclean honest =
     let t = g.S.Store.content c.args.store.now in
@@ -52,7 +52,7 @@ unclean_pallet g c unclean honest =
     let i = c.loop-pallet.pallet-index in
     let rest = drop (i + 1) pallets in
     let next = drop_more pallets i pallet c.loop-pallet-test.true ∙ ap (λ one. one ∷ rest) (sym c.pallet-item.is) in
-    let second = c.received_of.ensures.stays.was_honest honest in
+    let second = c.receipt_rows_of.ensures.stays.was_honest honest in
     let first = c.contents_on.ensures.looks.was_honest second in
     let was = c.loop-pallet.invariant.stays.content_stays first in
     let then = c.contents_on.ensures.looks.content_stays second ∙ was in

@@ -5,7 +5,7 @@ use Rattle.hub_writes.proofs.Entries.{add_mail, cells, adds_mail}
 use Rattle.hub_writes.proofs.Outcomes.{executed, insert_acts}
 use Rattle.hub_writes.proofs.Steps.{entry_is_great, refused_before}
 use Rattle.hub_writes.proofs.mail.add_mail.Goals as goal
-use Rattle.hub_writes.specs.Mail.{IsLow}
+use Rattle.hub_writes.specs.Mail.{IsLowMail}
 
 pub returns-in_default-clause-acts : goal.returns-in_default-clause-acts
 returns-in_default-clause-acts g c =
@@ -18,5 +18,5 @@ returns-clause-acts g c =
     c.execute.ensures.runs c.execute.ensures.survives
     (subst (λ n. bound c.cells.result ≡ cells (record row { number = n })) c.in-Some.ensures.some c.cells.ensures.cells) in
     insert_acts g.S.Store _ _ _ _ c.execute.result did _
-    (adds_mail row (subst (λ n. IsLow (record row { number = n })) c.in-Some.ensures.some c.cells.ensures.low)) c.insert_ended.result
+    (adds_mail row (subst (λ n. IsLowMail (record row { number = n })) c.in-Some.ensures.some c.cells.ensures.low)) c.insert_ended.result
     c.insert_ended.ensures

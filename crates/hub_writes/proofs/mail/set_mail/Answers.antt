@@ -5,7 +5,7 @@ use Rattle.hub_writes.proofs.Entries.{set_mail, cells, sets_mail}
 use Rattle.hub_writes.proofs.Outcomes.{executed, set_acts}
 use Rattle.hub_writes.proofs.Steps.{set_is_great, refused_before}
 use Rattle.hub_writes.proofs.mail.set_mail.Goals as goal
-use Rattle.hub_writes.specs.Mail.{IsLow}
+use Rattle.hub_writes.specs.Mail.{IsLowMail}
 
 pub returns-in_default-clause-acts : goal.returns-in_default-clause-acts
 returns-in_default-clause-acts g c =
@@ -18,5 +18,5 @@ returns-clause-acts g c =
     c.execute.ensures.runs c.execute.ensures.survives
     (subst (λ n. bound c.cells.result ≡ cells (record row { number = n })) c.in-Some.ensures.some c.cells.ensures.cells) in
     set_acts g.S.Store _ _ _ _ c.execute.result did _
-    (sets_mail row (subst (λ n. IsLow (record row { number = n })) c.in-Some.ensures.some c.cells.ensures.low)) c.update_ended.result
+    (sets_mail row (subst (λ n. IsLowMail (record row { number = n })) c.in-Some.ensures.some c.cells.ensures.low)) c.update_ended.result
     c.update_ended.ensures

@@ -20,8 +20,8 @@ returns-clause-index g c =
     let rows = c.args.rows.now.items in
     let index = c.args.index.now.items in
     let row = c.args.row in
-    let T = g.T.Indexed in
-    let met = g.met.T.Indexed in
+    let T = g.T.IndexedRow in
+    let met = g.met.T.IndexedRow in
     let no : c.has_key-is_there.result ≡ false = search rules in
     let new : list_any (λ old. is_eq (g.T.Row.compared old row)) rows ≡ false = rw c.as_slice.ensures.value at
     (sym c.has_key-is_there.ensures ∙ no) in

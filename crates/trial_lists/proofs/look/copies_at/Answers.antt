@@ -10,11 +10,11 @@ loop-key-preserved g c =
     let i = c.loop-key.key-index in
     let keys = c.args.keys.now in
     let found = c.loop-key.found in
-    let at = λ (key : g.row.K.Denot). find (g.K.Key.wanted key) c.args.rows.now in
+    let at = λ (key : g.row.K.Denot). find (g.K.SearchKey.wanted key) c.args.rows.now in
     let within : i < length keys = search rules in
     let later = filter_map at (drop (i + 1) keys) in
     let step = c.loop-key.invariant ∙ ap (λ rest. found ++ rest) (filter_map_step at keys i c.key-item.result within c.key-item.is) in
-    let first = sym (first_is_found (g.K.Key.wanted c.key-item.result) c.args.rows.now)
+    let first = sym (first_is_found (g.K.SearchKey.wanted c.key-item.result) c.args.rows.now)
     ∙ ap (λ rows. slice_get rows 0) (sym c.rows_at.ensures) in
     elim c.match-first.branch [
       | in-Some+in_ok-copy+in_ok-push w ↦

@@ -9,7 +9,7 @@ use Rattle.trial_lists.proofs.search.count_within.Goals as goal
 pub returns-then-count-lt-NEAR-clause-count : goal.returns-then-count-lt-NEAR-clause-count
 returns-then-count-lt-NEAR-clause-count g c =
     let rows = c.args.rows.now in
-    let passes = λ (row : g.row.T.Denot). is_le (g.K.Key.place c.args.key.now row) in
+    let passes = λ (row : g.row.T.Denot). is_le (g.K.SearchKey.place c.args.key.now row) in
     let least : c.min.result ≡ min 16 (length rows) = search rules in
     let front = ap (λ n. take n rows) least ∙ take_min 16 rows in
     let count = c.count_among-count.ensures.count ∙ ap (prefix_len passes) front in

@@ -15,10 +15,10 @@ pub returns : goal.returns
 returns g c =
     let rows = c.args.rows.now in
     let start = c.count_below-start.result in
-    let place = g.K.Key.place c.args.key.now in
+    let place = g.K.SearchKey.place c.args.key.now in
     let rest = rest_is start rows in
     let count = c.count_within-count.ensures.count ∙ ap (prefix_len (λ row. is_le (place row))) rest in
     ap (take c.count_within-count.result) rest ∙ ap (λ n. take n (drop start rows)) count
     ∙ ap (λ n. take (prefix_len (λ row. is_le (place row)) (drop n rows)) (drop n rows)) c.count_below-start.ensures.count
-    ∙ sym (at_place place rows (parted place g.T.Row.compared (g.met.K.Key.kept c.args.key.now) rows c.requires))
-    ∙ (λ i. filter (λ row. g.met.K.Key.exact c.args.key.now row i) rows)
+    ∙ sym (at_place place rows (parted place g.T.Row.compared (g.met.K.SearchKey.kept c.args.key.now) rows c.requires))
+    ∙ (λ i. filter (λ row. g.met.K.SearchKey.exact c.args.key.now row i) rows)

@@ -7,16 +7,16 @@ use Rattle.edi_envelope.specs.declared.check.EnvelopeCheck.{EnvelopeCheck}
 use Rattle.edi_envelope.specs.Check.{Checked, is_fine}
 use Rattle.edi_relay.specs.declared.mails.Mails.{Mails}
 use Rattle.edi_relay.specs.declared.relay.RelayWords.{RelayWords}
-use Rattle.edi_relay.specs.Mails.{Writes}
-use Rattle.edi_relay.specs.Relaying.{Stands}
+use Rattle.edi_relay.specs.Mails.{WritesMails}
+use Rattle.edi_relay.specs.Relaying.{RelayingStands}
 use Rattle.edi_relay.proofs.relaying.Relaying.take.Goals as goal
 
 -- what is written is kept while no fault is certain
 stands : {A E : Type 0} (words : RelayWords) (mark : ℕ) (lent : List Segment) (check : EnvelopeCheck) (mails : Mails)
     → (r : Result A E)
     → Checked lent check
-    → (is_fine check ≡ true → OnOk r (Writes words mark lent mails))
-    → OnOk r (Stands words mark lent (record { check = check; mails = mails }))
+    → (is_fine check ≡ true → OnOk r (WritesMails words mark lent mails))
+    → OnOk r (RelayingStands words mark lent (record { check = check; mails = mails }))
 stands words mark lent check mails (Ok x) checked kept = record { checked = checked; kept = kept }
 stands words mark lent check mails (Err e) checked kept = tt
 

@@ -3,7 +3,7 @@ use Rattle.edi_segments.specs.declared.fault.TokenFault.{TokenFault}
 use Rattle.std.specs.Io.KnownBytes.{IsAtEnd}
 use Rattle.std.proofs.lemmas.Result.{err_from_is_err_and}
 use Rattle.edi_segments.specs.Machine.{reading_of}
-use Rattle.edi_tokens.specs.Lender.{AtEnd, Came, Fed, Took, FitsSome, Filled, FillsSome, TakesOf}
+use Rattle.edi_tokens.specs.Lender.{AtEnd, Came, Fed, Took, FitsSome, TellsRefill, FillsSome, TakesOf}
 use Rattle.edi_tokens.proofs.Lending.{takes_then, has_cause, finish_text}
 use Rattle.edi_tokens.proofs.lender.Lender.step.Given as given
 use Rattle.edi_tokens.proofs.lender.Lender.step.Goals as goal
@@ -39,9 +39,9 @@ flag g c = c.in_ok-refill.ensures.flag ∙ c.loop-self.invariant.flag
 -- the text ends here
 ended : (g : given.Over) (c : In_ok-refill g) (all : _) (lent : _) → c.in_ok-refill.field-0 ≡ false
     → Fed (g.R.Source.remaining c.args.reader.now) all lent c.args.self.now
-    → Filled (g.R.Source.remaining c.refill.new.reader) all lent (Ok false) c.refill.new.self
+    → TellsRefill (g.R.Source.remaining c.refill.new.reader) all lent (Ok false) c.refill.new.self
 ended g c all lent none fed =
-    subst (λ (b : Bool). Filled (g.R.Source.remaining c.refill.new.reader) all lent (Ok b) c.refill.new.self) none
+    subst (λ (b : Bool). TellsRefill (g.R.Source.remaining c.refill.new.reader) all lent (Ok b) c.refill.new.self) none
     (c.in_ok-refill.ensures.told all lent
     (subst (λ (b : Bool). Took (g.R.Source.remaining c.loop-self.reader) all lent (Ok b) c.take_piece.new.self) c.if-branch.false
     (c.in_ok-take_piece.ensures.told _ all lent (c.loop-self.invariant.told all lent fed))))
@@ -89,7 +89,7 @@ returns-then-not-branch-clause-bound g c = bound g (goal.at.returns-then-not-bra
 pub loop-self-preserved : goal.loop-self-preserved
 loop-self-preserved g c = record {
   told = λ all lent fed.
-      subst (λ (b : Bool). Filled (g.R.Source.remaining c.refill.new.reader) all lent (Ok b) c.refill.new.self) c.if-not-branch.false
+      subst (λ (b : Bool). TellsRefill (g.R.Source.remaining c.refill.new.reader) all lent (Ok b) c.refill.new.self) c.if-not-branch.false
       (c.in_ok-refill.ensures.told all lent (taken_all g (goal.at.loop-self-preserved g c).After-refill all lent fed));
   some = λ lent came.
       subst (λ (b : Bool). FillsSome lent (Ok b) c.refill.new.self) c.if-not-branch.false

@@ -28,8 +28,8 @@ invariant_of-self-2 c =
     let line = c.index_mut-line.result.now in
     let alike = c.if-not-is_alike.ensures.alike refl in
     known_still lines row c.in-Some.place line (found c).0 c.index_mut-line.ensures.value (found c).1 alike.0 alike.1 row.ordered
-    row.open_qty row.refused row.cancelled c.of-line.result c.in-Some-despatched_of.despatched refl refl refl refl
-    (c.of-line.ensures ∙ c.case.ensures) c.in-Some-despatched_of.ensures.adds_up c.self.invariant
+    row.open_qty row.refused row.cancelled c.of-line.result c.in-Some-despatched_quantity.despatched refl refl refl refl
+    (c.of-line.ensures ∙ c.case.ensures) c.in-Some-despatched_quantity.ensures.adds_up c.self.invariant
 
 pub returns-clause-set : goal.returns-clause-set
 returns-clause-set c is_true =
@@ -38,7 +38,7 @@ returns-clause-set c is_true =
     let line = c.index_mut-line.result.now in
     let alike = c.if-not-is_alike.ensures.alike refl in
     rows_set lines row c.in-Some.place line (found c).0 c.index_mut-line.ensures.value (found c).1 alike.0 alike.1 row.ordered
-    row.open_qty row.refused row.cancelled c.of-line.result c.in-Some-despatched_of.despatched refl refl refl refl
+    row.open_qty row.refused row.cancelled c.of-line.result c.in-Some-despatched_quantity.despatched refl refl refl refl
     (c.of-line.ensures ∙ c.case.ensures) c.self.invariant.rise
     ∙ ap (λ lines. replace (same_line row) row (rows lines)) c.self.view_is
 
@@ -49,6 +49,6 @@ returns-clause-keys c =
     let line = c.index_mut-line.result.now in
     let alike = c.if-not-is_alike.ensures.alike refl in
     keys_stay lines row c.in-Some.place line (found c).0 c.index_mut-line.ensures.value (found c).1 alike.0 alike.1 row.ordered
-    row.open_qty row.refused row.cancelled c.of-line.result c.in-Some-despatched_of.despatched refl refl refl refl
+    row.open_qty row.refused row.cancelled c.of-line.result c.in-Some-despatched_quantity.despatched refl refl refl refl
     (c.of-line.ensures ∙ c.case.ensures)
     ∙ ap keys_of c.self.view_is

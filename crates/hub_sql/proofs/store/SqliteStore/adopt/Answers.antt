@@ -10,41 +10,41 @@ pub returns-in-Err-clause-refuses : goal.returns-in-Err-clause-refuses
 returns-in-Err-clause-refuses g c =
     refused_version c.in-Err.ensures.refuses c.in-Err.ensures.other c.in-Err.ensures.unclean c.in-Err.ensures.disk c.in-Err.ensures.spared
 
-pub returns-in-Err-reopened-clause-refuses : goal.returns-in-Err-reopened-clause-refuses
-returns-in-Err-reopened-clause-refuses g c =
+pub returns-in-Err-reopen-clause-refuses : goal.returns-in-Err-reopen-clause-refuses
+returns-in-Err-reopen-clause-refuses g c =
     refused_later c.in-Ok.ensures.schema
-    (λ is. absurd (elim c.in-Err-reopened.ensures.fails [ inl memory ↦ cc | inr disk ↦ cc ]))
+    (λ is. absurd (elim c.in-Err-reopen.ensures.fails [ inl memory ↦ cc | inr disk ↦ cc ]))
     (λ none clean.
     none (holds_hub c.in-Ok.version (state g.S.Store c.args.conn).now c.in-Ok.ensures.later
-    (c.in-Ok.ensures.holds (c.in-Err-reopened.ensures.spared.clean clean)).0))
-    (λ is. absurd (elim c.in-Err-reopened.ensures.fails [ inl memory ↦ cc | inr disk ↦ cc ])) (
+    (c.in-Ok.ensures.holds (c.in-Err-reopen.ensures.spared.clean clean)).0))
+    (λ is. absurd (elim c.in-Err-reopen.ensures.fails [ inl memory ↦ cc | inr disk ↦ cc ])) (
       c.in-Ok.version,
       (
         c.in-Ok.ensures.later,
         (
           c.in-Ok.ensures.known,
           λ clean.
-              let early = c.in-Err-reopened.ensures.spared.clean clean in
-              stays_shut g.S.Store (state g.S.Store c.args.conn) (state g.S.Store c.in-Ok.conn) c.in-Ok.version c.in-Err-reopened.store
-              c.in-Err-reopened.fault (c.in-Ok.ensures.holds early).1.committed (c.in-Ok.ensures.counted early).faults
-              (c.in-Err-reopened.ensures.shut clean),
+              let early = c.in-Err-reopen.ensures.spared.clean clean in
+              stays_shut g.S.Store (state g.S.Store c.args.conn) (state g.S.Store c.in-Ok.conn) c.in-Ok.version c.in-Err-reopen.store
+              c.in-Err-reopen.fault (c.in-Ok.ensures.holds early).1.committed (c.in-Ok.ensures.counted early).faults
+              (c.in-Err-reopen.ensures.shut clean),
         ),
       ),
     )
-    (spared_before g.S.Store (state g.S.Store c.args.conn) c.in-Ok.conn c.in-Err-reopened.store
-    (λ clean. (c.in-Ok.ensures.holds clean).1) c.in-Ok.ensures.clean c.in-Err-reopened.ensures.spared)
+    (spared_before g.S.Store (state g.S.Store c.args.conn) c.in-Ok.conn c.in-Err-reopen.store
+    (λ clean. (c.in-Ok.ensures.holds clean).1) c.in-Ok.ensures.clean c.in-Err-reopen.ensures.spared)
 
 anew : (g : given.Over) (c : After-taken g)
-    → IsAnew g.S.Store c.in-Ok.version (state g.S.Store c.args.conn) c.in-Ok.conn c.in-Ok-reopened.conn
+    → IsAnew g.S.Store c.in-Ok.version (state g.S.Store c.args.conn) c.in-Ok.conn c.in-Ok-reopen.conn
 anew g c = record {
   known = c.in-Ok.ensures.known;
   holds = c.in-Ok.ensures.holds;
   clean = c.in-Ok.ensures.clean;
-  early = c.in-Ok-reopened.ensures.clean;
-  rows = c.in-Ok-reopened.ensures.rows;
-  limit = c.in-Ok-reopened.ensures.fresh.unlimited ∙ sym c.requires.unlimited;
-  ready = c.in-Ok-reopened.ensures.ready;
-  settled = g.met.S.Store.settled c.in-Ok-reopened.conn.store;
+  early = c.in-Ok-reopen.ensures.clean;
+  rows = c.in-Ok-reopen.ensures.rows;
+  limit = c.in-Ok-reopen.ensures.fresh.unlimited ∙ sym c.requires.unlimited;
+  ready = c.in-Ok-reopen.ensures.ready;
+  settled = g.met.S.Store.settled c.in-Ok-reopen.conn.store;
 }
 
 pub returns-in-Err-taken-clause-refuses : goal.returns-in-Err-taken-clause-refuses
@@ -54,8 +54,8 @@ returns-in-Err-taken-clause-refuses g c =
 
 pub taken-requires-clause-ordered : goal.taken-requires-clause-ordered
 taken-requires-clause-ordered g c clean =
-    hub_shaped c.in-Ok.version (state g.S.Store c.in-Ok-reopened.conn).now.trees c.in-Ok.ensures.later
-    (c.in-Ok-reopened.ensures.shaped clean)
+    hub_shaped c.in-Ok.version (state g.S.Store c.in-Ok-reopen.conn).now.trees c.in-Ok.ensures.later
+    (c.in-Ok-reopen.ensures.shaped clean)
 
 pub returns-in-Ok-taken-clause-adopts : goal.returns-in-Ok-taken-clause-adopts
 returns-in-Ok-taken-clause-adopts g c =

@@ -1,5 +1,0 @@
-use Rattle.std.proofs.Common.{rules}
-use Rattle.edi_base.proofs.items.copied.Goals as goal
-
-pub returns : goal.returns
-returns c = search rules

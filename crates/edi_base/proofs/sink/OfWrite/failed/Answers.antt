@@ -1,5 +1,0 @@
-use Rattle.std.proofs.Common.{rules}
-use Rattle.edi_base.proofs.sink.OfWrite.failed.Goals as goal
-
-pub returns : goal.returns
-returns g c = search rules
