@@ -20,7 +20,7 @@ pub struct Feeder<R> {
 
 /// Out of memory: the reader, as it was.
 #[derive(Debug, Drop)]
-pub struct RefusedReader<R> {
+pub struct Refused<R> {
     pub reader: R,
 }
 
@@ -33,7 +33,7 @@ impl<R: Source> Feeder<R> {
     ghost use Rattle.edi_segments.specs.SegmentRef.{segment_in, segment_told};
 
     /// Nothing is read yet. If memory is refused, the reader is given back.
-    pub fn new(alloc: Global, reader: R) -> Result<Self, RefusedReader<R>>
+    pub fn new(alloc: Global, reader: R) -> Result<Self, Refused<R>>
         ensures fed { IfOk result (λ feeder. (known : List ℕ) → R.remaining reader ≡ Some known →
             Fed (R.remaining feeder.reader) known [] feeder.lender) }
         ensures kept { IfOk result (λ feeder. feeder.reader ≡ reader) }
@@ -42,7 +42,7 @@ impl<R: Source> Feeder<R> {
     {
         match Lender::new(alloc) {
             Ok(lender) => Ok(Feeder { reader, lender }),
-            Err(_) => Err(RefusedReader { reader }),
+            Err(_) => Err(Refused { reader }),
         }
     }
 

@@ -15,7 +15,7 @@ pub use edi_base::{
     write_bytes,
 };
 pub use edi_segments::{Elements, Segment, SegmentRef, Service, TokenFault, Tokens};
-pub use feeder::{Feeder, RefusedReader};
+pub use feeder::{Feeder, Refused};
 pub use laws::{
     canonical_text_spells_again, lent_segments_are_spelled, reading_is_the_grammar,
     service_is_settled, text_spells_one_list, text_spells_or_shows_a_fault,

@@ -17,7 +17,7 @@ use hub_tables::{
 use hub_verify::{AllRows, PieceKind, Read};
 use sqlite::Alter;
 
-// What a look-up of clean rows fails with: a row without its form is not what the disk held when all were checked.
+// What a look-up fails with: a row that cannot be taken is not what the disk held when the file was opened or checked.
 fn read_fault(fault: StoreFault) -> StoreFault
     ensures { IsReadFault result }
 {

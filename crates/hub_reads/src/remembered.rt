@@ -137,7 +137,7 @@ fn matches_content<'a, S: Alter>(
 }
 
 /// Returns whether this text is the content remembered for a side under two references, or `None` if nothing is
-/// remembered. The content is copied only if it is as long as the text.
+/// remembered. The content is copied only if it is as long as the text, which takes a second query.
 pub fn matches_remembered<'a, S: Alter>(
     conn: &mut Connection<S>,
     supplier: &'a Gln,

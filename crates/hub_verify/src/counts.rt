@@ -190,7 +190,7 @@ fn entries<S: AllRows>(store: &mut S, alloc: Global) -> Result<(usize, usize), S
 ///
 /// # Errors
 ///
-/// `Memory`; or `Disk`, also if a row does not have the form of its kind.
+/// `Memory`, also if there are 2^64 rows or more; or `Disk`, also if a row does not have the form of its kind.
 pub fn count<S: AllRows>(store: &mut S, alloc: Global) -> Result<Counts, StoreFault>
     ensures { Tells S.content S.honest AreCounts store.old store.new result }
 {
