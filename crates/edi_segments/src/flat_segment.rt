@@ -15,7 +15,7 @@ use std::marker::Model;
 /// The longest segment in bytes, tag and terminator counted.
 pub(crate) const SEGMENT_LIMIT: usize = 8192;
 
-/// What has come of a segment after its tag.
+/// What was read of a segment behind its tag.
 #[derive(Drop)]
 pub(crate) struct FlatSegment {
     tag: [u8; 3],
@@ -128,7 +128,7 @@ impl FlatSegment {
         self.size
     }
 
-    /// Whether nothing has come of the open component.
+    /// Whether the open component is still empty.
     fn is_component_empty(&self) -> bool
         ensures { result ≡ (length self.now.component == 0) }
     {

@@ -30,7 +30,7 @@ enum BytePlace {
     Released,
 }
 
-/// What has come of a text.
+/// How far a text was read.
 #[derive(Drop)]
 pub struct Machine {
     /// The service characters, as far as they are known.

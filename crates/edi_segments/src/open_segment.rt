@@ -14,7 +14,7 @@ use edi_base::MemoryFault;
 use std::alloc::Global;
 use std::marker::Model;
 
-/// What has come of a segment after its tag.
+/// What was read of a segment behind its tag.
 #[derive(Drop)]
 pub(crate) struct OpenSegment {
     parts: FlatSegment,

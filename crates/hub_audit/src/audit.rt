@@ -46,7 +46,7 @@ fn audit_rows<S: Alter>(rows: &mut HubRows<S>, alloc: Global) -> Result<Audit, S
     }
 }
 
-// The same of a connection to a hub.
+// Decides what the rows behind a connection to a hub are, and counts them if they are a sound start.
 fn audit_hub<S: Alter + Drop>(
     alloc: Global,
     conn: Connection<S>,

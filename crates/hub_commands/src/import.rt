@@ -93,7 +93,7 @@ fn open_source<B: Source + Drop>(
     unless_unread(upload)
 }
 
-// Uploads a file, and prints what comes of it. Returns its exit status.
+// Uploads a file, and prints the reply. Returns its exit status.
 fn import_file<S: Store, B: Source + Drop, W: Sink>(
     alloc: Global,
     hub: &mut Hub<S>,
