@@ -24,7 +24,7 @@ use Rattle.edi_envelope.specs.Segments.{is_unb, is_unz, is_unh, is_unt, componen
 use Rattle.edi_envelope.specs.Header.{is_valid_header}
 use Rattle.edi_envelope.specs.Blocks.{blocks}
 use Rattle.edi_envelope.specs.Message.{is_frame, reference_of}
-use Rattle.edi_envelope.specs.Reference.{kept}
+use Rattle.edi_envelope.specs.Reference.{filled_reference}
 use Rattle.edi_envelope.specs.Interchange.{is_framed, is_outside_set, has_high_data, fault_of}
 use Rattle.edi_envelope.specs.Check.{is_outer, has_identity, follows, marks_of, Heads, Trails, Fronted, IsBetween, IsInMessage}
 use Rattle.edi_envelope.specs.Check.{IsEnded, IsBroken, StandsAt, Checked, is_sound, is_fine, is_fine_at, are_heads_sound, are_trails_sound}
@@ -337,7 +337,7 @@ module _ (j : EnvelopeCheck) (s : Segment) where
     pub opens : (headers : Headers) (begun : Begun) → j.stage ≡ Between → is_unh s ≡ true
         → ((messages : List (List Segment)) → Heads messages j.headers → Heads (messages ++ (s ∷ []) ∷ []) headers)
         → (are_heads_sound headers ≡ true → are_heads_sound j.headers ≡ true)
-        → begun.reference ≡ kept (component s 0 0)
+        → begun.reference ≡ filled_reference (component s 0 0)
         → begun.count ≡ 1
         → Steps j place.MessageHeader s (put (Message begun) headers j.trailers)
     opens headers begun is h heads sound reference count = record {
@@ -368,7 +368,7 @@ module _ (j : EnvelopeCheck) (s : Segment) where
     -- UNT in a message
     pub shuts : (begun : Begun) (trailers : Trailers) → j.stage ≡ Message begun → is_unt s ≡ true
         → ((messages : List (List Segment)) (unh : Segment) (body : List Segment) → Trails messages j.trailers
-        → begun.count ≡ length (unh ∷ body) → begun.reference ≡ kept (component unh 0 0)
+        → begun.count ≡ length (unh ∷ body) → begun.reference ≡ filled_reference (component unh 0 0)
         → Trails (messages ++ (unh ∷ body ++ s ∷ []) ∷ []) trailers)
         → (are_trails_sound trailers ≡ true → are_trails_sound j.trailers ≡ true)
         → Steps j place.MessageTrailer s (put Between j.headers trailers)

@@ -19,12 +19,12 @@ use Rattle.edi_envelope.specs.Limits.{is_reference}
 use Rattle.edi_envelope.specs.Header.{is_valid_header, is_test}
 use Rattle.edi_envelope.specs.Blocks.{blocks}
 use Rattle.edi_envelope.specs.Message.{is_within_limits, is_counted, is_closed, reference_of}
-use Rattle.edi_envelope.specs.Reference.{kept}
+use Rattle.edi_envelope.specs.Reference.{filled_reference}
 use Rattle.edi_envelope.specs.Interchange.{is_framed, is_row_of_messages, is_outside_set, has_high_data, messages_in, fault_of}
 use Rattle.edi_envelope.specs.Check.{has_identity, has_count, follows, marks_of, Fronted, IsBetween}
 use Rattle.edi_envelope.specs.Check.{IsEnded, marks_at, lowest_of, lost_fault, is_sound}
 use Rattle.edi_envelope.proofs.JoinLemmas.{last_of, between_of}
-use Rattle.edi_envelope.proofs.ReferenceLemmas.{kept-eq}
+use Rattle.edi_envelope.proofs.ReferenceLemmas.{filled_eq}
 use Rattle.edi_envelope.proofs.RowLemmas.{framed_by, framed_once, is_row, row_follows}
 use Rattle.edi_envelope.proofs.TallyLemmas.{within_both}
 
@@ -195,8 +195,8 @@ module _ (u : Segment) (m : List Segment) (z : Segment) (j : EnvelopeCheck) (r :
       ∙ ap (λ l. is_count_of (component z 0 0) (length l)) messages_are
       ∙ ap (is_count_of (component z 0 0)) (sym r.heads.count)))
       (λ e. ap not (ap (λ x. bytes_eq (component x 1 0) (component u 4 0)) ends
-      ∙ sym (kept-eq (component z 1 0) (component u 4 0) (reference_in u (not-false _ e)))
-      ∙ ap (λ (k : HeaderMarks). bytes_eq (kept (component z 1 0)) k.reference) (sym r.fronted.header_is)))
+      ∙ sym (filled_eq (component z 1 0) (component u 4 0) (reference_in u (not-false _ e)))
+      ∙ ap (λ (k : HeaderMarks). bytes_eq (filled_reference (component z 1 0)) k.reference) (sym r.fronted.header_is)))
       (λ e. ap (λ l. has_twice (map reference_of l)) messages_are ∙ sym (r.heads.twice (known e)))
       (ap (λ (k : HeaderMarks). k.test) (sym r.fronted.header_is))
       (ap (λ l. nat_lt 999 (length l)) messages_are ∙ ap (nat_lt 999) (sym r.heads.count))

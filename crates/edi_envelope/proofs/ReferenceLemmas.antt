@@ -16,7 +16,7 @@ use Rattle.std.proofs.lemmas.Bool.Decides.{same_from_decides}
 use Rattle.std.proofs.lemmas.Slice.Eq.{bytes_eq-Decides}
 use Rattle.edi_base.specs.Limits.{is_printable}
 use Rattle.edi_envelope.specs.Limits.{is_reference}
-use Rattle.edi_envelope.specs.Reference.{kept}
+use Rattle.edi_envelope.specs.Reference.{filled_reference}
 
 -- a printable byte is not zero
 printable_least : (b : ℕ) → is_printable b ≡ true → 32 ≤ b
@@ -43,36 +43,38 @@ same_filled (x ∷ xs) (y ∷ ys) m n p q e =
     let rest = same_filled xs ys m n (and_parts _ _ p).1 (and_parts _ _ q).1 others in
     ap (λ b. b ∷ xs) first ∙ ap (λ bs. y ∷ bs) rest
 
-pub kept-reference : (text : List ℕ) → is_reference text ≡ true → kept text ≡ text ++ replicate (14 - length text) 0
-kept-reference text h = rw h refl
+pub filled_of_reference : (text : List ℕ) → is_reference text ≡ true → filled_reference text ≡ text ++ replicate (14 - length text) 0
+filled_of_reference text h = rw h refl
 
-kept-none : (text : List ℕ) → is_reference text ≡ false → kept text ≡ replicate 14 0
-kept-none text h = rw h refl
+filled_of_other : (text : List ℕ) → is_reference text ≡ false → filled_reference text ≡ replicate 14 0
+filled_of_other text h = rw h refl
 
 -- what is no reference is kept as none is
-none_differs : (other text : List ℕ) → is_reference other ≡ false → is_reference text ≡ true → kept other ≡ kept text → ⊥
+none_differs : (other text : List ℕ) → is_reference other ≡ false → is_reference text ≡ true
+    → filled_reference other ≡ filled_reference text → ⊥
 none_differs other [] not_one is e = true≢false (sym is)
 none_differs other (b ∷ rest) not_one is e =
     zeros_begin 14 b (rest ++ replicate (14 - length (b ∷ rest)) 0)
     (printable_least b (and_parts _ _ (and_parts _ _ is).1).0)
-    (sym (kept-none other not_one) ∙ e ∙ kept-reference (b ∷ rest) is)
+    (sym (filled_of_other other not_one) ∙ e ∙ filled_of_reference (b ∷ rest) is)
 
-pub kept_again : (other text : List ℕ) → is_reference text ≡ true → kept other ≡ kept text → other ≡ text
-kept_again other text is e =
+pub filled_again : (other text : List ℕ) → is_reference text ≡ true → filled_reference other ≡ filled_reference text → other ≡ text
+filled_again other text is e =
     elim (cases_Bool (is_reference other)) [
       | inl too ↦
           same_filled other text (14 - length other) (14 - length text) (and_parts _ _ too).1 (and_parts _ _ is).1
-          (sym (kept-reference other too) ∙ e ∙ kept-reference text is)
+          (sym (filled_of_reference other too) ∙ e ∙ filled_of_reference text is)
       | inr not_one ↦ absurd (none_differs other text not_one is e)
     ]
 
 -- references are compared as they are kept
-pub kept-eq : (other text : List ℕ) → is_reference text ≡ true → bytes_eq (kept other) (kept text) ≡ bytes_eq other text
-kept-eq other text is =
-    let as_kept = bytes_eq-Decides (kept other) (kept text) in
+pub filled_eq : (other text : List ℕ) → is_reference text ≡ true
+    → bytes_eq (filled_reference other) (filled_reference text) ≡ bytes_eq other text
+filled_eq other text is =
+    let as_kept = bytes_eq-Decides (filled_reference other) (filled_reference text) in
     let as_is = bytes_eq-Decides other text in
-    same_from_decides (bytes_eq (kept other) (kept text)) (bytes_eq other text) as_kept
-    ((λ t. ap kept (as_is.0 t)), (λ e. as_is.1 (kept_again other text is e)))
+    same_from_decides (bytes_eq (filled_reference other) (filled_reference text)) (bytes_eq other text) as_kept
+    ((λ t. ap filled_reference (as_is.0 t)), (λ e. as_is.1 (filled_again other text is e)))
 
 -- ---- references that are kept in a set, in the order of their bytes
 abbrev pub itself : List ℕ → List ℕ

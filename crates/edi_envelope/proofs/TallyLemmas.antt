@@ -15,10 +15,10 @@ use Rattle.edi_envelope.specs.declared.tally.Headers.{Headers}
 use Rattle.edi_envelope.specs.declared.tally.Trailers.{Trailers}
 use Rattle.edi_envelope.specs.Segments.{component, first_segment, last_segment}
 use Rattle.edi_envelope.specs.Limits.{is_reference}
-use Rattle.edi_envelope.specs.Reference.{kept}
+use Rattle.edi_envelope.specs.Reference.{filled_reference}
 use Rattle.edi_envelope.specs.Message.{reference_of, is_counted, is_closed, is_within_limits}
 use Rattle.edi_envelope.specs.Check.{has_identity, has_count, Heads, Trails}
-use Rattle.edi_envelope.proofs.ReferenceLemmas.{kept-eq}
+use Rattle.edi_envelope.proofs.ReferenceLemmas.{filled_eq}
 use Rattle.edi_envelope.proofs.RowLemmas.{at_end}
 
 pub all_more : {X : Type 0} (p : X → Bool) (xs : List X) (x : X) → list_all p (xs ++ x ∷ []) ≡ (list_all p xs && p x)
@@ -98,12 +98,13 @@ module _ (messages : List (List Segment)) (h : Headers) (unh : Segment) (heads :
       → count ≡ h.messages + 1
       → identified ≡ true
       → h.twice ≡ false
-      → twice ≡ is_among (kept text) h.seen
-      → ((other : List ℕ) → is_among other seen ≡ (bytes_eq other (kept text) || is_among other h.seen))
+      → twice ≡ is_among (filled_reference text) h.seen
+      → ((other : List ℕ) → is_among other seen ≡ (bytes_eq other (filled_reference text) || is_among other h.seen))
       → Heads more (record { identified = identified; messages = count; twice = twice; seen = seen })
   heads_seen identified count twice seen is n yes_so once found put =
       let both = known (sym is ∙ yes_so) in
-      let among : is_among (kept text) h.seen ≡ is_among text (map reference_of messages) = heads.seen both.0 once text both.1 in
+      let among : is_among (filled_reference text) h.seen ≡ is_among text (map reference_of messages) =
+          heads.seen both.0 once text both.1 in
       record {
         identified = is ∙ ap (λ b. b && has_identity unh) heads.identified ∙ sym identified_more;
         count = n ∙ ap (λ m. m + 1) heads.count ∙ sym count_more;
@@ -112,7 +113,7 @@ module _ (messages : List (List Segment)) (h : Headers) (unh : Segment) (heads :
             ∙ sym (ap has_twice references ∙ twice_more (map reference_of messages) text
             ∙ ap (λ b. b || is_among text (map reference_of messages)) (sym (heads.twice both.0) ∙ once));
         seen = λ e e2 other reference.
-            put (kept other) ∙ ap (λ b. b || is_among (kept other) h.seen) (kept-eq other text both.1)
+            put (filled_reference other) ∙ ap (λ b. b || is_among (filled_reference other) h.seen) (filled_eq other text both.1)
             ∙ ap (λ b. bytes_eq other text || b) (heads.seen both.0 once other reference)
             ∙ sym (ap (is_among other) references ∙ among-push other (map reference_of messages) text);
       }
@@ -132,7 +133,7 @@ module _ (messages : List (List Segment)) (t : Trailers) (unh : Segment) (body :
       → count ≡ length (unh ∷ body) + 1
       → within ≡ (t.within && is_count (component unt 0 0))
       → counted ≡ (t.counted && is_count_of (component unt 0 0) count)
-      → closed ≡ (t.closed && bytes_eq (kept (component unt 1 0)) (kept (component unh 0 0)))
+      → closed ≡ (t.closed && bytes_eq (filled_reference (component unt 1 0)) (filled_reference (component unh 0 0)))
       → Trails (messages ++ block ∷ []) (record { within = within; counted = counted; closed = closed })
   trails_more count within counted closed n is_within is_counted_so is_closed_so = record {
     within =
@@ -147,8 +148,9 @@ module _ (messages : List (List Segment)) (t : Trailers) (unh : Segment) (body :
         let parts = and_parts _ _ (sym (all_more (λ message. has_identity (first_segment message)) messages block) ∙ e) in
         let reference : is_reference (component unh 0 0) ≡ true =
         (and_parts _ _ (and_parts _ _ (and_parts _ _ (and_parts _ _ (and_parts _ _ parts.1).0).0).0).0).0 in
-        is_closed_so ∙ ap (λ b. b && bytes_eq (kept (component unt 1 0)) (kept (component unh 0 0))) (trails.closed parts.0)
-        ∙ ap (λ b. list_all is_closed messages && b) (kept-eq (component unt 1 0) (component unh 0 0) reference)
+        is_closed_so ∙ ap (λ b. b && bytes_eq (filled_reference (component unt 1 0)) (filled_reference (component unh 0 0)))
+        (trails.closed parts.0)
+        ∙ ap (λ b. list_all is_closed messages && b) (filled_eq (component unt 1 0) (component unh 0 0) reference)
         ∙ ap (λ s. list_all is_closed messages && bytes_eq (component s 1 0) (component unh 0 0)) (sym last_is)
         ∙ sym (all_more is_closed messages block);
   }

@@ -26,7 +26,7 @@ use Rattle.edi_envelope.specs.Limits.{is_reference, is_identifier}
 use Rattle.edi_envelope.specs.Header.{is_valid_header, is_test, is_seven_bit_set}
 use Rattle.edi_envelope.specs.Blocks.{blocks}
 use Rattle.edi_envelope.specs.Message.{is_frame, is_counted, is_closed, reference_of}
-use Rattle.edi_envelope.specs.Reference.{kept}
+use Rattle.edi_envelope.specs.Reference.{filled_reference}
 use Rattle.edi_envelope.specs.Interchange.{is_framed, is_outside_set, has_high_data, fault_of}
 
 -- a segment that is allowed only at an end of the interchange
@@ -61,7 +61,7 @@ marks_of unb = record {
   taken = is_valid_header unb;
   test = is_test unb;
   seven_bit = is_seven_bit_set unb;
-  reference = kept (component unb 4 0);
+  reference = filled_reference (component unb 4 0);
 }
 
 -- what the UNH of messages say
@@ -70,7 +70,7 @@ pub record Heads (messages : List (List Segment)) (headers : Headers) : Type 0 w
   pub count : headers.messages ≡ length messages
   pub twice : headers.identified ≡ true → headers.twice ≡ has_twice (map reference_of messages)
   pub seen : headers.identified ≡ true → headers.twice ≡ false → (text : List ℕ) → is_reference text ≡ true
-      → is_among (kept text) headers.seen ≡ is_among text (map reference_of messages)
+      → is_among (filled_reference text) headers.seen ≡ is_among text (map reference_of messages)
 
 -- what the UNT of messages say
 pub record Trails (messages : List (List Segment)) (trailers : Trailers) : Type 0 where
@@ -107,7 +107,7 @@ pub record IsInMessage (lent : List Segment) (check : EnvelopeCheck) (begun : Be
   pub heads : Heads (blocks (drop 1 lent)) check.headers
   pub trails : Trails (blocks before) check.trailers
   pub count : begun.count ≡ length (unh ∷ body)
-  pub reference : begun.reference ≡ kept (component unh 0 0)
+  pub reference : begun.reference ≡ filled_reference (component unh 0 0)
 
 -- something other than messages comes between UNB and UNZ
 pub record IsLost (lent : List Segment) (check : EnvelopeCheck) : Type 0 where
@@ -200,7 +200,7 @@ marks_at check unz = record {
   segment_count = not check.trailers.counted;
   message_reference = not check.trailers.closed;
   message_count = not (is_count_of (component unz 0 0) check.headers.messages);
-  control_reference = not (bytes_eq (kept (component unz 1 0)) check.header.reference);
+  control_reference = not (bytes_eq (filled_reference (component unz 1 0)) check.header.reference);
   repeated_reference = check.headers.twice;
   test_indicator = check.header.test;
   too_many_messages = nat_lt 999 check.headers.messages;

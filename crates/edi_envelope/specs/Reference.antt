@@ -3,5 +3,5 @@ use Rattle.std.specs.Prelude.{ℕ, ◌-◌, List, ◌++◌, length, replicate, i
 use Rattle.edi_envelope.specs.Limits.{is_reference}
 
 -- a reference, filled up to 14 bytes with zero bytes, which no reference has; zero bytes alone for anything else
-abbrev pub kept : List ℕ → List ℕ
-kept text = if is_reference text then text ++ replicate (14 - length text) 0 else replicate 14 0
+abbrev pub filled_reference : List ℕ → List ℕ
+filled_reference text = if is_reference text then text ++ replicate (14 - length text) 0 else replicate 14 0

@@ -14,7 +14,7 @@ ghost use Rattle.edi_envelope.specs.Check.{Checked, Placed, Steps, is_sound, is_
 use crate::fault::EnvelopeFault;
 use crate::header::HeaderMarks;
 use crate::message::is_frame;
-use crate::reference::kept;
+use crate::reference::filled_reference;
 use crate::tally::{Begun, Headers, Trailers, one_more};
 use edi_base::is_count_of;
 use edi_tokens::{MemoryFault, SegmentRef};
@@ -194,7 +194,7 @@ impl EnvelopeCheck {
             segment_count: !self.trailers.counted,
             message_reference: !self.trailers.closed,
             message_count: !is_count_of(unz.component(0, 0), self.headers.messages),
-            control_reference: kept(unz.component(1, 0)) != self.header.reference,
+            control_reference: filled_reference(unz.component(1, 0)) != self.header.reference,
             repeated_reference: self.headers.twice,
             test_indicator: self.header.test,
             too_many_messages: self.headers.messages > MOST_MESSAGES,
@@ -225,7 +225,7 @@ impl EnvelopeCheck {
         self.outside = self.is_outside(segment);
         self.headers.take(segment)?;
         self.stage = Stage::Message(Begun {
-            reference: kept(segment.component(0, 0)),
+            reference: filled_reference(segment.component(0, 0)),
             count: 1,
         });
         Ok(Place::MessageHeader)

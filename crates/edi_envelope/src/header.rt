@@ -6,7 +6,7 @@ ghost use Rattle.edi_envelope.specs.Check.{marks_of};
 
 use crate::interchange::Head;
 use crate::limits::is_reference;
-use crate::reference::kept;
+use crate::reference::filled_reference;
 use edi_base::{are_digits, has_length};
 use edi_tokens::{Items, Segment, SegmentRef};
 
@@ -90,7 +90,7 @@ impl HeaderMarks {
             taken: is_valid_header(unb),
             test: is_test(unb),
             seven_bit: is_seven_bit_set(unb),
-            reference: kept(unb.component(4, 0)),
+            reference: filled_reference(unb.component(4, 0)),
         }
     }
 }

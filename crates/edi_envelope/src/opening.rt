@@ -103,7 +103,7 @@ fn read<R: Source>(alloc: Global, lender: &mut Lender, reader: &mut R) -> Result
 {
     let mut opening = Opening::new(alloc);
     while lender.advance(reader)? {
-        opening.copy(alloc, &lender.lent())?;
+        opening.copy(alloc, &lender.lent_segment())?;
     }
     Ok(opening)
 }

@@ -11,8 +11,8 @@ use std::collections::BTreeSet;
 use std::marker::Model;
 
 /// Returns a reference filled up with zero bytes, which no reference has; zero bytes alone for anything else.
-pub(crate) fn kept(text: &[u8]) -> [u8; 14]
-    ensures { result ≡ spec.kept text.now }
+pub(crate) fn filled_reference(text: &[u8]) -> [u8; 14]
+    ensures { result ≡ spec.filled_reference text.now }
 {
     let mut reference = [0; 14];
     if !is_reference(text) {

@@ -8,7 +8,7 @@ ghost use Rattle.edi_envelope.specs.Reference as reference_spec;
 ghost use Rattle.edi_envelope.specs.Check.{Heads, Trails, are_heads_sound, are_trails_sound};
 
 use crate::message::has_identity;
-use crate::reference::{References, kept};
+use crate::reference::{References, filled_reference};
 use edi_base::{are_digits, is_count_of};
 use edi_tokens::{MemoryFault, SegmentRef};
 use std::alloc::{AllocError, Global};
@@ -59,7 +59,7 @@ impl Headers {
         if !self.identified || self.twice {
             return Ok(());
         }
-        let new = self.seen.insert(kept(unh.component(0, 0)))?;
+        let new = self.seen.insert(filled_reference(unh.component(0, 0)))?;
         self.twice = !new;
         Ok(())
     }
@@ -100,7 +100,7 @@ impl Trailers {
     pub(crate) fn take(&mut self, begun: Begun, unt: &SegmentRef<'_>) -> Result<(), MemoryFault>
         ensures trails { (messages : List (List Segment)) (unh : Segment) (body : List Segment) →
             Trails messages self.old →
-            begun.count ≡ length (unh ∷ body) → begun.reference ≡ reference_spec.kept (component unh 0 0) →
+            begun.count ≡ length (unh ∷ body) → begun.reference ≡ reference_spec.filled_reference (component unh 0 0) →
             OnOk result (Trails (messages ++ (unh ∷ body ++ segment_in unt.now ∷ []) ∷ []) self.new) }
         ensures falls { OnOk result (are_trails_sound self.new ≡ true → are_trails_sound self.old ≡ true) }
     {
@@ -108,7 +108,7 @@ impl Trailers {
         let written = unt.component(0, 0);
         self.within &= are_digits(1, 6, written);
         self.counted &= is_count_of(written, count);
-        self.closed &= kept(unt.component(1, 0)) == begun.reference;
+        self.closed &= filled_reference(unt.component(1, 0)) == begun.reference;
         Ok(())
     }
 }

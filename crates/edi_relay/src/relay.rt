@@ -177,7 +177,7 @@ fn read<R: Source>(
 {
     let mut relaying = Relaying::new(alloc, words)?;
     while lender.advance(reader)? {
-        relaying.take(alloc, &lender.lent(), lender.decimal())?;
+        relaying.take(alloc, &lender.lent_segment(), lender.decimal())?;
     }
     Ok(relaying)
 }

@@ -41,7 +41,7 @@ pub(crate) struct FlatSegment {
 }
 
 /// Counts those that are left without the empty ones at the end. The last of `count` extends from one place to another.
-fn left(kept: usize, count: usize, from: usize, to: usize) -> usize
+fn count_left(kept: usize, count: usize, from: usize, to: usize) -> usize
     ensures { IsLeft kept count from to result }
 {
     if from < to { count } else { kept }
@@ -208,7 +208,7 @@ impl FlatSegment {
     {
         let count = self.components + 1;
         self.component_ends[self.components] = self.filled;
-        self.components_kept = left(
+        self.components_kept = count_left(
             self.components_kept,
             count,
             self.component_from,
@@ -226,7 +226,7 @@ impl FlatSegment {
     {
         let count = self.components + 1;
         self.component_ends[self.components] = self.filled;
-        let components = left(
+        let components = count_left(
             self.components_kept,
             count,
             self.component_from,
@@ -237,7 +237,7 @@ impl FlatSegment {
         self.components_kept = components;
         let count = self.elements + 1;
         self.element_ends[self.elements] = components;
-        self.elements_kept = left(self.elements_kept, count, self.element_from, components);
+        self.elements_kept = count_left(self.elements_kept, count, self.element_from, components);
         self.element_from = components;
         self.elements = count;
         self.size += 1;

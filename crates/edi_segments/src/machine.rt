@@ -281,7 +281,7 @@ impl Machine {
     }
 
     /// Returns the segment that ended last.
-    pub fn lent(&self) -> SegmentRef<'_>
+    pub fn lent_segment(&self) -> SegmentRef<'_>
         ensures { segment_in result ≡ lent_of self.now }
     {
         SegmentRef::new(&self.open)

@@ -62,14 +62,14 @@ impl<R: Source> Feeder<R> {
         if !self.advance()? {
             return Ok(None);
         }
-        Ok(Some(self.lent()))
+        Ok(Some(self.lent_segment()))
     }
 
     /// Returns the segment that ended last.
-    fn lent(&self) -> SegmentRef<'_>
+    fn lent_segment(&self) -> SegmentRef<'_>
         ensures { segment_in result ≡ lent_by self.now.lender }
     {
-        self.lender.lent()
+        self.lender.lent_segment()
     }
 
     /// Returns the service characters, known from the first segment on.

@@ -233,10 +233,10 @@ impl Lender {
     }
 
     /// Returns the segment that ended last.
-    pub fn lent(&self) -> SegmentRef<'_>
+    pub fn lent_segment(&self) -> SegmentRef<'_>
         ensures { segment_in result ≡ lent_by self.now }
     {
-        self.machine.lent()
+        self.machine.lent_segment()
     }
 
     /// Returns the service characters, known from the first segment on.

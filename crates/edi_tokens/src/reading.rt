@@ -31,7 +31,7 @@ fn push_segments(
         if !ended {
             return Ok(());
         }
-        segments.push(machine.lent().to_segment(alloc)?)?;
+        segments.push(machine.lent_segment().to_segment(alloc)?)?;
         rest = &rest[count..];
     }
 }

@@ -5,7 +5,7 @@ use crate::tell;
 use edi_base::OfWrite;
 use edi_base::exit::FAILED;
 use hub_app::InitWords;
-use hub_commands::{CheckReport, print_verdict};
+use hub_commands::{CheckReport, print_report};
 use hub_register::{Register, RegisterFault};
 use hub_sql::{FoundFault, SqliteStore};
 use sqlite_disk::{Start, Unknown};
@@ -48,16 +48,16 @@ fn found_and_report(
     path: &str,
     register: &Register,
 ) -> Result<CheckReport, BeginFault> {
-    let verdict = CheckReport::ok(rt.alloc(), register)?;
+    let report = CheckReport::ok(rt.alloc(), register)?;
     match found_file(rt, path, register, Unknown) {
-        Ok(()) => Ok(verdict),
+        Ok(()) => Ok(report),
         Err(FoundFault::Rows) => Ok(CheckReport::of_rows(rt.alloc())?),
         Err(FoundFault::Store(fault)) => Err(BeginFault::Store(fault)),
     }
 }
 
 // Does what the words ask, and returns what to report.
-fn verdict_on(rt: &HostRuntime, words: &InitWords<'_>) -> Result<CheckReport, BeginFault> {
+fn report_on(rt: &HostRuntime, words: &InitWords<'_>) -> Result<CheckReport, BeginFault> {
     let text = register_text(rt, words.register)?;
     match Register::from_toml(rt.alloc(), text.as_str()) {
         Ok(register) => found_and_report(rt, words.db, &register),
@@ -69,9 +69,9 @@ fn verdict_on(rt: &HostRuntime, words: &InitWords<'_>) -> Result<CheckReport, Be
 /// Founds a hub with the register and in the database file that the words name, and returns the exit status. The
 /// register is checked first: a database file is made only for one without a fault.
 pub(crate) fn init(rt: &HostRuntime, words: &InitWords<'_>) -> u8 {
-    match verdict_on(rt, words) {
-        Ok(verdict) => print_verdict(
-            &verdict,
+    match report_on(rt, words) {
+        Ok(report) => print_report(
+            &report,
             &mut OfWrite::new(rt.stdout()),
             &mut OfWrite::new(rt.stderr()),
         ),

@@ -1,7 +1,7 @@
 //! Changes the key of one party.
 use crate::fault::BeginFault;
 use crate::keys::key_at;
-use crate::tasks::written;
+use crate::tasks::status_if_written;
 use crate::tell;
 use crate::unopened::fault_at;
 use edi_base::OfWrite;
@@ -61,7 +61,7 @@ fn print_outcome(rt: &HostRuntime, words: &RekeyWords<'_>) -> Result<u8, BeginFa
     let outcome = outcome_of(rt, words)?;
     let mut out = OfWrite::new(rt.stdout());
     let status = key_change_run(outcome, &mut out);
-    written(&out, status)
+    status_if_written(&out, status)
 }
 
 /// Changes the key of the party in the database file that the words name, and returns the exit status.

@@ -1,7 +1,7 @@
 //! Serves a hub over the network.
 use crate::fault::BeginFault;
 use crate::journal::FileJournal;
-use crate::tasks::written;
+use crate::tasks::status_if_written;
 use edi_base::{OfWrite, Sink};
 use hub_app::ServeWords;
 use hub_commands::Hub;
@@ -93,5 +93,5 @@ pub(crate) fn serve_over<S: Store>(
     if connections.has_failed() {
         return Err(BeginFault::Listen);
     }
-    written(&out, status)
+    status_if_written(&out, status)
 }

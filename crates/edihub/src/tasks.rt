@@ -14,7 +14,7 @@ pub(crate) fn now(rt: &HostRuntime) -> Result<Moment, BeginFault> {
 }
 
 // Returns the exit status, if everything was written.
-pub(crate) fn written<W>(out: &OfWrite<W>, status: u8) -> Result<u8, BeginFault> {
+pub(crate) fn status_if_written<W>(out: &OfWrite<W>, status: u8) -> Result<u8, BeginFault> {
     if out.has_failed() {
         return Err(BeginFault::File);
     }
@@ -33,7 +33,7 @@ fn import<S: Store>(
     let mut files = Folder::open(rt, folder)?;
     let mut out = OfWrite::new(rt.stdout());
     let status = import_run(rt.alloc(), hub, moment, caller, key, &mut files, &mut out);
-    written(&out, status)
+    status_if_written(&out, status)
 }
 
 // Makes one request, and prints the reply.
@@ -48,7 +48,7 @@ fn ask<S: Store>(
     let reply = hub.step(moment, caller, key, request);
     let mut out = OfWrite::new(rt.stdout());
     let status = reply_run(&reply, &mut out);
-    written(&out, status)
+    status_if_written(&out, status)
 }
 
 /// Does what a command asks of a hub.

@@ -1,6 +1,6 @@
 //! Checking whether a database is a sound start.
 use crate::fault::BeginFault;
-use crate::tasks::written;
+use crate::tasks::status_if_written;
 use crate::tell;
 use crate::unopened::fault_at;
 use edi_base::exit::FAILED;
@@ -37,7 +37,7 @@ fn print_audit(rt: &HostRuntime, words: &VerifyWords<'_>) -> Result<u8, BeginFau
     };
     let mut out = OfWrite::new(rt.stdout());
     let _ = write_bytes(text.as_slice(), &mut out);
-    written(&out, report_status(&audit))
+    status_if_written(&out, report_status(&audit))
 }
 
 /// Checks the database file that the words name, and returns the exit status.

@@ -35,7 +35,7 @@ fn fill<R: Source>(source: &mut R, bytes: &mut [u8], filled: usize) -> Result<us
 }
 
 // Makes a vector of this many bytes that begins with the front; those after it are not yet read.
-fn begun(alloc: Global, front: &[u8], size: usize) -> Result<Vec<u8>, AllocError>
+fn vector_with_front(alloc: Global, front: &[u8], size: usize) -> Result<Vec<u8>, AllocError>
     requires { length front.now ≤ size }
     ensures len { IfOk result (λ bytes. length bytes.items ≡ size) }
     ensures front { IfOk result (λ bytes. take (length front.now) bytes.items ≡ front.now) }
@@ -72,7 +72,7 @@ pub fn read_body<R: Source>(
     ensures kept { result ≢ Err ReadFault.Read → R.failed source.new ≡ R.failed source.old }
 {
     let kept = &front[..size.min(front.len())];
-    let mut bytes = begun(alloc, kept, size)?;
+    let mut bytes = vector_with_front(alloc, kept, size)?;
     let end = fill(source, &mut bytes, kept.len())?;
     if end < size {
         return Ok(None);

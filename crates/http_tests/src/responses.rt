@@ -35,7 +35,7 @@ impl Write for Narrow {
 
 /// Writes a response to a writer with this much room. Returns the result, whether the writer has failed, and what was
 /// written.
-fn written(
+fn send_response(
     alloc: Global,
     status: StatusCode,
     body: &[u8],
@@ -84,7 +84,7 @@ static RESPONSES: [(u16, &[u8], &[u8]); 6] = [
 
 // Whether as much of a response is written as the writer has room for, and it fails if that is not the whole.
 fn is_written(alloc: Global, status: StatusCode, body: &[u8], text: &[u8], room: usize) -> bool {
-    let (result, failed, written) = written(alloc, status, body, room);
+    let (result, failed, written) = send_response(alloc, status, body, room);
     let is_whole = room == text.len();
     let front = text.get(..room);
     result.is_ok() == is_whole && failed == !is_whole && Some(written.as_slice()) == front

@@ -183,7 +183,7 @@ static SERVE: [Bound; 3] = [
 ];
 
 // Says of the first of these options that is against its limit what the limit is.
-fn broken(bounds: &[Bound], options: &ArgMatches<'_>) -> Option<&'static str> {
+fn broken_limit(bounds: &[Bound], options: &ArgMatches<'_>) -> Option<&'static str> {
     for bound in bounds {
         if let Some(value) = text(options, bound.option)
             && !bound.limit.is_kept(value)
@@ -222,16 +222,16 @@ const PREFIXES: &str =
 // Says which option of a command is against its limit. `--prefixes` is a list, so it is the one if no other is.
 fn limit_fault(command: &str, options: &ArgMatches<'_>) -> &'static str {
     match command {
-        "relay" => broken(&RELAY, options),
-        "rekey" => broken(&REKEY, options),
-        "serve" => broken(&SERVE, options),
-        "status" => broken(&HUB, options).or(broken(&STATUS, options)),
-        "mail" => broken(&HUB, options).or(broken(&MAIL, options)),
-        "cancel" => broken(&HUB, options).or(broken(&CANCEL, options)),
-        "join" => broken(&HUB, options)
-            .or(broken(&JOIN, options))
+        "relay" => broken_limit(&RELAY, options),
+        "rekey" => broken_limit(&REKEY, options),
+        "serve" => broken_limit(&SERVE, options),
+        "status" => broken_limit(&HUB, options).or(broken_limit(&STATUS, options)),
+        "mail" => broken_limit(&HUB, options).or(broken_limit(&MAIL, options)),
+        "cancel" => broken_limit(&HUB, options).or(broken_limit(&CANCEL, options)),
+        "join" => broken_limit(&HUB, options)
+            .or(broken_limit(&JOIN, options))
             .or(Some(PREFIXES)),
-        _ => broken(&HUB, options),
+        _ => broken_limit(&HUB, options),
     }
     .unwrap_or("the value of an option is against its limit")
 }

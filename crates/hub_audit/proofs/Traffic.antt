@@ -9,15 +9,20 @@ use Rattle.sql_rows.specs.Cells.{AreOf}
 use Rattle.sql_rows.proofs.Answers.{and_true}
 use Rattle.hub_rows.proofs.Counting.{cell_bytes}
 use Rattle.hub_rows.specs.Asks.{Asks}
-use Rattle.hub_rows.specs.Shown.{shown_order, shown_line, shown_advice, shown_pallet, shown_content, shown_receipt, shown_remembered, shown_mail}
+use Rattle.hub_rows.specs.Shown.{shown_order, shown_line, shown_advice, shown_pallet, shown_content, shown_receipt}
+use Rattle.hub_rows.specs.Shown.{shown_remembered, shown_mail}
 use Rattle.hub_rows.proofs.Ranking.{then_none, rank_bytes, rank_numbers}
 use Rattle.hub_schema.specs.Rows.{order_in, line_in, advice_in, pallet_in, content_in, receipt_in, remembered_in, mail_in}
 use Rattle.hub_schema.specs.State.{LooksFor}
-use Rattle.hub_schema.proofs.Single.{hub_rises, order_kinds, line_kinds, pallet_kinds, content_kinds, receipt_kinds, remembered_kinds, mail_kinds, order_cells, line_cells, advice_cells, pallet_cells, content_cells, receipt_cells, remembered_cells, mail_cells}
+use Rattle.hub_schema.proofs.Single.{hub_rises, order_kinds, line_kinds, pallet_kinds, content_kinds, receipt_kinds}
+use Rattle.hub_schema.proofs.Single.{remembered_kinds, mail_kinds, order_cells, line_cells, advice_cells}
+use Rattle.hub_schema.proofs.Single.{pallet_cells, content_cells, receipt_cells, remembered_cells, mail_cells}
 use Rattle.hub_sound.specs.Finding.{order_key, line_key, advice_key, pallet_key, content_key, receipt_key, remembered_key, mail_key}
-use Rattle.hub_store.specs.Clean.{clean_order, clean_line, clean_advice, clean_pallet, clean_content, clean_receipt, clean_remembered, clean_mail}
+use Rattle.hub_store.specs.Clean.{clean_order, clean_line, clean_advice, clean_pallet, clean_content, clean_receipt}
+use Rattle.hub_store.specs.Clean.{clean_remembered, clean_mail}
 use Rattle.hub_store.specs.declared.fault.StoreFault.{StoreFault}
-use Rattle.hub_tables.proofs.KindOrders.{order_total, line_total, advice_total, pallet_total, content_total, receipt_total, remembered_total, mail_total}
+use Rattle.hub_tables.proofs.KindOrders.{order_total, line_total, advice_total, pallet_total, content_total}
+use Rattle.hub_tables.proofs.KindOrders.{receipt_total, remembered_total, mail_total}
 use Rattle.hub_tables.specs.Rows.{same}
 use Rattle.hub_tables.specs.State.{contents_of, receipts_of}
 use Rattle.hub_tables.specs.Tables.{view}
@@ -36,7 +41,9 @@ use Rattle.hub_audit.specs.declared.key.Part.TheVariants.{Text, Number}
 use Rattle.hub_audit.proofs.EveryRow.{every_row}
 use Rattle.hub_audit.proofs.Texts.{by_first, by_second, two_columns, nine_columns, four_columns, five_columns, eight_columns, by_two}
 use Rattle.hub_audit.proofs.Texts.{by_three, by_one, by_four}
-use Rattle.hub_audit.proofs.Texts.{orders_text, orders_select, lines_text, lines_select, advices_text, advices_select, pallets_text, pallets_select, contents_text, contents_select, receipts_text, receipts_select, remembered_text, remembered_select, mail_text, mail_select}
+use Rattle.hub_audit.proofs.Texts.{orders_text, orders_select, lines_text, lines_select, advices_text, advices_select}
+use Rattle.hub_audit.proofs.Texts.{pallets_text, pallets_select, contents_text, contents_select, receipts_text}
+use Rattle.hub_audit.proofs.Texts.{receipts_select, remembered_text, remembered_select, mail_text, mail_select}
 use Rattle.std.proofs.lemmas.Bool.{and_parts}
 use Rattle.std.proofs.lemmas.Bool.Decides.{nat_tests}
 use Rattle.edi_envelope.specs.Mail.{last_number}
@@ -70,7 +77,8 @@ orders_read supplier =
     every_row order_total order_in shown_order two_columns by_two by_first (Blob supplier ∷ [])
     (λ row. refl) clean_order order_key (Text ∷ Text ∷ []) (λ row. refl)
     (AreOf order_kinds 0) (λ row. ⊤) (λ row h. tt)
-    (λ x y a b. ap₂ ordering_then (rank_bytes (column x 1) (column y 1) a.0.0 b.0.0) (then_none _ ∙ rank_bytes (column x 2) (column y 2) a.0.1.0 b.0.1.0))
+    (λ x y a b. ap₂ ordering_then (rank_bytes (column x 1) (column y 1) a.0.0 b.0.0)
+        (then_none _ ∙ rank_bytes (column x 2) (column y 2) a.0.1.0 b.0.1.0))
     (λ (row : OrderRow). same row.supplier supplier) (λ row it. and_true _ ∙ cell_bytes (column row 1) supplier it.0)
     1 orders_select (λ db. refl) (λ t. (view supplier t).orders) (λ db. refl)
     (λ s hub. order_cells s.now hub.schema hub.sound hub.ordered) (λ s hub. (hub_rises s hub).orders)
@@ -82,7 +90,9 @@ lines_read supplier =
     every_row line_total line_in shown_line nine_columns by_three by_first (Blob supplier ∷ [])
     (λ row. refl) clean_line line_key (Text ∷ Text ∷ Number ∷ []) (λ row. refl)
     (AreOf line_kinds 0) (λ (row : LineRow). row.line < 2 ^ 64) line_low
-    (λ x y a b. ap₂ ordering_then (rank_bytes (column x 1) (column y 1) a.0.0 b.0.0) (ap₂ ordering_then (rank_bytes (column x 2) (column y 2) a.0.1.0 b.0.1.0) (then_none _ ∙ rank_numbers (column x 3) (column y 3) a.0.1.1.0 b.0.1.1.0 a.1 b.1)))
+    (λ x y a b. ap₂ ordering_then (rank_bytes (column x 1) (column y 1) a.0.0 b.0.0)
+        (ap₂ ordering_then (rank_bytes (column x 2) (column y 2) a.0.1.0 b.0.1.0)
+        (then_none _ ∙ rank_numbers (column x 3) (column y 3) a.0.1.1.0 b.0.1.1.0 a.1 b.1)))
     (λ (row : LineRow). same row.supplier supplier) (λ row it. and_true _ ∙ cell_bytes (column row 1) supplier it.0)
     3 lines_select (λ db. refl) (λ t. (view supplier t).lines) (λ db. refl)
     (λ s hub. line_cells s.now hub.schema hub.sound hub.ordered) (λ s hub. (hub_rises s hub).lines)
@@ -94,7 +104,8 @@ advices_read supplier =
     every_row advice_total advice_in shown_advice two_columns by_two by_first (Blob supplier ∷ [])
     (λ row. refl) clean_advice advice_key (Text ∷ Text ∷ []) (λ row. refl)
     (AreOf order_kinds 0) (λ row. ⊤) (λ row h. tt)
-    (λ x y a b. ap₂ ordering_then (rank_bytes (column x 1) (column y 1) a.0.0 b.0.0) (then_none _ ∙ rank_bytes (column x 2) (column y 2) a.0.1.0 b.0.1.0))
+    (λ x y a b. ap₂ ordering_then (rank_bytes (column x 1) (column y 1) a.0.0 b.0.0)
+        (then_none _ ∙ rank_bytes (column x 2) (column y 2) a.0.1.0 b.0.1.0))
     (λ (row : AdviceRow). same row.supplier supplier) (λ row it. and_true _ ∙ cell_bytes (column row 1) supplier it.0)
     5 advices_select (λ db. refl) (λ t. (view supplier t).advices) (λ db. refl)
     (λ s hub. advice_cells s.now hub.schema hub.sound hub.ordered) (λ s hub. (hub_rises s hub).advices)
@@ -118,7 +129,8 @@ contents_read sscc =
     every_row content_total content_in shown_content five_columns by_two by_first (Blob sscc ∷ [])
     (λ row. refl) clean_content content_key (Text ∷ Number ∷ []) (λ row. refl)
     (AreOf content_kinds 0) (λ (row : ContentRow). row.place < 2 ^ 64) content_low
-    (λ x y a b. ap₂ ordering_then (rank_bytes (column x 1) (column y 1) a.0.0 b.0.0) (then_none _ ∙ rank_numbers (column x 2) (column y 2) a.0.1.0 b.0.1.0 a.1 b.1))
+    (λ x y a b. ap₂ ordering_then (rank_bytes (column x 1) (column y 1) a.0.0 b.0.0)
+        (then_none _ ∙ rank_numbers (column x 2) (column y 2) a.0.1.0 b.0.1.0 a.1 b.1))
     (λ (row : ContentRow). same row.sscc sscc) (λ row it. and_true _ ∙ cell_bytes (column row 1) sscc it.0)
     10 contents_select (λ db. refl) (λ t. contents_of t sscc) (λ db. refl)
     (λ s hub. content_cells s.now hub.schema hub.sound hub.ordered) (λ s hub. (hub_rises s hub).contents)
@@ -130,7 +142,8 @@ receipts_read sscc =
     every_row receipt_total receipt_in shown_receipt five_columns by_two by_first (Blob sscc ∷ [])
     (λ row. refl) clean_receipt receipt_key (Text ∷ Text ∷ []) (λ row. refl)
     (AreOf receipt_kinds 0) (λ row. ⊤) (λ row h. tt)
-    (λ x y a b. ap₂ ordering_then (rank_bytes (column x 1) (column y 1) a.0.0 b.0.0) (then_none _ ∙ rank_bytes (column x 2) (column y 2) a.0.1.0 b.0.1.0))
+    (λ x y a b. ap₂ ordering_then (rank_bytes (column x 1) (column y 1) a.0.0 b.0.0)
+        (then_none _ ∙ rank_bytes (column x 2) (column y 2) a.0.1.0 b.0.1.0))
     (λ (row : ReceiptRow). same row.sscc sscc) (λ row it. and_true _ ∙ cell_bytes (column row 1) sscc it.0)
     12 receipts_select (λ db. refl) (λ t. receipts_of t sscc) (λ db. refl)
     (λ s hub. receipt_cells s.now hub.schema hub.sound hub.ordered) (λ s hub. (hub_rises s hub).receipts)
@@ -143,7 +156,10 @@ remembered_read supplier =
     every_row remembered_total remembered_in shown_remembered five_columns by_four by_first (Blob supplier ∷ [])
     (λ row. refl) clean_remembered remembered_key (Text ∷ Number ∷ Text ∷ Text ∷ []) (λ row. refl)
     (AreOf remembered_kinds 0) (λ (row : RememberedRow). row.side < 2 ^ 64) remembered_low
-    (λ x y a b. ap₂ ordering_then (rank_bytes (column x 1) (column y 1) a.0.0 b.0.0) (ap₂ ordering_then (rank_numbers (column x 2) (column y 2) a.0.1.0 b.0.1.0 a.1 b.1) (ap₂ ordering_then (rank_bytes (column x 3) (column y 3) a.0.1.1.0 b.0.1.1.0) (then_none _ ∙ rank_bytes (column x 4) (column y 4) a.0.1.1.1.0 b.0.1.1.1.0))))
+    (λ x y a b. ap₂ ordering_then (rank_bytes (column x 1) (column y 1) a.0.0 b.0.0)
+        (ap₂ ordering_then (rank_numbers (column x 2) (column y 2) a.0.1.0 b.0.1.0 a.1 b.1)
+        (ap₂ ordering_then (rank_bytes (column x 3) (column y 3) a.0.1.1.0 b.0.1.1.0)
+        (then_none _ ∙ rank_bytes (column x 4) (column y 4) a.0.1.1.1.0 b.0.1.1.1.0))))
     (λ (row : RememberedRow). same row.supplier supplier) (λ row it. and_true _ ∙ cell_bytes (column row 1) supplier it.0)
     14 remembered_select (λ db. refl) (λ t. (view supplier t).remembered) (λ db. refl)
     (λ s hub. remembered_cells s.now hub.schema hub.sound hub.ordered) (λ s hub. (hub_rises s hub).remembered)
@@ -155,7 +171,8 @@ mail_read supplier =
     every_row mail_total mail_in shown_mail eight_columns by_two by_first (Blob supplier ∷ [])
     (λ row. refl) clean_mail mail_key (Text ∷ Number ∷ []) (λ row. refl)
     (AreOf mail_kinds 0) (λ (row : MailRow). row.number < 2 ^ 64) mail_low
-    (λ x y a b. ap₂ ordering_then (rank_bytes (column x 1) (column y 1) a.0.0 b.0.0) (then_none _ ∙ rank_numbers (column x 2) (column y 2) a.0.1.0 b.0.1.0 a.1 b.1))
+    (λ x y a b. ap₂ ordering_then (rank_bytes (column x 1) (column y 1) a.0.0 b.0.0)
+        (then_none _ ∙ rank_numbers (column x 2) (column y 2) a.0.1.0 b.0.1.0 a.1 b.1))
     (λ (row : MailRow). same row.supplier supplier) (λ row it. and_true _ ∙ cell_bytes (column row 1) supplier it.0)
     16 mail_select (λ db. refl) (λ t. (view supplier t).mail) (λ db. refl)
     (λ s hub. mail_cells s.now hub.schema hub.sound hub.ordered) (λ s hub. (hub_rises s hub).mail)

@@ -6,7 +6,7 @@ use Rattle.std.proofs.lemmas.List.{length-take, take_all}
 use Rattle.hub_parties.specs.Rows.{RegisterRows}
 use Rattle.hub_register.specs.declared.fault.RegisterFault.{RegisterFault}
 use Rattle.edi_segments.specs.Spelling.{text_limit}
-use Rattle.hub_commands.specs.Check.{IsRegisterText, verdict_status}
+use Rattle.hub_commands.specs.Check.{IsRegisterText, check_status}
 use Rattle.edi_relay.specs.Run.{read_limit}
 
 -- what was read up to a limit that it does not reach is all
@@ -35,7 +35,7 @@ pub no_utf8 : (known : Option (List ℕ)) (read : List ℕ)
 no_utf8 None read is fits none = tt
 no_utf8 (Some bytes) read is fits none = λ text. none (subst IsUtf8 (sym (all_read text_limit bytes read is fits)) text.utf8)
 
--- a verdict ends with 0 or 1
-pub never_failed : (verdict : Result RegisterRows RegisterFault) → verdict_status verdict ≡ 3 → ⊥
+-- a report has the status 0 or 1
+pub never_failed : (verdict : Result RegisterRows RegisterFault) → check_status verdict ≡ 3 → ⊥
 never_failed (Ok rows) e = cc
 never_failed (Err fault) e = cc

@@ -21,14 +21,14 @@ abbrev pub fault_line : List ℕ → List ℕ
 fault_line fault = codes "fault " ++ (fault ++ codes "\n")
 
 -- the line, by the register or the fault of the text
-abbrev pub verdict_line : Result RegisterRows RegisterFault → List ℕ
-verdict_line (Ok rows) = ok_line (length rows.suppliers)
-verdict_line (Err fault) = fault_line (fault_text fault)
+abbrev pub check_line : Result RegisterRows RegisterFault → List ℕ
+check_line (Ok rows) = ok_line (length rows.suppliers)
+check_line (Err fault) = fault_line (fault_text fault)
 
 -- the exit status
-abbrev pub verdict_status : Result RegisterRows RegisterFault → ℕ
-verdict_status (Ok rows) = 0
-verdict_status (Err fault) = 1
+abbrev pub check_status : Result RegisterRows RegisterFault → ℕ
+check_status (Ok rows) = 0
+check_status (Err fault) = 1
 
 -- bytes that are the text of a register: it is no longer than that of an interchange
 pub record IsRegisterText (bytes : List ℕ) : Type 0 where
@@ -47,9 +47,9 @@ text_fault_line Memory = codes "memory"
 
 -- The line was printed, with its own exit status, and nothing on the error output; or a write failed, and the error
 -- output says `file`, with status 3.
-abbrev pub PrintsVerdict : Option (List ℕ) → Option (List ℕ) → Bool → Bool → Option (List ℕ) → Option (List ℕ) → Bool →
+abbrev pub PrintsReport : Option (List ℕ) → Option (List ℕ) → Bool → Bool → Option (List ℕ) → Option (List ℕ) → Bool →
     List ℕ → ℕ → ℕ → Type 0
-PrintsVerdict old new was failed err_old err_new err_failed line status result =
+PrintsReport old new was failed err_old err_new err_failed line status result =
     ((result ≡ status) × (failed ≡ was) × Appends old new line × Keeps err_old err_new)
     ⊎ ((result ≡ 3) × ReportsFile old new failed err_old err_new err_failed line)
 

@@ -3,7 +3,7 @@
 ghost use Rattle.std.specs.Prelude.{◌≡◌, ◌≢◌, ◌⊎◌, Ok, Err, true, codes, string_bytes, IfOk, IfSome};
 ghost use Rattle.std.specs.Io.KnownBytes.{Appends, Keeps};
 ghost use Rattle.edi_base.specs.Source.{TakesAtMost};
-ghost use Rattle.hub_commands.specs.Check.{FailsToPrint, IsRegisterText, PrintsVerdict, fault_line, verdict_line, verdict_status};
+ghost use Rattle.hub_commands.specs.Check.{FailsToPrint, IsRegisterText, PrintsReport, fault_line, check_line, check_status};
 ghost use Rattle.edi_relay.specs.Run.{read_limit};
 ghost use Rattle.edi_relay.specs.ErrorLines.{StaysOrTellsFile};
 ghost use Rattle.hub_register.specs.Register.{register_of};
@@ -91,8 +91,8 @@ pub struct CheckReport {
 impl CheckReport {
     /// Of a register: `ok N suppliers`, with status 0.
     pub fn ok(alloc: Global, register: &Register) -> Result<CheckReport, MemoryFault>
-        ensures line { IfOk result (λ verdict. string_bytes verdict.line ≡ verdict_line (Ok register.now)) }
-        ensures status { IfOk result (λ verdict. verdict.status ≡ verdict_status (Ok register.now)) }
+        ensures line { IfOk result (λ report. string_bytes report.line ≡ check_line (Ok register.now)) }
+        ensures status { IfOk result (λ report. report.status ≡ check_status (Ok register.now)) }
     {
         let count = register.supplier_count();
         let line = format!(in alloc; "ok {count} suppliers\n")?;
@@ -101,8 +101,8 @@ impl CheckReport {
 
     /// Of a register's fault: `fault` and its name, with status 1.
     pub fn of_fault(alloc: Global, fault: RegisterFault) -> Result<CheckReport, MemoryFault>
-        ensures line { IfOk result (λ verdict. string_bytes verdict.line ≡ verdict_line (Err fault)) }
-        ensures status { IfOk result (λ verdict. verdict.status ≡ verdict_status (Err fault)) }
+        ensures line { IfOk result (λ report. string_bytes report.line ≡ check_line (Err fault)) }
+        ensures status { IfOk result (λ report. report.status ≡ check_status (Err fault)) }
     {
         let line = format!(in alloc; "fault {fault}\n")?;
         Ok(CheckReport {
@@ -113,8 +113,8 @@ impl CheckReport {
 
     /// Of a register that does not fit to the rows of a database: `fault rows`, with status 1.
     pub fn of_rows(alloc: Global) -> Result<CheckReport, MemoryFault>
-        ensures line { IfOk result (λ verdict. string_bytes verdict.line ≡ fault_line (codes "rows")) }
-        ensures status { IfOk result (λ verdict. verdict.status ≡ 1) }
+        ensures line { IfOk result (λ report. string_bytes report.line ≡ fault_line (codes "rows")) }
+        ensures status { IfOk result (λ report. report.status ≡ 1) }
     {
         let line = format!(in alloc; "fault rows\n")?;
         Ok(CheckReport {
@@ -125,9 +125,9 @@ impl CheckReport {
 }
 
 // Returns what the text of a register is.
-fn verdict_of(alloc: Global, text: &str) -> Result<CheckReport, MemoryFault>
-    ensures line { IfOk result (λ verdict. string_bytes verdict.line ≡ verdict_line (register_of text.now)) }
-    ensures status { IfOk result (λ verdict. verdict.status ≡ verdict_status (register_of text.now)) }
+fn report_of(alloc: Global, text: &str) -> Result<CheckReport, MemoryFault>
+    ensures line { IfOk result (λ report. string_bytes report.line ≡ check_line (register_of text.now)) }
+    ensures status { IfOk result (λ report. report.status ≡ check_status (register_of text.now)) }
 {
     match Register::from_toml(alloc, text) {
         Ok(register) => CheckReport::ok(alloc, &register),
@@ -136,14 +136,14 @@ fn verdict_of(alloc: Global, text: &str) -> Result<CheckReport, MemoryFault>
     }
 }
 
-/// Writes a verdict to `out`. Returns its exit status; or 3 if the write failed, with the line `file` on `err`.
-pub fn print_verdict<W: Sink, E: Sink>(verdict: &CheckReport, out: &mut W, err: &mut E) -> u8
-    ensures told { PrintsVerdict (W.contents out.old) (W.contents out.new) (W.failed out.old) (W.failed out.new)
+/// Writes a report to `out`. Returns its exit status; or 3 if the write failed, with the line `file` on `err`.
+pub fn print_report<W: Sink, E: Sink>(report: &CheckReport, out: &mut W, err: &mut E) -> u8
+    ensures told { PrintsReport (W.contents out.old) (W.contents out.new) (W.failed out.old) (W.failed out.new)
         (E.contents err.old) (E.contents err.new) (E.failed err.new)
-        (string_bytes verdict.now.line) verdict.now.status result }
+        (string_bytes report.now.line) report.now.status result }
 {
-    if write_bytes(verdict.line.as_bytes(), out).is_ok() {
-        return verdict.status;
+    if write_bytes(report.line.as_bytes(), out).is_ok() {
+        return report.status;
     }
     tell(b"file\n", err);
     FAILED
@@ -154,17 +154,17 @@ pub fn print_verdict<W: Sink, E: Sink>(verdict: &CheckReport, out: &mut W, err: 
 /// out, with the line `memory`.
 pub fn check_run<W: Sink, E: Sink>(alloc: Global, text: &str, out: &mut W, err: &mut E) -> u8
     ensures checked { result ≢ 3 →
-        (result ≡ verdict_status (register_of text.now))
-        × Appends (W.contents out.old) (W.contents out.new) (verdict_line (register_of text.now))
+        (result ≡ check_status (register_of text.now))
+        × Appends (W.contents out.old) (W.contents out.new) (check_line (register_of text.now))
         × Keeps (E.contents err.old) (E.contents err.new) }
     ensures written { StaysOrTellsFile (W.failed out.old) (W.failed out.new) result
         (E.contents err.old) (E.contents err.new) (E.failed err.new) }
     ensures failed { result ≡ 3 → FailsToPrint (W.contents out.old) (W.contents out.new) (W.failed out.new)
-        (E.contents err.old) (E.contents err.new) (E.failed err.new) (verdict_line (register_of text.now)) }
+        (E.contents err.old) (E.contents err.new) (E.failed err.new) (check_line (register_of text.now)) }
 {
-    let Ok(verdict) = verdict_of(alloc, text) else {
+    let Ok(report) = report_of(alloc, text) else {
         tell(b"memory\n", err);
         return FAILED;
     };
-    print_verdict(&verdict, out, err)
+    print_report(&report, out, err)
 }

@@ -12,7 +12,7 @@ mod print;
 mod reply;
 mod show;
 
-pub use check::{CheckReport, RegisterTextFault, check_run, print_verdict, read_register_text};
+pub use check::{CheckReport, RegisterTextFault, check_run, print_report, read_register_text};
 pub use files::{Files, NamedFile, NextFile};
 pub use folder::Folder;
 pub use hub_core::{Hub, Input, Join, Reply, Request, Role};

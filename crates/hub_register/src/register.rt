@@ -74,7 +74,7 @@ fn register_of_parties(
 }
 
 // Makes the register of rows that are known to form one.
-fn held(
+fn make_register(
     alloc: Global,
     hub: Gln,
     retailer: Gln,
@@ -215,7 +215,7 @@ impl Register {
         if !kept {
             return Ok(None);
         }
-        let register = held(alloc, hub, retailer, retailer_key, suppliers)?;
+        let register = make_register(alloc, hub, retailer, retailer_key, suppliers)?;
         Ok(Some(register))
     }
 

@@ -67,7 +67,7 @@ impl<T: Socket> Timed<T> {
 
     // Asks the clock how much of the time is left; the time begins now if it has not. It is an error if nothing is
     // left, because a socket takes a timeout of zero as a wait without end.
-    fn left(&mut self) -> io::Result<Duration>
+    fn time_left(&mut self) -> io::Result<Duration>
         ensures left { IfOk result (λ left.
             TimeLeft (as_nanos left) self.old.1 self.new.1 (T.uses self.old.0) (T.uses self.new.0)) }
         ensures asks { OnErr result (AsksOnly (T.uses self.old.0) (T.uses self.new.0)) }
@@ -104,7 +104,7 @@ impl<T: Socket> Read for Timed<T> {
         ensures timed { IsTimed uses.read_wait uses.read self.old.1 self.new.1
             (T.uses self.old.0) (T.uses self.new.0) result }
     {
-        let left = self.left()?;
+        let left = self.time_left()?;
         self.socket.set_read_wait(left)?;
         self.socket.read(buffer)
     }
@@ -127,7 +127,7 @@ impl<T: Socket> Write for Timed<T> {
         ensures timed { IsTimed uses.write_wait uses.write self.old.1 self.new.1
             (T.uses self.old.0) (T.uses self.new.0) result }
     {
-        let left = self.left()?;
+        let left = self.time_left()?;
         self.socket.set_write_wait(left)?;
         self.socket.write(bytes)
     }

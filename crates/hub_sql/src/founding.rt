@@ -28,7 +28,7 @@ use sqlite_trees::memory::MemStore;
 use std::alloc::Global;
 
 // Makes a store with the rows of a register alone, in a database without tables.
-fn laid<S: Alter + Drop>(
+fn found_with_register<S: Alter + Drop>(
     alloc: Global,
     mut conn: Connection<S>,
     register: &Register,
@@ -67,7 +67,7 @@ fn found_bare<S: Alter + Drop>(
 {
     founded_tables_hold_their_register();
     migrated_tables_are_sound();
-    match laid(alloc, conn, register) {
+    match found_with_register(alloc, conn, register) {
         Ok(store) => Ok(store),
         Err((conn, fault)) => Err((Returned::Connection(conn), FoundFault::Store(fault))),
     }
@@ -138,7 +138,7 @@ impl SqliteStore<MemStore> {
         let Ok(conn) = Connection::open_in_memory(alloc) else {
             return Err(StoreFault::Memory);
         };
-        match laid(alloc, conn, register) {
+        match found_with_register(alloc, conn, register) {
             Ok(store) => Ok(store),
             Err((_conn, fault)) => Err(fault),
         }

@@ -138,7 +138,7 @@ fn raise_version<S: Alter + Drop>(
 }
 
 // Makes a store of a connection if its rows hold a register.
-fn taken<S: Alter + Drop>(
+fn store_of_rows<S: Alter + Drop>(
     alloc: Global,
     conn: Connection<S>,
     version: Version,
@@ -191,7 +191,7 @@ impl<S: Alter + Drop> SqliteStore<S> {
             Ok(conn) => conn,
             Err((fault, store)) => return Err((Returned::Store(store), fault)),
         };
-        match taken(alloc, conn, version) {
+        match store_of_rows(alloc, conn, version) {
             Ok(store) => Ok(store),
             Err((conn, fault)) => Err((Returned::Connection(conn), fault)),
         }
@@ -214,7 +214,7 @@ impl<S: Alter + Drop> SqliteStore<S> {
             Ok((conn, version)) => (conn, version),
             Err((conn, fault)) => return Err((Returned::Connection(conn), fault)),
         };
-        match taken(alloc, conn, version) {
+        match store_of_rows(alloc, conn, version) {
             Ok(store) => Ok(store),
             Err((conn, fault)) => Err((Returned::Connection(conn), fault)),
         }

@@ -81,7 +81,7 @@ fn options() -> Options {
 
 // Returns the store over a connection: with the rows that it has, or founded with those of a register if it has no
 // tables or those of schema 1.
-fn held<A: Alter + Drop>(
+fn found_store<A: Alter + Drop>(
     alloc: Global,
     conn: Connection<A>,
     register: &Register,
@@ -130,7 +130,7 @@ impl<D: Stopping> Opener<SqliteStore<FileStore<D>>> for StoppingFiles<D> {
                 return Err(FoundFault::Store(StoreFault::Disk));
             }
         };
-        match held(rt.alloc(), conn, register) {
+        match found_store(rt.alloc(), conn, register) {
             Ok(store) => Ok(store),
             Err((back, fault)) => {
                 self.left = Some(returned(back));

@@ -44,7 +44,7 @@ loop-opening-preserved g c = record {
       more_read (g.R.Source.remaining c.args.reader.now) (g.R.Source.failed c.args.reader.now) c.args.lender.now _ _ _ _
       c.loop-opening.lender _ c.loop-opening.opening c.advance.result c.loop-opening.invariant.read c.advance.ensures.feeds _
       (c.in_ok-advance.was ∙ ap said c.if-branch.true)
-      (rw c.lent.ensures at (c.in_ok-copy.ensures c.loop-opening.invariant.read.lent c.loop-opening.invariant.read.stands));
+      (rw c.lent_segment.ensures at (c.in_ok-copy.ensures c.loop-opening.invariant.read.lent c.loop-opening.invariant.read.stands));
   origin = c.advance.ensures.origin ∙ c.loop-opening.invariant.origin;
   stays =
       stays_then g.R.Source.remaining c.args.reader.now _ _ _ _ c.args.lender.now _ _ c.advance.result c.advance.ensures.feeds

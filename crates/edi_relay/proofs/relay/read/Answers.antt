@@ -52,7 +52,7 @@ loop-relaying-preserved g c = record {
       more_read c.args.words.now (g.R.Source.remaining c.args.reader.now) (g.R.Source.failed c.args.reader.now) c.args.lender.now _ _ _ _
       c.loop-relaying.lender _ c.loop-relaying.relaying c.advance.result c.loop-relaying.invariant.read c.advance.ensures.feeds _
       (c.in_ok-advance.was ∙ ap said c.if-branch.true)
-      (rw (c.lent.ensures, c.decimal.ensures) at (c.in_ok-take.ensures c.args.words.now));
+      (rw (c.lent_segment.ensures, c.decimal.ensures) at (c.in_ok-take.ensures c.args.words.now));
   stays =
       stays_then g.R.Source.remaining c.args.reader.now _ _ _ _ c.args.lender.now _ _ c.advance.result c.advance.ensures.feeds
       c.advance.ensures.still c.loop-relaying.invariant.stays;

@@ -30,7 +30,7 @@ loop-count-preserved c =
     let same : take (length rest - count) after_it ≡ after_it =
     take_all (length rest - count) after_it (omega (arith, length-drop count rest)) in
     let grown : c.push.new.self.items ≡ c.loop-count.segments.items ++ c.in_ok-to_segment.field-0 ∷ [] = c.in_ok-push.ensures.items in
-    let item = c.in_ok-to_segment.ensures ∙ c.lent.ensures in
+    let item = c.in_ok-to_segment.ensures ∙ c.lent_segment.ensures in
     let one = one_in c.loop-count.segments.items c.loop-count.machine c.push_all.new.self rest _ c.loop-count.invariant count
     (subst (λ (b : Bool). run (reading_of [] c.loop-count.machine) (take count rest) ≡ Ok (after [] b c.push_all.new.self))
     c.if-not-ended.false c.in_ok-count.ensures.ok) in

@@ -1,7 +1,7 @@
 use Rattle.std.proofs.Common.{sym, ap, ◌∙◌, refl}
 use Rattle.std.proofs.lemmas.Bool.{or_from}
 use Rattle.edi_segments.specs.SegmentRef.{segment_in}
-use Rattle.edi_envelope.specs.Reference.{kept}
+use Rattle.edi_envelope.specs.Reference.{filled_reference}
 use Rattle.edi_envelope.specs.Check.{lowest_of}
 use Rattle.edi_envelope.proofs.CheckLemmas.{breaks_between, ends_between, loses_between, opens}
 use Rattle.edi_envelope.proofs.check.EnvelopeCheck.between.Goals as goal
@@ -24,4 +24,4 @@ pub returns : goal.returns
 returns c =
     opens c.args.self.now (segment_in c.args.segment.now) c.is_outside-self.result c.is_outside-self.ensures c.take.new.self _ c.requires
     (sym c.has_tag-unh.ensures ∙ c.if-not-unh.false) c.in_ok-take.ensures.heads c.in_ok-take.ensures.falls
-    (c.kept.ensures ∙ ap kept c.component.ensures) refl
+    (c.filled_reference.ensures ∙ ap filled_reference c.component.ensures) refl

@@ -2,7 +2,7 @@ use Rattle.std.proofs.Common.{ℕ, List, not, ap, ◌∙◌, ◌&&◌, ◌||◌,
 use Rattle.std.specs.Str.{bytes_eq}
 use Rattle.edi_base.specs.Seen.{is_among}
 use Rattle.edi_segments.specs.SegmentRef.{segment_in}
-use Rattle.edi_envelope.specs.Reference.{kept}
+use Rattle.edi_envelope.specs.Reference.{filled_reference}
 use Rattle.edi_envelope.proofs.TallyLemmas.{heads_skipped, heads_seen, not_not}
 use Rattle.edi_envelope.proofs.tally.Headers.take.Goals.{then-not-self-via-then-not-self, then-not-self-via-else-not-self+then-self}
 use Rattle.edi_envelope.proofs.tally.Headers.take.Goals as goal
@@ -19,9 +19,9 @@ returns-then-not-self-clause-heads c = λ messages heads.
 pub returns-clause-heads : goal.returns-clause-heads
 returns-clause-heads c = λ messages heads.
     let h = c.args.self.now in
-    let key = c.kept.ensures ∙ ap kept c.component.ensures in
+    let key = c.filled_reference.ensures ∙ ap filled_reference c.component.ensures in
     heads_seen messages h (segment_in c.args.unh.now) heads _ _ _ _
     (ap (λ b. h.identified && b) c.has_identity.ensures) c.in_ok-self.ensures
     c.if-not-self.false c.if-self.false
-    (ap not c.in_ok-new.ensures.new ∙ not_not (is_among c.kept.result h.seen) ∙ ap (λ (l : List ℕ). is_among l h.seen) key)
+    (ap not c.in_ok-new.ensures.new ∙ not_not (is_among c.filled_reference.result h.seen) ∙ ap (λ (l : List ℕ). is_among l h.seen) key)
     (λ other. c.in_ok-new.ensures.seen other ∙ ap (λ (l : List ℕ). bytes_eq other l || is_among other h.seen) key)

@@ -21,15 +21,16 @@ invariant_of-self c =
     let all : s.components + 1 ≡ length (take s.components s.component_ends.items) + 1 =
     sym (counted s.component_ends.items s.components within) in
     let left : IsLeft s.components_kept
-    (length (take s.components s.component_ends.items) + 1) s.component_from s.filled c.left-self-inside.result =
-    subst (λ (n : ℕ). IsLeft s.components_kept n s.component_from s.filled c.left-self-inside.result) all c.left-self-inside.ensures in
+    (length (take s.components s.component_ends.items) + 1) s.component_from s.filled c.count_left-self-inside.result =
+    subst (λ (n : ℕ). IsLeft s.components_kept n s.component_from s.filled c.count_left-self-inside.result) all
+        c.count_left-self-inside.ensures in
     record {
       flat =
           subst (λ l. IsFlat (take s.filled s.bytes.items) l (take s.elements s.element_ends.items) s.filled s.element_from
-          c.left-self-inside.result s.elements_kept) (sym more)
+          c.count_left-self-inside.result s.elements_kept) (sym more)
           (flat-component (take s.filled s.bytes.items) (take s.components s.component_ends.items)
           (take s.elements s.element_ends.items) s.component_from s.element_from s.components_kept s.elements_kept s.filled
-          flat whole c.left-self-inside.result left);
+          flat whole c.count_left-self-inside.result left);
       room = record {
         bytes_long = room.bytes_long;
         component_ends_long = room.component_ends_long;

@@ -15,7 +15,7 @@ invariant_of-self c =
     let filled_within : s.filled ≤ length s.bytes.items = omega (arith, s.bytes.ok.0, room.bytes_long, room.filled_within, room.is_short) in
     let ended = flat-ended s.bytes.items s.component_ends.items s.element_ends.items s.filled s.components s.elements s.component_from
     s.element_from s.components_kept s.elements_kept c.self.invariant.flat filled_within within elements_within
-    c.left-components.result c.left-components.ensures c.left-self-inside.result c.left-self-inside.ensures in
+    c.count_left-components.result c.count_left-components.ensures c.count_left-self-inside.result c.count_left-self-inside.ensures in
     record {
       flat = ended.0;
       room = record {
@@ -41,5 +41,5 @@ returns c =
     let filled_within : s.filled ≤ length s.bytes.items = omega (arith, s.bytes.ok.0, room.bytes_long, room.filled_within, room.is_short) in
     open-ended s.bytes.items s.component_ends.items s.element_ends.items s.filled s.components s.elements s.component_from
     s.element_from s.components_kept s.elements_kept c.self.invariant.flat filled_within within elements_within
-    c.left-components.result c.left-components.ensures s.tag s.size
+    c.count_left-components.result c.count_left-components.ensures s.tag s.size
     ∙ ap with_element c.self.view_is

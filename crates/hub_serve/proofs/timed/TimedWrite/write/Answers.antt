@@ -8,6 +8,6 @@ use Rattle.hub_serve.proofs.timed.TimedWrite.write.Goals as goal
 pub returns-in_err-set_write_wait-clause-timed : goal.returns-in_err-set_write_wait-clause-timed
 returns-in_err-set_write_wait-clause-timed g c =
     let left = c.in_ok-left.ensures.left in
-    let none : Adds (g.T.Socket.uses c.left.new.self.0) (g.T.Socket.uses c.set_write_wait.new.self) [] = search rules in
+    let none : Adds (g.T.Socket.uses c.time_left.new.self.0) (g.T.Socket.uses c.set_write_wait.new.self) [] = search rules in
     timed_not (λ x. uses.write_wait x) uses.write _ _ _ _ _ c.from_residual-in_err-set_write_wait.result (instant_nanos left.now)
     c.from_residual-in_err-set_write_wait.ensures.0 left.asked none

@@ -2,7 +2,7 @@ use Rattle.std.proofs.Common.{◌∙◌, ap, sym, subst}
 use Rattle.gs1_ids.proofs.Decided.{Decides-is_key}
 use Rattle.hub_parties.specs.Rows.{IsRegister, rows_by}
 use Rattle.hub_register.proofs.Kept.{kept_right, kept_stand}
-use Rattle.hub_register.proofs.register.held.Goals as goal
+use Rattle.hub_register.proofs.register.make_register.Goals as goal
 
 pub register_of_parties-requires-clause-right : goal.register_of_parties-requires-clause-right
 register_of_parties-requires-clause-right c =

@@ -1,7 +1,7 @@
 use Rattle.sqlite.specs.Held.{state}
 use Rattle.hub_schema.specs.Rows.{tables_in}
 use Rattle.hub_sql.proofs.Adopted.{rows_held_before}
-use Rattle.hub_sql.proofs.opening.taken.Goals as goal
+use Rattle.hub_sql.proofs.opening.store_of_rows.Goals as goal
 
 pub returns-in-Ok-clause-holds : goal.returns-in-Ok-clause-holds
 returns-in-Ok-clause-holds g c =

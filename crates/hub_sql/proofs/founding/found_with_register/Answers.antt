@@ -5,7 +5,7 @@ use Rattle.hub_schema.specs.State.{FoundsTo}
 use Rattle.hub_tables.specs.Change.{apply_all}
 use Rattle.hub_tables.specs.Tables.{empty}
 use Rattle.hub_sql.proofs.Sparing.{spared_founding, spared_itself}
-use Rattle.hub_sql.proofs.founding.laid.Goals as goal
+use Rattle.hub_sql.proofs.founding.found_with_register.Goals as goal
 
 pub returns-clause-spared : goal.returns-clause-spared
 returns-clause-spared g c =

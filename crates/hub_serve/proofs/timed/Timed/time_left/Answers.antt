@@ -3,7 +3,7 @@ use Rattle.std.specs.Time.{instant_nanos}
 use Rattle.hub_serve.specs.Connections.{Adds}
 use Rattle.hub_serve.specs.Uses.{told}
 use Rattle.hub_serve.proofs.Using.{asks_once, on_err}
-use Rattle.hub_serve.proofs.timed.Timed.left.Goals as goal
+use Rattle.hub_serve.proofs.timed.Timed.time_left.Goals as goal
 
 pub returns-clause-asks : goal.returns-clause-asks
 returns-clause-asks g c =
