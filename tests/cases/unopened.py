@@ -1,9 +1,10 @@
-"""Cases of a path at which there is no database: each command that needs one says so, and makes and changes no file."""
+"""Cases of a path at which there is no database: each command that needs one says so, and makes and changes no file; and `init` over a
+file that is none."""
 import os
 
 from tests.harness.database_files import NAME
 from tests.harness.hub_scripts import TWO_SUPPLIERS
-from tests.harness.hub_steps import EACH, step, steps
+from tests.harness.hub_steps import EACH, REGISTER, init, step, steps
 from tests.harness.register_texts import ALPHA
 
 REKEY = ["rekey", "--db", NAME, "--supplier", ALPHA, "--new-key-file", "new.txt"]
@@ -41,6 +42,11 @@ CASES = [
         steps(f"{words[0]} over {name}", step(words, "", 3, f"{fault}\n", {NAME: data, **NEW_KEY}, is_alone(data)))
         for name, data, fault in FILES
         for words in COMMANDS
+    ),
+    *(
+        steps(f"init over {name}", step(init(), "", 3, f"{fault}\n", {NAME: data, REGISTER: TWO_SUPPLIERS}, is_alone(data)))
+        for name, data, fault in FILES
+        if data
     ),
     *(steps(f"{words[0]} over no file", step(words, "", 3, "store version\n", NEW_KEY, made_nothing)) for words in COMMANDS),
 ]

@@ -2,12 +2,14 @@
 use crate::fault::BeginFault;
 use crate::register::register_text;
 use crate::tell;
+use crate::unopened::fault_at;
 use edi_base::OfWrite;
 use edi_base::exit::FAILED;
 use hub_app::InitWords;
 use hub_commands::{CheckReport, print_report};
 use hub_register::{Register, RegisterFault};
 use hub_sql::{FoundFault, SqliteStore};
+use hub_store::StoreFault;
 use sqlite_disk::{Start, Unknown};
 use sqlite_std_file::FileFrom;
 use sqlite_store::FileStore;
@@ -49,6 +51,10 @@ fn found_and_report(
     register: &Register,
 ) -> Result<CheckReport, BeginFault> {
     let report = CheckReport::ok(rt.alloc(), register)?;
+    // Opening a file that is no database would leave a log beside it.
+    if let Some(StoreFault::Disk) = fault_at(rt, path) {
+        return Err(BeginFault::Store(StoreFault::Disk));
+    }
     match found_file(rt, path, register, Unknown) {
         Ok(()) => Ok(report),
         Err(FoundFault::Rows) => Ok(CheckReport::of_rows(rt.alloc())?),

@@ -25,9 +25,9 @@ use Rattle.hub_sound.specs.Finding.{RowKey}
 use Rattle.hub_store.specs.declared.fault.StoreFault.{StoreFault}
 use Rattle.hub_tables.proofs.Members.{has_map}
 use Rattle.hub_tables.specs.Tables.{Tables}
-use Rattle.hub_verify.specs.AllRows.{IsRead}
-use Rattle.hub_verify.specs.declared.all_rows.Read.{Read as Found}
-use Rattle.hub_verify.specs.declared.all_rows.Read.TheVariants.{Rows, Unclean}
+use Rattle.hub_pieces.specs.AllRows.{IsRead}
+use Rattle.hub_pieces.specs.declared.all_rows.Read.{Read as Found}
+use Rattle.hub_pieces.specs.declared.all_rows.Read.TheVariants.{Rows, Unclean}
 use Rattle.hub_audit.specs.Every.{AreRead}
 use Rattle.hub_audit.specs.Key.{key_from}
 use Rattle.hub_audit.specs.declared.key.Part.{Part}

@@ -12,10 +12,10 @@ use Rattle.hub_store.specs.declared.fault.StoreFault.{StoreFault}
 use Rattle.hub_store.specs.declared.fault.StoreFault.TheVariants.{Memory, Unclean}
 use Rattle.hub_tables.specs.Sets.{Rising}
 use Rattle.hub_tables.specs.Tables.{Tables}
-use Rattle.hub_verify.specs.AllRows.{IsRead}
-use Rattle.hub_verify.specs.declared.all_rows.Read.{Read as Found}
-use Rattle.hub_verify.specs.declared.all_rows.Read.TheVariants as read
-use Rattle.hub_verify.proofs.Reading.{rows_are}
+use Rattle.hub_pieces.specs.AllRows.{IsRead}
+use Rattle.hub_pieces.specs.declared.all_rows.Read.{Read as Found}
+use Rattle.hub_pieces.specs.declared.all_rows.Read.TheVariants as read
+use Rattle.hub_pieces.proofs.Reading.{rows_are}
 
 abbrev NoTables : Tables → Type 0
 NoTables t = ⊥

@@ -59,9 +59,9 @@ use Rattle.hub_tables.proofs.KindOrders.{order_total, line_total, advice_total, 
 use Rattle.hub_tables.proofs.KindOrders.{remembered_total, mail_total}
 use Rattle.hub_tables.proofs.Lists.{all_passes}
 use Rattle.hub_tables.proofs.Members.{all_of, has_filter, has_map}
-use Rattle.hub_verify.specs.Pieces.{IsNext, values_in}
-use Rattle.hub_verify.specs.declared.piece_kind.PieceKind.{PieceKind}
-use Rattle.hub_verify.specs.declared.piece_kind.PieceKind.TheVariants as pieces
+use Rattle.hub_pieces.specs.Pieces.{IsNext, values_in}
+use Rattle.hub_pieces.specs.declared.piece_kind.PieceKind.{PieceKind}
+use Rattle.hub_pieces.specs.declared.piece_kind.PieceKind.TheVariants as pieces
 use Rattle.hub_audit.specs.Next.{Any, next_text}
 use Rattle.hub_audit.proofs.Texts.{above, next_of}
 use Rattle.hub_audit.proofs.Texts.{next_order_select, next_line_select, next_advice_select, next_pallet_select, next_content_select}

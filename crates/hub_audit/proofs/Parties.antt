@@ -17,8 +17,8 @@ use Rattle.hub_tables.proofs.KindOrders.{hub_total, key_total, prefix_total}
 use Rattle.hub_tables.specs.declared.rows.HubRow.{HubRow}
 use Rattle.hub_tables.specs.declared.rows.KeyRow.{KeyRow}
 use Rattle.hub_tables.specs.declared.rows.PrefixRow.{PrefixRow}
-use Rattle.hub_verify.specs.AllRows.{IsRead}
-use Rattle.hub_verify.specs.declared.all_rows.Read.{Read as Found}
+use Rattle.hub_pieces.specs.AllRows.{IsRead}
+use Rattle.hub_pieces.specs.declared.all_rows.Read.{Read as Found}
 use Rattle.hub_audit.specs.Every.{AreRead}
 use Rattle.hub_audit.specs.declared.key.Part.TheVariants.{Text}
 use Rattle.hub_audit.proofs.EveryRow.{all_pass, every_row}

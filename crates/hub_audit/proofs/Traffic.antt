@@ -34,8 +34,8 @@ use Rattle.hub_tables.specs.declared.rows.ContentRow.{ContentRow}
 use Rattle.hub_tables.specs.declared.rows.ReceiptRow.{ReceiptRow}
 use Rattle.hub_tables.specs.declared.rows.RememberedRow.{RememberedRow}
 use Rattle.hub_tables.specs.declared.rows.MailRow.{MailRow}
-use Rattle.hub_verify.specs.AllRows.{IsRead}
-use Rattle.hub_verify.specs.declared.all_rows.Read.{Read as Found}
+use Rattle.hub_pieces.specs.AllRows.{IsRead}
+use Rattle.hub_pieces.specs.declared.all_rows.Read.{Read as Found}
 use Rattle.hub_audit.specs.Every.{AreRead}
 use Rattle.hub_audit.specs.declared.key.Part.TheVariants.{Text, Number}
 use Rattle.hub_audit.proofs.EveryRow.{every_row}

@@ -4,8 +4,8 @@ use Rattle.std.specs.List.{list_all}
 use Rattle.hub_audit.specs.Key.{key_from}
 use Rattle.hub_audit.specs.declared.key.Part.{Part}
 use Rattle.hub_tables.specs.Sets.{Has}
-use Rattle.hub_verify.specs.declared.all_rows.Read.{Read as Found}
-use Rattle.hub_verify.specs.declared.all_rows.Read.TheVariants.{Rows, Unclean}
+use Rattle.hub_pieces.specs.declared.all_rows.Read.{Read as Found}
+use Rattle.hub_pieces.specs.declared.all_rows.Read.TheVariants.{Rows, Unclean}
 use Rattle.sqlite_value.specs.Order.{Row}
 
 -- each has the form of its kind; or the key is that of a row without it

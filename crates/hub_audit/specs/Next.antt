@@ -1,8 +1,8 @@
 -- The texts that select the lowest value above a parameter.
 use Rattle.std.specs.Prelude.{ℕ, List, codes, ⊤}
 use Rattle.hub_tables.specs.Tables.{Tables}
-use Rattle.hub_verify.specs.declared.piece_kind.PieceKind.{PieceKind}
-use Rattle.hub_verify.specs.declared.piece_kind.PieceKind.TheVariants.{Order, Line, Advice, Pallet, Content, Receipt, Remembered, Mail}
+use Rattle.hub_pieces.specs.declared.piece_kind.PieceKind.{PieceKind}
+use Rattle.hub_pieces.specs.declared.piece_kind.PieceKind.TheVariants.{Order, Line, Advice, Pallet, Content, Receipt, Remembered, Mail}
 
 -- whatever the tables hold
 abbrev pub Any : Tables → Type 0

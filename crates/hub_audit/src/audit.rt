@@ -6,7 +6,7 @@ ghost use Rattle.hub_schema.specs.Rows.{tables_in};
 ghost use Rattle.hub_schema.specs.State.{IsHub};
 ghost use Rattle.hub_sql.specs.Opening.{IsReady};
 ghost use Rattle.hub_sql.specs.Version.{AreRising};
-ghost use Rattle.hub_verify.specs.AllRows.{Tells};
+ghost use Rattle.hub_pieces.specs.AllRows.{Tells};
 ghost use Rattle.sqlite.specs.Held.{state};
 ghost use Rattle.sqlite.specs.State.{HasCleanDisk};
 

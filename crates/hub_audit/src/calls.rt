@@ -1,5 +1,5 @@
 //! Answers what a check of all rows asks, each by a query.
-ghost use Rattle.hub_verify.specs.AllRows.{IsReadFault};
+ghost use Rattle.hub_pieces.specs.AllRows.{IsReadFault};
 
 use crate::kinds;
 use crate::next::next_value;
@@ -14,7 +14,7 @@ use hub_tables::{
     AdviceRow, ContentRow, HubRow, KeyRow, LineRow, MailRow, OrderRow, PalletRow, PrefixRow,
     ReceiptRow, RememberedRow,
 };
-use hub_verify::{AllRows, PieceKind, Read};
+use hub_pieces::{AllRows, PieceKind, Read};
 use sqlite::Alter;
 
 // What a look-up fails with: a row that cannot be taken is not what the disk held when the file was opened or checked.

@@ -3,7 +3,7 @@ ghost use Rattle.std.specs.Prelude.{◌≡◌, IfOk, IfErr};
 ghost use Rattle.hub_audit.specs.Every.{AreRead};
 ghost use Rattle.hub_rows.specs.Asks.{Asks};
 ghost use Rattle.hub_schema.specs.State.{Never};
-ghost use Rattle.hub_verify.specs.AllRows.{IsReadFault};
+ghost use Rattle.hub_pieces.specs.AllRows.{IsReadFault};
 ghost use Rattle.sqlite.specs.Held.{state};
 ghost use Rattle.sqlite.specs.Values.{bound};
 
@@ -11,7 +11,7 @@ use crate::key::{Part, key_of};
 use edi_base::Items;
 use hub_rows::{ShownRow, query};
 use hub_store::StoreFault;
-use hub_verify::Read;
+use hub_pieces::Read;
 use sqlite::types::ValueRef;
 use sqlite::{Alter, Connection, Row};
 use std::alloc::Global;

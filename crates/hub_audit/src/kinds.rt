@@ -8,7 +8,7 @@ ghost use Rattle.hub_store.specs.Clean.{clean_hub, clean_key, clean_prefix, clea
 ghost use Rattle.hub_store.specs.Clean.{clean_content, clean_receipt, clean_remembered, clean_mail};
 ghost use Rattle.hub_tables.specs.State.{contents_of, receipts_of};
 ghost use Rattle.hub_tables.specs.Tables.{view};
-ghost use Rattle.hub_verify.specs.AllRows.{IsRead, IsReadFault};
+ghost use Rattle.hub_pieces.specs.AllRows.{IsRead, IsReadFault};
 ghost use Rattle.sqlite.specs.Held.{state};
 
 use crate::every::every;
@@ -18,7 +18,7 @@ use hub_tables::{
     AdviceRow, ContentRow, HubRow, KeyRow, LineRow, MailRow, OrderRow, PalletRow, PrefixRow,
     ReceiptRow, RememberedRow,
 };
-use hub_verify::Read;
+use hub_pieces::Read;
 use sqlite::types::ValueRef;
 use sqlite::{Alter, Connection};
 use std::alloc::Global;

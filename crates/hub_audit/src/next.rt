@@ -2,13 +2,13 @@
 ghost use Rattle.std.specs.Prelude.{◌≡◌};
 ghost use Rattle.hub_audit.specs.Next as spec;
 ghost use Rattle.hub_schema.specs.State.{LooksFor};
-ghost use Rattle.hub_verify.specs.Pieces.{IsNext, values_in};
+ghost use Rattle.hub_pieces.specs.Pieces.{IsNext, values_in};
 ghost use Rattle.sqlite.specs.Held.{state};
 
 use edi_base::Items;
 use hub_rows::first_of;
 use hub_store::StoreFault;
-use hub_verify::PieceKind;
+use hub_pieces::PieceKind;
 use sqlite::types::ValueRef;
 use sqlite::{Alter, Connection};
 

@@ -3,7 +3,7 @@ ghost use Rattle.std.specs.Prelude.{◌≡◌, IfErr};
 ghost use Rattle.hub_schema.specs.State.{LooksFor, Never};
 ghost use Rattle.hub_tables.specs.Sets.{Rising};
 ghost use Rattle.hub_founding.specs.Founding.{IsHeldBy};
-ghost use Rattle.hub_verify.specs.AllRows.{IsReadFault};
+ghost use Rattle.hub_pieces.specs.AllRows.{IsReadFault};
 ghost use Rattle.sqlite.specs.Held.{state};
 
 use crate::kinds::{every_hub, every_prefix, every_supplier};
@@ -11,7 +11,7 @@ use hub_founding::register_of;
 use hub_register::Register;
 use hub_store::StoreFault;
 use hub_tables::{HubRow, KeyRow};
-use hub_verify::Read;
+use hub_pieces::Read;
 use sqlite::{Alter, Connection};
 use std::alloc::Global;
 

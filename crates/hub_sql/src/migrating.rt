@@ -29,13 +29,12 @@ use sqlite::{Alter, Connection};
 use std::alloc::Global;
 
 // Returns the connection if it still lists the tables of schema 1 and the register fits their rows.
-fn fitting<S: Alter + Drop>(
+fn connection_if_fits<S: Alter + Drop>(
     mut conn: Connection<S>,
     register: &Register,
 ) -> Result<Connection<S>, (Connection<S>, FoundFault)>
     requires idle { conn.in_transaction ≡ false }
-    requires shaped { HasCleanDisk (state S.Store conn) →
-        AreShaped Version.First (state S.Store conn).now.trees }
+    requires shaped { HasCleanDisk (state S.Store conn) → AreShaped Version.First (state S.Store conn).now.trees }
     requires number { HasCleanDisk (state S.Store conn) → HasNumber 1 (state S.Store conn).now.trees }
     requires ready { HasCleanDisk (state S.Store conn) → IsReady (state S.Store conn) }
     ensures idle { IfOk result (λ c. c.in_transaction ≡ false) }
@@ -50,8 +49,7 @@ fn fitting<S: Alter + Drop>(
     ensures rows { IfErr result (λ e. e.1 ≡ FoundFault.Rows → HasCleanDisk (state S.Store e.0) →
         (e.0.schema ≡ old_schema)
         × (does_fit register.now (traffic_in (state S.Store conn).now.trees) ≡ false)) }
-    ensures known { IfErr result (λ e.
-        (conn.schema ≡ old_schema) ⊎ (e.1 ≡ FoundFault.Store StoreFault.Disk)) }
+    ensures known { IfErr result (λ e. (conn.schema ≡ old_schema) ⊎ (e.1 ≡ FoundFault.Store StoreFault.Disk)) }
     ensures unfit { IfErr result (λ e. HasCleanDisk (state S.Store e.0) →
         does_fit register.now (traffic_in (state S.Store conn).now.trees) ≡ false →
         e.1 ≢ FoundFault.Rows → e.1 ≢ FoundFault.Store StoreFault.Memory →
@@ -76,7 +74,7 @@ fn fitting<S: Alter + Drop>(
 }
 
 // Makes a store with the rows of the register beside those of schema 1, which it fits.
-fn laid_beside<S: Alter + Drop>(
+fn found_beside<S: Alter + Drop>(
     alloc: Global,
     mut conn: Connection<S>,
     register: &Register,
@@ -105,15 +103,14 @@ fn laid_beside<S: Alter + Drop>(
     }
 }
 
-// Like `laid_beside`, for a connection that still lists the tables of schema 1, if the register fits.
+// Like `found_beside`, for a connection that still lists the tables of schema 1, if the register fits.
 fn beside<S: Alter + Drop>(
     alloc: Global,
     conn: Connection<S>,
     register: &Register,
 ) -> Result<SqliteStore<S>, (Connection<S>, FoundFault)>
     requires idle { conn.in_transaction ≡ false }
-    requires shaped { HasCleanDisk (state S.Store conn) →
-        AreShaped Version.First (state S.Store conn).now.trees }
+    requires shaped { HasCleanDisk (state S.Store conn) → AreShaped Version.First (state S.Store conn).now.trees }
     requires number { HasCleanDisk (state S.Store conn) → HasNumber 1 (state S.Store conn).now.trees }
     requires ready { HasCleanDisk (state S.Store conn) → IsReady (state S.Store conn) }
     ensures holds { IfOk result (HoldsRows S.Store (state S.Store conn)
@@ -124,8 +121,7 @@ fn beside<S: Alter + Drop>(
     ensures none { IfErr result (λ e. e.1 ≡ FoundFault.Rows → HasCleanDisk (state S.Store e.0) →
         (e.0.schema ≡ old_schema)
         × (does_fit register.now (traffic_in (state S.Store conn).now.trees) ≡ false)) }
-    ensures known { IfErr result (λ e.
-        (conn.schema ≡ old_schema) ⊎ (e.1 ≡ FoundFault.Store StoreFault.Disk)) }
+    ensures known { IfErr result (λ e. (conn.schema ≡ old_schema) ⊎ (e.1 ≡ FoundFault.Store StoreFault.Disk)) }
     ensures unfit { IfErr result (λ e. HasCleanDisk (state S.Store e.0) →
         does_fit register.now (traffic_in (state S.Store conn).now.trees) ≡ false →
         e.1 ≢ FoundFault.Rows → e.1 ≢ FoundFault.Store StoreFault.Memory →
@@ -134,8 +130,8 @@ fn beside<S: Alter + Drop>(
     ensures spared { IfErr result (λ e. SparesConnection S.Store ⊥
         (MayBeBeside (traffic_in (state S.Store conn).now.trees) register.now) (state S.Store conn) e.0) }
 {
-    match fitting(conn, register) {
-        Ok(conn) => laid_beside(alloc, conn, register),
+    match connection_if_fits(conn, register) {
+        Ok(conn) => found_beside(alloc, conn, register),
         Err((conn, fault)) => Err((conn, fault)),
     }
 }
@@ -177,8 +173,7 @@ pub(crate) fn migrate_opened_hub<S: Alter + Drop>(
     requires idle { conn.in_transaction ≡ false }
     requires tables { conn.schema ≢ no_schema }
     requires ready { HasCleanDisk (state S.Store conn) → IsReady (state S.Store conn) }
-    requires rising { HasCleanDisk (state S.Store conn) →
-        AreRising (state S.Store conn).now.trees conn.schema.tables }
+    requires rising { HasCleanDisk (state S.Store conn) → AreRising (state S.Store conn).now.trees conn.schema.tables }
     ensures founds { IfOk result (Founds S.Store register.now (state S.Store conn)) }
     ensures refuses { IfErr result (λ e. RefusesFounding S.Store register.now (state S.Store conn) e.0 e.1) }
 {

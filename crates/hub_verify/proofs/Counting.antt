@@ -2,12 +2,12 @@
 use Rattle.std.proofs.Common.{◌≡◌, ℕ, Bool, List, length, count_by, Ok, ap, ◌∙◌}
 use Rattle.hub_sound.specs.Finding.{RowKey}
 use Rattle.hub_tables.specs.Tables.{Tables}
-use Rattle.hub_verify.specs.AllRows.{Tells, IsRead}
+use Rattle.hub_pieces.specs.AllRows.{Tells, IsRead}
 use Rattle.hub_verify.specs.Counts.{AreCounts, is_open, is_received, is_untaken}
-use Rattle.hub_verify.specs.declared.all_rows.Read.{Read as Found}
-use Rattle.hub_verify.specs.declared.all_rows.Read.TheVariants.{Rows}
-use Rattle.hub_verify.proofs.Reading.{rows_are}
-use Rattle.hub_verify.proofs.Telling.{follows, then}
+use Rattle.hub_pieces.specs.declared.all_rows.Read.{Read as Found}
+use Rattle.hub_pieces.specs.declared.all_rows.Read.TheVariants.{Rows}
+use Rattle.hub_pieces.proofs.Reading.{rows_are}
+use Rattle.hub_pieces.proofs.Telling.{follows, then}
 
 module _ {S : Type 0} (content : S → Tables) (honest : S → Type 0) where
   module _ {X : Type 0} (key_of : X → RowKey) (clean : X → Bool) (rows : Tables → List X) (old mid : S) (read : Found X) (xs : List X)

@@ -19,11 +19,13 @@ use Rattle.hub_sound.specs.declared.finding.RowKind.TheVariants.{Pallet}
 use Rattle.hub_store.specs.Clean.{clean_pallet}
 use Rattle.hub_tables.specs.declared.rows.PalletRow.{PalletRow}
 use Rattle.hub_verify.specs.Cross.{ShowsUnrooted}
-use Rattle.hub_verify.specs.AllRows.{Tells}
-use Rattle.hub_verify.specs.Pieces.{piece}
-use Rattle.hub_verify.specs.Verdict.{Told, ToldUnsound}
-use Rattle.hub_verify.proofs.Telling.{IsFirstFailing, follows, then}
-use Rattle.hub_verify.proofs.Walking.{piece_fails}
+use Rattle.hub_pieces.specs.AllRows.{Tells}
+use Rattle.hub_pieces.specs.Pieces.{piece}
+use Rattle.hub_pieces.specs.Walk.{Told}
+use Rattle.hub_verify.specs.Verdict.{ToldUnsound}
+use Rattle.hub_pieces.proofs.Telling.{follows, then}
+use Rattle.hub_verify.proofs.Findings.{IsFirstFailing}
+use Rattle.hub_pieces.proofs.Walking.{piece_fails}
 
 not_true : (b : Bool) → not b ≡ true → b ≡ false
 not_true true h = cc

@@ -19,12 +19,12 @@ use Rattle.hub_tables.specs.declared.rows.LineRow.{LineRow}
 use Rattle.hub_tables.specs.declared.rows.PalletRow.{PalletRow}
 use Rattle.hub_tables.proofs.Lists.{same_if, same_is}
 use Rattle.hub_tables.proofs.Members.{all_if, any_if, has_map}
-use Rattle.hub_verify.specs.AllRows.{Tells}
+use Rattle.hub_pieces.specs.AllRows.{Tells}
 use Rattle.hub_verify.specs.Goods.{LinesAreSettled, PalletsAreSettled, ShowsMisfit, TellsOfAll}
-use Rattle.hub_verify.specs.Pieces.{piece, values_in}
-use Rattle.hub_verify.specs.Verdict.{Told}
-use Rattle.hub_verify.specs.declared.piece_kind.PieceKind.TheVariants.{Line, Pallet}
-use Rattle.hub_verify.proofs.Telling.{follows, then}
+use Rattle.hub_pieces.specs.Pieces.{piece, values_in}
+use Rattle.hub_pieces.specs.Walk.{Told}
+use Rattle.hub_pieces.specs.declared.piece_kind.PieceKind.TheVariants.{Line, Pallet}
+use Rattle.hub_pieces.proofs.Telling.{follows, then}
 
 -- Contents.
 

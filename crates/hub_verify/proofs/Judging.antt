@@ -12,13 +12,13 @@ use Rattle.hub_sound.proofs.Showing.{unclean_shows, shows_none, checked_sound}
 use Rattle.hub_store.specs.Clean.{are_clean}
 use Rattle.hub_tables.specs.Sets.{Rising}
 use Rattle.hub_tables.specs.Tables.{Tables}
-use Rattle.hub_verify.specs.AllRows.{Tells}
+use Rattle.hub_pieces.specs.AllRows.{Tells}
 use Rattle.hub_verify.specs.Cross.{TellsRooted, PartiesFit, RowsFit}
 use Rattle.hub_verify.specs.Goods.{TellsOfAll}
 use Rattle.hub_verify.specs.Verdict.{ToldUnclean, ToldUnsound, IsVerdict}
 use Rattle.hub_verify.specs.declared.verdict.RowsVerdict.{RowsVerdict as Judged}
 use Rattle.hub_verify.specs.declared.verdict.RowsVerdict.TheVariants.{Sound, Unclean, Unsound}
-use Rattle.hub_verify.proofs.Telling.{follows, then}
+use Rattle.hub_pieces.proofs.Telling.{follows, then}
 
 module _ {S : Type 0} (content : S → Tables) (honest : S → Type 0) where
   pub no_register_told : (old mid : S) (held : Option RegisterRows) → held ≡ None → (found : Finding)

@@ -1,9 +1,7 @@
 pub mod Cleaning
 pub mod Counting
 pub mod Crossing
+pub mod Findings
 pub mod Gathered
 pub mod Judging
-pub mod Reading
 pub mod Tallying
-pub mod Telling
-pub mod Walking

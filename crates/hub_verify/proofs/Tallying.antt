@@ -13,11 +13,11 @@ use Rattle.hub_tables.specs.Rows.{same}
 use Rattle.hub_tables.specs.Sets.{Has}
 use Rattle.hub_tables.specs.Tables.{Tables}
 use Rattle.hub_tables.proofs.Members.{all_if, has_map}
-use Rattle.hub_verify.specs.AllRows.{Tells}
-use Rattle.hub_verify.specs.Pieces.{IsNext, piece, values_in}
-use Rattle.hub_verify.specs.declared.piece_kind.PieceKind.{PieceKind}
-use Rattle.hub_verify.proofs.Telling.{at_once, follows, then}
-use Rattle.hub_verify.proofs.Walking.{reversed, tied, none_below}
+use Rattle.hub_pieces.specs.AllRows.{Tells}
+use Rattle.hub_pieces.specs.Pieces.{IsNext, piece, values_in}
+use Rattle.hub_pieces.specs.declared.piece_kind.PieceKind.{PieceKind}
+use Rattle.hub_pieces.proofs.Telling.{at_once, follows, then}
+use Rattle.hub_pieces.proofs.Walking.{reversed, tied, none_below}
 
 -- Sums over the rows that pass one of two tests, and never both.
 

@@ -6,8 +6,8 @@ use Rattle.hub_sound.specs.declared.finding.RowKind.{RowKind}
 use Rattle.hub_store.specs.Clean.{clean_hub, clean_key, clean_prefix, clean_order, clean_line, clean_advice, clean_pallet}
 use Rattle.hub_store.specs.Clean.{clean_content, clean_receipt, clean_remembered, clean_mail}
 use Rattle.hub_tables.specs.Tables.{Tables}
-use Rattle.hub_verify.specs.declared.all_rows.Read.{Read as Found}
-use Rattle.hub_verify.specs.declared.all_rows.Read.TheVariants.{Rows, Unclean}
+use Rattle.hub_pieces.specs.declared.all_rows.Read.{Read as Found}
+use Rattle.hub_pieces.specs.declared.all_rows.Read.TheVariants.{Rows, Unclean}
 
 -- the row without the form of its kind, if one was read
 abbrev pub unclean_of : {X : Type 0} → RowKind → Found X → Option Finding

@@ -9,7 +9,7 @@ use Rattle.hub_sound.specs.declared.finding.Finding.{Finding}
 use Rattle.hub_sound.specs.declared.finding.RowKind.TheVariants.{Pallet}
 use Rattle.hub_tables.specs.Register.{HoldsRegister, register_of}
 use Rattle.hub_tables.specs.Tables.{Tables}
-use Rattle.hub_verify.specs.Verdict.{Told}
+use Rattle.hub_pieces.specs.Walk.{Told}
 
 -- it is a pallet that is under no prefix that this register has for its supplier
 abbrev pub ShowsUnrooted : RegisterRows → Tables → Finding → Type 0

@@ -7,9 +7,9 @@ use Rattle.hub_store.specs.Clean.{are_clean}
 use Rattle.hub_tables.specs.Rows.{same}
 use Rattle.hub_tables.specs.Sets.{Has, Rising}
 use Rattle.hub_tables.specs.Tables.{Tables, view}
-use Rattle.hub_verify.specs.Pieces.{values_in}
-use Rattle.hub_verify.specs.Verdict.{Told}
-use Rattle.hub_verify.specs.declared.piece_kind.PieceKind.TheVariants.{Line, Pallet}
+use Rattle.hub_pieces.specs.Pieces.{values_in}
+use Rattle.hub_pieces.specs.Walk.{Told}
+use Rattle.hub_pieces.specs.declared.piece_kind.PieceKind.TheVariants.{Line, Pallet}
 
 -- each supplier of a line or a pallet is among them
 pub record Covers (t : Tables) (glns : List (List ℕ)) : Type 0 where

@@ -1,5 +1,6 @@
 -- What is found of all rows.
-use Rattle.std.specs.Prelude.{◌≡◌, true, false, Option, None, Some}
+use Rattle.std.specs.Prelude.{◌≡◌, true, false, Option}
+use Rattle.hub_pieces.specs.Walk.{Told}
 use Rattle.hub_sound.specs.Showing.{ShowsUnclean, ShowsUnsound}
 use Rattle.hub_sound.specs.HubRules.Laws.{SoundHub}
 use Rattle.hub_sound.specs.declared.finding.Finding.{Finding}
@@ -7,11 +8,6 @@ use Rattle.hub_store.specs.Clean.{are_clean}
 use Rattle.hub_tables.specs.Tables.{Tables}
 use Rattle.hub_verify.specs.declared.verdict.RowsVerdict.{RowsVerdict as Judged}
 use Rattle.hub_verify.specs.declared.verdict.RowsVerdict.TheVariants.{Sound, Unclean, Unsound}
-
--- nothing was found, so this holds; or what was found shows that
-abbrev pub Told : {X : Type 0} → Type 0 → (X → Type 0) → Option X → Type 0
-Told holds shows None = holds
-Told holds shows (Some found) = shows found
 
 -- nothing was found, so this holds; or the row shows that the tables are not clean
 abbrev pub ToldUnclean : (Tables → Type 0) → Tables → Option Finding → Type 0

@@ -3,15 +3,13 @@ ghost use Rattle.std.specs.Prelude.{◌≡◌, true};
 ghost use Rattle.std.specs.List.{list_all};
 ghost use Rattle.hub_store.specs.Clean.{are_clean, clean_hub, clean_key, clean_prefix, clean_order, clean_line, clean_advice, clean_pallet};
 ghost use Rattle.hub_store.specs.Clean.{clean_content, clean_receipt, clean_remembered, clean_mail};
-ghost use Rattle.hub_verify.specs.AllRows.{Tells};
+ghost use Rattle.hub_pieces.specs.AllRows.{Tells};
 ghost use Rattle.hub_sound.specs.Showing.{ShowsUnclean};
 ghost use Rattle.hub_verify.specs.Clean.{unclean_of, PartiesAreClean, OrdersAreClean, GoodsAreClean, MailIsClean};
-ghost use Rattle.hub_verify.specs.Pieces.{piece};
+ghost use Rattle.hub_pieces.specs.Pieces.{piece};
 ghost use Rattle.hub_verify.specs.Verdict.{ToldUnclean};
 
-use crate::all_rows::{AllRows, Read};
-use crate::pieces::PieceRow;
-use crate::walk::{PieceCheck, walk};
+use hub_pieces::{AllRows, PieceCheck, PieceRow, Read, walk};
 use hub_sound::{Finding, RowKind};
 use hub_store::StoreFault;
 use hub_tables::{

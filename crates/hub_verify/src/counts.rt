@@ -1,12 +1,11 @@
 //! Counts the rows of a hub.
 ghost use Rattle.std.specs.Prelude.{◌≡◌, ◌+◌, Bool, false, not, length, nat_lt, count_by, IfOk, IfErr};
 ghost use Rattle.hub_tables.specs.State.{is_announced, is_taken};
-ghost use Rattle.hub_verify.specs.AllRows.{Tells};
+ghost use Rattle.hub_pieces.specs.AllRows.{Tells};
 ghost use Rattle.hub_verify.specs.Counts.{AreCounts, is_open, is_received, is_untaken};
 
-use crate::all_rows::AllRows;
-use crate::pieces::{PieceRow, rows_of, rows_with};
 use edi_base::Items;
+use hub_pieces::{AllRows, PieceRow, rows_of, rows_with};
 use hub_store::StoreFault;
 use hub_tables::{LineRow, MailRow, OrderRow, PalletRow, RememberedRow};
 use std::alloc::Global;

@@ -6,15 +6,12 @@ ghost use Rattle.hub_sound.specs.Showing.{IsSettled};
 ghost use Rattle.hub_store.specs.Clean.{are_clean, clean_line, clean_pallet};
 ghost use Rattle.hub_tables.specs.Sets.{Rising};
 ghost use Rattle.hub_tables.specs.Tables.{view};
-ghost use Rattle.hub_verify.specs.AllRows.{Tells};
+ghost use Rattle.hub_pieces.specs.AllRows.{Tells};
 ghost use Rattle.hub_verify.specs.Goods.{LinesAreSettled, PalletsAreSettled, ShowsMisfit, TellsOfAll};
-ghost use Rattle.hub_verify.specs.Verdict.{Told};
+ghost use Rattle.hub_pieces.specs.Walk.{Told};
 
-use crate::all_rows::AllRows;
-use crate::piece_kind::PieceKind;
-use crate::pieces::rows_with;
-use crate::walk::{PieceCheck, walk};
 use edi_base::{Items, MemoryFault};
+use hub_pieces::{AllRows, PieceCheck, PieceKind, rows_with, walk};
 use hub_sound::{Finding, first_misfit};
 use hub_store::StoreFault;
 use hub_tables::{ContentRow, LineRow, PalletRow};

@@ -4,11 +4,10 @@ ghost use Rattle.std.proofs.Common.{inl};
 ghost use Rattle.hub_sound.specs.Finding as keys;
 ghost use Rattle.hub_sound.specs.Showing as showing;
 ghost use Rattle.hub_tables.specs.Tables.{Tables};
-ghost use Rattle.hub_verify.specs.AllRows.{Tells};
+ghost use Rattle.hub_pieces.specs.AllRows.{Tells};
 
-use crate::all_rows::AllRows;
-use crate::pieces::PieceRow;
 use edi_base::MemoryFault;
+use hub_pieces::{AllRows, PieceRow};
 use hub_sound::{Finding, content_finding, line_finding, mail_finding, receipt_finding};
 use hub_store::StoreFault;
 use hub_tables::{ContentRow, LineRow, MailRow, ReceiptRow};

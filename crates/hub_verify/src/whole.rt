@@ -1,9 +1,9 @@
 //! Decides whether all rows are a sound start.
 ghost use Rattle.hub_tables.specs.Sets.{Rising};
-ghost use Rattle.hub_verify.specs.AllRows.{Tells};
+ghost use Rattle.hub_pieces.specs.AllRows.{Tells};
 ghost use Rattle.hub_verify.specs.Verdict.{IsVerdict};
 
-use crate::all_rows::AllRows;
+use hub_pieces::AllRows;
 use crate::clean::unclean_row;
 use crate::cross::unsound_row;
 use crate::goods::unsound_goods;

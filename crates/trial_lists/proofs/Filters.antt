@@ -203,8 +203,3 @@ pub take_of_map : {X K : Type 0} (key : X → K) (n : ℕ) (xs : List X) → tak
 take_of_map key zero xs = refl
 take_of_map key (suc n) [] = refl
 take_of_map key (suc n) (x ∷ xs) = ap (λ ks. key x ∷ ks) (take_of_map key n xs)
-
-pub all_taken : {X : Type 0} (P : X → Type 0) (n : ℕ) (xs : List X) → AllByRecursion P xs → AllByRecursion P (take n xs)
-all_taken P zero xs all = tt
-all_taken P (suc n) [] all = tt
-all_taken P (suc n) (x ∷ xs) all = (all.0, all_taken P n xs all.1)

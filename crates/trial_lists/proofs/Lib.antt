@@ -1,3 +1,2 @@
 pub mod Filters
 pub mod Indexing
-pub mod Searching

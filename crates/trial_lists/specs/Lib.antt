@@ -1,4 +1,3 @@
 pub mod Index
 pub mod Lists
 pub mod Places
-pub mod Search

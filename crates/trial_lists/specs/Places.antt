@@ -7,7 +7,7 @@ use Rattle.std.specs.declared.cmp.Ordering.{Ordering}
 use Rattle.std.specs.declared.cmp.Ordering.TheVariants.{Less, Equal, Greater}
 use Rattle.std.proofs.lemmas.Bool.{both_ways}
 use Rattle.std.proofs.lemmas.Cmp.{alike_right, nat_cmp_total}
-use Rattle.trial_lists.specs.Search.{may_precede, KeepsPlaces}
+use Rattle.trial_rows.specs.Search.{may_precede, KeepsPlaces}
 
 -- `Equal` if the first compares as less, else `Less`
 abbrev pub at_less : Ordering → Ordering

@@ -6,14 +6,13 @@ ghost use Rattle.hub_parties.specs.KeyOrder.{put, replace, Rises};
 ghost use Rattle.trial_lists.specs.Index.{IsIndex};
 
 use crate::key::OwnKey;
-use crate::search::rows_at;
 use crate::table::{drop_row, has_key, put_row, set_row};
 use edi_base::MemoryFault;
 use gs1_ids::{Gln, Sscc};
 use hub_tables::{MailRow, PalletRow};
 use std::alloc::Global;
 use std::cmp::Ordering;
-use trial_rows::{Row, Settable};
+use trial_rows::{Row, Settable, rows_at};
 
 /// The key of a supplier's mailbox entry.
 #[derive(Clone, Copy, Debug)]

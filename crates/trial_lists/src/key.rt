@@ -1,14 +1,12 @@
 //! Defines the keys by which rows are looked up.
 ghost use Rattle.std.specs.Prelude.{◌≡◌, Bool, ◌&&◌, ◌==◌, nat_lt};
 ghost use Rattle.std.specs.Ordering.{nat_cmp, ordering_then, is_eq};
-ghost use Rattle.std.specs.declared.cmp.Ordering.{Ordering as Order};
 ghost use Rattle.std.proofs.lemmas.Cmp.{nat_cmp_total, nat_list_cmp_total};
 ghost use Rattle.hub_tables.specs.Cases.{side_letter};
 ghost use Rattle.hub_parties.specs.KeyOrder.{bytes_cmp};
 ghost use Rattle.hub_tables.specs.Rows.{same};
 ghost use Rattle.trial_rows.specs.Alike.{same_bytes, same_numbers, both};
 ghost use Rattle.trial_lists.specs.Places.{above, is_above, first_part, then_part, by_key, above_kept};
-ghost use Rattle.trial_lists.specs.Search.{KeepsPlaces};
 
 use crate::index::{EntryKey, PalletKey};
 use gs1_ids::{Gln, Sscc};
@@ -17,26 +15,7 @@ use hub_tables::{
     Side,
 };
 use std::cmp::Ordering;
-use trial_rows::Row;
-
-/// What is searched for: a key, the first part of one, or all keys above one.
-pub(crate) trait SearchKey<T: Row> {
-    /// The place of a row relative to the key.
-    ghost place: { Self → T → Order };
-
-    /// Whether the row is searched for.
-    ghost wanted: { Self → T → Bool };
-
-    /// Returns the place of a row: below what is searched for, at it or above it.
-    fn place_of(&self, row: &T) -> Ordering
-        ensures { result ≡ place self.now row.now };
-
-    /// The rows at it are those that are searched for.
-    ghost exact: { (key : Self) (row : T) → is_eq (place key row) ≡ wanted key row };
-
-    /// Sorted rows are also in the order of their places.
-    ghost kept: { (key : Self) → KeepsPlaces T.compared (place key) };
-}
+use trial_rows::{Row, SearchKey};
 
 /// The key of a row itself.
 #[derive(Drop)]

@@ -5,7 +5,6 @@ mod index;
 mod key;
 mod lists;
 mod look;
-mod search;
 mod table;
 mod vec_store;
 

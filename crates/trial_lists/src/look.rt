@@ -13,8 +13,7 @@ ghost use Rattle.hub_store.specs.Heads.{head_of};
 ghost use Rattle.trial_lists.specs.Index.{IsIndex, entry_cmp, entry_key, is_untaken, owned_cmp, owned_key};
 
 use crate::index::{EntryKey, PalletKey};
-use crate::key::{AboveNumber, ByPallet, ByReference, BySupplier, LineAt, SearchKey, WithNumber};
-use crate::search::rows_at;
+use crate::key::{AboveNumber, ByPallet, ByReference, BySupplier, LineAt, WithNumber};
 use edi_base::{Items, MemoryFault, copy_bytes};
 use gs1_ids::{Gln, Sscc};
 use hub_store::MailHead;
@@ -24,7 +23,7 @@ use hub_tables::{
 };
 use std::alloc::Global;
 use std::collections::BTreeSet;
-use trial_rows::Row;
+use trial_rows::{Row, SearchKey, rows_at};
 
 // Copies rows.
 fn copies<T: Row>(alloc: Global, rows: &[T]) -> Result<Items<T>, MemoryFault>

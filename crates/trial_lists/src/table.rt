@@ -6,10 +6,9 @@ ghost use Rattle.hub_parties.specs.KeyOrder.{put, replace, Rises};
 ghost use Rattle.hub_tables.specs.Rows.{same, receipt_cmp};
 
 use crate::key::OwnKey;
-use crate::search::{count_below, rows_at};
 use gs1_ids::Sscc;
 use hub_tables::ReceiptRow;
-use trial_rows::{Row, Settable};
+use trial_rows::{Row, Settable, count_below, rows_at};
 
 /// Whether some row has the key of this one.
 #[tactic(auto, using(crate::proofs::Filters::any_filtered))]

@@ -1,8 +1,8 @@
 use Rattle.std.proofs.Common.{◌≡◌, true, ap, ◌∙◌}
 use Rattle.std.specs.List.{list_all}
 use Rattle.hub_sound.specs.Showing.{ShowsUnclean}
-use Rattle.hub_verify.specs.Pieces.{piece, values_in}
-use Rattle.hub_verify.proofs.Walking.{walked_rows}
+use Rattle.hub_pieces.specs.Pieces.{piece, values_in}
+use Rattle.hub_pieces.proofs.Walking.{walked_rows}
 use Rattle.hub_verify.proofs.clean.unclean_among.Goals as goal
 
 pub returns : goal.returns

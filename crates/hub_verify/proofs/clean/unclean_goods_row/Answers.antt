@@ -3,7 +3,7 @@ use Rattle.std.specs.List.{list_all}
 use Rattle.hub_store.specs.Clean.{clean_content, clean_pallet, clean_receipt}
 use Rattle.hub_tables.specs.Tables.{Tables}
 use Rattle.hub_verify.specs.Clean.{GoodsAreClean}
-use Rattle.hub_verify.proofs.Telling.{go_on, stop}
+use Rattle.hub_verify.proofs.Findings.{go_on, stop}
 use Rattle.hub_verify.proofs.clean.unclean_goods_row.Goals as goal
 
 pub returns-in-Some : goal.returns-in-Some

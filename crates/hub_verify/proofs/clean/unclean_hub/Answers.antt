@@ -1,7 +1,7 @@
 use Rattle.hub_sound.specs.Finding.{hub_key}
 use Rattle.hub_sound.specs.declared.finding.RowKind.TheVariants as kinds
 use Rattle.hub_store.specs.Clean.{clean_hub}
-use Rattle.hub_verify.proofs.Telling.{told_read}
+use Rattle.hub_verify.proofs.Findings.{told_read}
 use Rattle.hub_verify.proofs.clean.unclean_hub.Goals as goal
 
 pub returns : goal.returns

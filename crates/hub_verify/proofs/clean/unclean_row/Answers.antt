@@ -3,7 +3,7 @@ use Rattle.hub_store.specs.Clean.{are_clean}
 use Rattle.hub_tables.specs.Tables.{Tables}
 use Rattle.hub_verify.specs.Clean.{PartiesAreClean, OrdersAreClean, GoodsAreClean, MailIsClean}
 use Rattle.hub_verify.proofs.Cleaning.{all_clean}
-use Rattle.hub_verify.proofs.Telling.{go_on, stop}
+use Rattle.hub_verify.proofs.Findings.{go_on, stop}
 use Rattle.hub_verify.proofs.clean.unclean_row.Goals as goal
 
 pub returns-in-Some : goal.returns-in-Some

@@ -1,7 +1,7 @@
 use Rattle.hub_sound.specs.Finding.{supplier_key}
 use Rattle.hub_sound.specs.declared.finding.RowKind.TheVariants as kinds
 use Rattle.hub_store.specs.Clean.{clean_key}
-use Rattle.hub_verify.proofs.Telling.{told_read}
+use Rattle.hub_verify.proofs.Findings.{told_read}
 use Rattle.hub_verify.proofs.clean.unclean_supplier.Goals as goal
 
 pub returns : goal.returns

@@ -1,8 +1,8 @@
 use Rattle.std.proofs.Common.{ap, ◌∙◌}
 use Rattle.hub_verify.specs.Clean.{unclean_of}
-use Rattle.hub_verify.specs.Pieces.{piece}
-use Rattle.hub_verify.proofs.Telling.{told_read}
-use Rattle.hub_verify.proofs.Walking.{piece_fails}
+use Rattle.hub_pieces.specs.Pieces.{piece}
+use Rattle.hub_verify.proofs.Findings.{told_read}
+use Rattle.hub_pieces.proofs.Walking.{piece_fails}
 use Rattle.hub_verify.proofs.clean.unclean_with.Goals as goal
 
 pub returns : goal.returns

@@ -1,6 +1,6 @@
 use Rattle.std.proofs.Common.{◌+◌, Ok, ap, subst, ◌∙◌}
-use Rattle.hub_verify.specs.AllRows.{Tells}
-use Rattle.hub_verify.specs.Pieces.{IsNext, values_in}
+use Rattle.hub_pieces.specs.AllRows.{Tells}
+use Rattle.hub_pieces.specs.Pieces.{IsNext, values_in}
 use Rattle.hub_verify.proofs.Tallying.{tally_begins, tally_goes_on, tally_ends}
 use Rattle.hub_verify.proofs.counts.count_all.Goals as goal
 

@@ -1,5 +1,5 @@
 use Rattle.std.proofs.Common.{Ok}
-use Rattle.hub_verify.specs.AllRows.{Tells}
+use Rattle.hub_pieces.specs.AllRows.{Tells}
 use Rattle.hub_verify.proofs.Tallying.{Tallied}
 use Rattle.hub_verify.proofs.counts.count_all.Given as goal
 

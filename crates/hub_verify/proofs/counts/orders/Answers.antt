@@ -1,6 +1,6 @@
 use Rattle.std.proofs.Common.{◌≡◌, ℕ, false, length, count_by}
 use Rattle.hub_tables.specs.Tables.{Tables}
-use Rattle.hub_verify.proofs.Telling.{follows}
+use Rattle.hub_pieces.proofs.Telling.{follows}
 use Rattle.hub_verify.proofs.counts.orders.Goals as goal
 
 pub returns : goal.returns

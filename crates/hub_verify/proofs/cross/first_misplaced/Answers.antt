@@ -1,5 +1,5 @@
 use Rattle.std.proofs.Common.{arith, refl}
-use Rattle.hub_verify.proofs.Telling.{begins, passes, fails, ends}
+use Rattle.hub_verify.proofs.Findings.{begins, passes, fails, ends}
 use Rattle.hub_verify.proofs.cross.first_misplaced.Goals as goal
 
 pub loop-row-init : goal.loop-row-init

@@ -1,6 +1,6 @@
 use Rattle.std.proofs.Common.{Ok}
-use Rattle.hub_verify.specs.AllRows.{Tells}
-use Rattle.hub_verify.proofs.Telling.{SoFar}
+use Rattle.hub_pieces.specs.AllRows.{Tells}
+use Rattle.hub_verify.proofs.Findings.{SoFar}
 use Rattle.hub_verify.proofs.cross.first_misplaced.Given as goal
 
 -- the rows so far are in their place

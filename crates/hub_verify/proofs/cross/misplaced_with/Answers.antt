@@ -1,6 +1,6 @@
-use Rattle.hub_verify.specs.Pieces.{piece}
+use Rattle.hub_pieces.specs.Pieces.{piece}
 use Rattle.hub_verify.proofs.Crossing.{told_none, told_some}
-use Rattle.hub_verify.proofs.Walking.{piece_fails}
+use Rattle.hub_pieces.proofs.Walking.{piece_fails}
 use Rattle.hub_verify.proofs.cross.misplaced_with.Goals as goal
 
 pub returns-in_default : goal.returns-in_default

@@ -4,9 +4,9 @@ use Rattle.hub_founding.specs.Fits.{fits_pallet}
 use Rattle.hub_tables.specs.Tables.{Tables}
 use Rattle.hub_tables.specs.declared.rows.PalletRow.{PalletRow}
 use Rattle.hub_verify.specs.Cross.{ShowsUnrooted}
-use Rattle.hub_verify.specs.Pieces.{piece}
-use Rattle.hub_verify.specs.declared.piece_kind.PieceKind.TheVariants.{Pallet}
-use Rattle.hub_verify.proofs.Walking.{walked_rows}
+use Rattle.hub_pieces.specs.Pieces.{piece}
+use Rattle.hub_pieces.specs.declared.piece_kind.PieceKind.TheVariants.{Pallet}
+use Rattle.hub_pieces.proofs.Walking.{walked_rows}
 use Rattle.hub_verify.proofs.cross.unrooted_pallet.Goals as goal
 
 pub returns : goal.returns

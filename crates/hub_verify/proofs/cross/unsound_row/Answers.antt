@@ -3,7 +3,7 @@ use Rattle.std.specs.List.{list_all}
 use Rattle.hub_sound.specs.Showing.{has_order, is_on_pallet, is_of_received, goes_on}
 use Rattle.hub_tables.specs.Tables.{Tables}
 use Rattle.hub_verify.specs.Cross.{PartiesFit, RowsFit}
-use Rattle.hub_verify.proofs.Telling.{go_on_unsound, stop_unsound}
+use Rattle.hub_verify.proofs.Findings.{go_on_unsound, stop_unsound}
 use Rattle.hub_verify.proofs.cross.unsound_row.Goals as goal
 
 pub returns-in-Some : goal.returns-in-Some

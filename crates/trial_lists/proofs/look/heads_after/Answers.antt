@@ -15,7 +15,8 @@ use Rattle.hub_store.specs.Heads.{head_of}
 use Rattle.hub_store.specs.declared.mail.MailHead.{MailHead}
 use Rattle.trial_rows.specs.Alike.{both, same_bytes, same_numbers}
 use Rattle.trial_lists.specs.declared.index.EntryKey.{EntryKey}
-use Rattle.trial_lists.proofs.Filters.{all_taken, filter_both, filter_of_map, take_of_map, take_within}
+use Rattle.trial_rows.proofs.Searching.{all_taken}
+use Rattle.trial_lists.proofs.Filters.{filter_both, filter_of_map, take_of_map, take_within}
 use Rattle.trial_lists.proofs.Indexing.{Again, all_again, found_again}
 use Rattle.trial_lists.proofs.look.heads_after.Goals as goal
 

@@ -1,0 +1,3 @@
+pub mod AllRows
+pub mod Pieces
+pub mod Walk
