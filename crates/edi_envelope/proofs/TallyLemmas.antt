@@ -104,7 +104,7 @@ module _ (messages : List (List Segment)) (h : Headers) (unh : Segment) (heads :
   heads_seen identified count twice seen is n yes_so once found put =
       let both = known (sym is ∙ yes_so) in
       let among : is_among (filled_reference text) h.seen ≡ is_among text (map reference_of messages) =
-          heads.seen both.0 once text both.1 in
+      heads.seen both.0 once text both.1 in
       record {
         identified = is ∙ ap (λ b. b && has_identity unh) heads.identified ∙ sym identified_more;
         count = n ∙ ap (λ m. m + 1) heads.count ∙ sym count_more;

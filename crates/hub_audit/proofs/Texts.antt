@@ -92,7 +92,7 @@ lines_text =
 
 pub lines_select : Selects lines_text (all_of 3 by_first nine_columns by_three)
     (codes "supplier" ∷ codes "number" ∷ codes "line" ∷ codes "gtin" ∷ codes "ordered" ∷ codes "open_qty" ∷
-        codes "refused" ∷ codes "cancelled" ∷ codes "answer" ∷ [])
+    codes "refused" ∷ codes "cancelled" ∷ codes "answer" ∷ [])
 unfolding understood everything
 lines_select = record { first = refl; plain = (refl, refl); unlisted = refl; is = refl }
 
@@ -145,7 +145,7 @@ mail_text =
 
 pub mail_select : Selects mail_text (all_of 16 by_first eight_columns by_two)
     (codes "supplier" ∷ codes "number" ∷ codes "moment" ∷ codes "decimal" ∷ codes "kind" ∷ codes "document" ∷
-        codes "body" ∷ codes "taken" ∷ [])
+    codes "body" ∷ codes "taken" ∷ [])
 unfolding understood everything
 mail_select = record { first = refl; plain = (refl, refl); unlisted = refl; is = refl }
 

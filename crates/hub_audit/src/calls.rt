@@ -8,13 +8,13 @@ use crate::register::register;
 use crate::rows::HubRows;
 use edi_base::Items;
 use gs1_ids::{Gln, Sscc};
+use hub_pieces::{AllRows, PieceKind, Read};
 use hub_register::Register;
 use hub_store::StoreFault;
 use hub_tables::{
     AdviceRow, ContentRow, HubRow, KeyRow, LineRow, MailRow, OrderRow, PalletRow, PrefixRow,
     ReceiptRow, RememberedRow,
 };
-use hub_pieces::{AllRows, PieceKind, Read};
 use sqlite::Alter;
 
 // What a look-up fails with: a row that cannot be taken is not what the disk held when the file was opened or checked.

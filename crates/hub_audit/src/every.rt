@@ -9,9 +9,9 @@ ghost use Rattle.sqlite.specs.Values.{bound};
 
 use crate::key::{Part, key_of};
 use edi_base::Items;
+use hub_pieces::Read;
 use hub_rows::{ShownRow, query};
 use hub_store::StoreFault;
-use hub_pieces::Read;
 use sqlite::types::ValueRef;
 use sqlite::{Alter, Connection, Row};
 use std::alloc::Global;

@@ -13,12 +13,12 @@ ghost use Rattle.sqlite.specs.Held.{state};
 
 use crate::every::every;
 use crate::key::Part;
+use hub_pieces::Read;
 use hub_store::StoreFault;
 use hub_tables::{
     AdviceRow, ContentRow, HubRow, KeyRow, LineRow, MailRow, OrderRow, PalletRow, PrefixRow,
     ReceiptRow, RememberedRow,
 };
-use hub_pieces::Read;
 use sqlite::types::ValueRef;
 use sqlite::{Alter, Connection};
 use std::alloc::Global;

@@ -6,9 +6,9 @@ ghost use Rattle.hub_pieces.specs.Pieces.{IsNext, values_in};
 ghost use Rattle.sqlite.specs.Held.{state};
 
 use edi_base::Items;
+use hub_pieces::PieceKind;
 use hub_rows::first_of;
 use hub_store::StoreFault;
-use hub_pieces::PieceKind;
 use sqlite::types::ValueRef;
 use sqlite::{Alter, Connection};
 

@@ -8,10 +8,10 @@ ghost use Rattle.sqlite.specs.Held.{state};
 
 use crate::kinds::{every_hub, every_prefix, every_supplier};
 use hub_founding::register_of;
+use hub_pieces::Read;
 use hub_register::Register;
 use hub_store::StoreFault;
 use hub_tables::{HubRow, KeyRow};
-use hub_pieces::Read;
 use sqlite::{Alter, Connection};
 use std::alloc::Global;
 

@@ -3,11 +3,11 @@ ghost use Rattle.hub_tables.specs.Sets.{Rising};
 ghost use Rattle.hub_pieces.specs.AllRows.{Tells};
 ghost use Rattle.hub_verify.specs.Verdict.{IsVerdict};
 
-use hub_pieces::AllRows;
 use crate::clean::unclean_row;
 use crate::cross::unsound_row;
 use crate::goods::unsound_goods;
 use crate::verdict::RowsVerdict;
+use hub_pieces::AllRows;
 use hub_store::StoreFault;
 use std::alloc::Global;
 

@@ -23,7 +23,7 @@ invariant_of-self c =
     let left : IsLeft s.components_kept
     (length (take s.components s.component_ends.items) + 1) s.component_from s.filled c.count_left-self-inside.result =
     subst (λ (n : ℕ). IsLeft s.components_kept n s.component_from s.filled c.count_left-self-inside.result) all
-        c.count_left-self-inside.ensures in
+    c.count_left-self-inside.ensures in
     record {
       flat =
           subst (λ l. IsFlat (take s.filled s.bytes.items) l (take s.elements s.element_ends.items) s.filled s.element_from

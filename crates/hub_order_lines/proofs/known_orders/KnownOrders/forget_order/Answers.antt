@@ -9,4 +9,4 @@ pub returns : goal.returns
 returns c =
     subst (λ (orders : Orders). ForgetsOrder c.args.order.now orders (map shown c.remove-known.new.self.entries)) c.self.view_is
     (taken_out c.args.order.now c.self.inside.orders.entries c.remove-known.new.self.entries
-        c.remove-known.ensures.entries c.remove-known.ensures.updates.1)
+    c.remove-known.ensures.entries c.remove-known.ensures.updates.1)

@@ -20,7 +20,7 @@ pub returns-in-Err-store_of_rows-clause-refuses : goal.returns-in-Err-store_of_r
 returns-in-Err-store_of_rows-clause-refuses g c =
     refused_anew (anew g (goal.at.returns-in-Err-store_of_rows-clause-refuses g c).After-store_of_rows) c.in-Ok.ensures.later
     c.in-Err-store_of_rows.ensures.not_version c.in-Err-store_of_rows.ensures.known
-        c.in-Err-store_of_rows.ensures.unclean c.in-Err-store_of_rows.ensures.spared
+    c.in-Err-store_of_rows.ensures.unclean c.in-Err-store_of_rows.ensures.spared
 
 pub store_of_rows-requires-clause-ordered : goal.store_of_rows-requires-clause-ordered
 store_of_rows-requires-clause-ordered g c clean =
@@ -31,5 +31,5 @@ pub returns-in-Ok-store_of_rows-clause-adopts : goal.returns-in-Ok-store_of_rows
 returns-in-Ok-store_of_rows-clause-adopts g c =
     adopted (anew g (goal.at.returns-in-Ok-store_of_rows-clause-adopts g c).After-store_of_rows) c.in-Ok.ensures.later
     c.in-Ok-store_of_rows.ensures.holds.whole c.in-Ok-store_of_rows.ensures.holds.rows_are
-        c.in-Ok-store_of_rows.ensures.register c.in-Ok-store_of_rows.ensures.holds.crash
+    c.in-Ok-store_of_rows.ensures.register c.in-Ok-store_of_rows.ensures.holds.crash
     c.in-Ok-store_of_rows.ensures.holds.clean
