@@ -30,7 +30,7 @@ abbrev pub code_text : OpenFault → List ℕ
 code_text (Token fault) = token_code fault
 code_text (Envelope fault) = envelope_code fault
 
--- what was answered is this, unless a read failed or memory ran out
+-- what was answered is this, unless a read failed or memory ran out, which is no fault of a token
 abbrev pub Opens : Result Interchange OpenFault → Result Interchange OpenFault → Type 0
 Opens (Ok interchange) given = given ≡ Ok interchange
 Opens (Err (Token token.Read)) given = Unit {0}

@@ -61,7 +61,7 @@ fn is_valid_header(unb: &SegmentRef<'_>) -> bool
 /// What UNB says of the interchange's fault.
 #[derive(Clone, Copy)]
 pub(crate) struct HeaderMarks {
-    /// The value as it is.
+    /// The segment has the form of a UNB.
     pub taken: bool,
     /// The test indicator is `1`.
     pub test: bool,

@@ -70,7 +70,8 @@ pub fn begins_as(code: &[u8], message: &[Segment]) -> bool
     }
 }
 
-/// Whether the header has exactly one document date (DTM with 2005 137), and that day exists.
+/// Whether the header has exactly one document date (DTM with 2005 137), of format 102 or 203, and that day and
+/// time exist.
 pub fn has_date(message: &[Segment]) -> bool
     ensures { result ≡ spec.has_date message.now }
 {

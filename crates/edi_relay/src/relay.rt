@@ -80,7 +80,7 @@ impl RelayWords {
 /// Why an interchange is not relayed.
 #[derive(Clone, Copy, Debug, PartialEq, Eq)]
 pub enum RelayFault {
-    /// The text spells no segments.
+    /// The text spells no segments, or a read failed.
     Token(TokenFault),
     /// The segments are no interchange.
     Envelope(EnvelopeFault),
@@ -91,7 +91,7 @@ pub enum RelayFault {
 impl RelayFault {
     ghost use Rattle.edi_relay.specs.Relay.{code_of};
 
-    /// Returns the code that is printed, as `E12`; `memory` for out of memory.
+    /// Returns the code that is printed, as `E12`; `read` for a failed read, `memory` for out of memory.
     pub fn code(self) -> &'static str
         ensures { result.now ≡ code_of self }
     {

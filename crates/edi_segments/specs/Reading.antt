@@ -1,5 +1,5 @@
 -- What any bytes are read as: the segments, or the fault that the earliest byte shows.
-use Rattle.std.specs.Prelude.{◌≡◌, ℕ, ◌+◌, Bool, true, false, ◌==◌, nat_lt, ◌&&◌, ◌||◌, List, [], ◌∷◌, ◌++◌, length}
+use Rattle.std.specs.Prelude.{◌≡◌, ℕ, ◌+◌, Bool, true, false, not, ◌==◌, nat_lt, ◌&&◌, ◌||◌, List, [], ◌∷◌, ◌++◌, length}
 use Rattle.std.specs.Prelude.{take, Option, Some, None, Result, Ok, Err, if◌then◌else◌}
 use Rattle.edi_segments.specs.declared.segment.Service.{Service}
 use Rattle.edi_segments.specs.declared.segment.Segment.{Segment}
@@ -28,6 +28,14 @@ pub data BytePlace : Type 0 where
   InTag : (fresh : Bool) → (tag : List ℕ) → BytePlace
   InData : (open_segment : Open) → BytePlace
   Released : (open_segment : Open) → BytePlace
+
+-- whether no service string can come here any more
+abbrev pub is_settled : BytePlace → Bool
+is_settled (Outside fresh) = not fresh
+is_settled (InService six) = false
+is_settled (InTag fresh tag) = not fresh
+is_settled (InData o) = true
+is_settled (Released o) = true
 
 -- what has come of a text
 pub record Reading : Type 0 where

@@ -2,7 +2,7 @@
 //! one that ended last, and no other.
 
 ghost use Rattle.std.specs.Prelude.{◌≡◌, ◌≤◌, List, [], length, take, IfOk, IfErr, OnErr, false, true, ◌<◌, Ok, Err};
-ghost use Rattle.edi_segments.specs.Reading.{step, run, start, finish, is_una};
+ghost use Rattle.edi_segments.specs.Reading.{step, run, start, finish, is_settled, is_una};
 ghost use Rattle.edi_segments.specs.Machine.{Gives, StopsAt};
 
 use crate::characters::{is_capital, is_data, is_in_tag, is_line_end};
@@ -37,7 +37,7 @@ pub struct Machine {
     pub service: ServiceTable,
     place: BytePlace,
     /// Whether a service string may still come.
-    pub fresh: bool,
+    fresh: bool,
     /// How many characters of a service string, or bytes of a tag, have come.
     taken: usize,
     /// The first five characters of a service string.
@@ -54,7 +54,7 @@ fn is_una(tag: &[u8]) -> bool
 
 impl Machine {
     ghost use Rattle.edi_segments.specs.declared.segment.Segment.{Segment};
-    ghost use Rattle.edi_segments.specs.Machine.{reading_of, after, lent_of, tokens_at};
+    ghost use Rattle.edi_segments.specs.Machine.{reading_of, after, lent_of, place_of, tokens_at};
     ghost use Rattle.edi_segments.specs.SegmentRef.{segment_in};
 
     /// Nothing has come.
@@ -278,6 +278,17 @@ impl Machine {
             at += self.push_run(&bytes[at..]);
         }
         Ok((at, false))
+    }
+
+    /// Whether no service string can come any more, so that the service characters are those of the whole text.
+    pub fn is_settled(&self) -> bool
+        ensures { result ≡ is_settled (place_of self.now.place self.now) }
+    {
+        match self.place {
+            BytePlace::Outside | BytePlace::InTag => !self.fresh,
+            BytePlace::InService => false,
+            BytePlace::InData | BytePlace::Released => true,
+        }
     }
 
     /// Returns the segment that ended last.

@@ -14,19 +14,11 @@ use Rattle.edi_segments.specs.Service.{service_of}
 use Rattle.edi_segments.specs.Spelling.{segment_limit, text_limit}
 use Rattle.edi_segments.specs.Reading.{Reading, BytePlace, Outside, InService, InTag, InData}
 use Rattle.edi_segments.specs.Reading.{Released, Open, adopt, start, step, step_at, step_data}
-use Rattle.edi_segments.specs.Reading.{run, finish, finish_at, tokens_of, ◌>>=◌}
+use Rattle.edi_segments.specs.Reading.{run, finish, finish_at, is_settled, tokens_of, ◌>>=◌}
 use Rattle.edi_segments.specs.Machine.{reading_of}
-use Rattle.edi_tokens.specs.Lender.{Fed}
+use Rattle.edi_tokens.specs.Lender.{Fed, known_service}
 use Rattle.edi_segments.proofs.Runs.{run-append}
 use Rattle.edi_tokens.proofs.Lending.{fits, front_within}
-
--- no service string may stand there any more
-abbrev pub is_settled : BytePlace → Bool
-is_settled (Outside fresh) = not fresh
-is_settled (InService six) = false
-is_settled (InTag fresh tag) = not fresh
-is_settled (InData o) = true
-is_settled (Released o) = true
 
 -- the place is settled, with these characters
 abbrev KeepsService : Service → Result Reading TokenFault → Type 0
@@ -130,6 +122,9 @@ is_second (inr b) never = b
 module _ (known : Option (List ℕ)) (all : List ℕ) (lent : List Segment) (l : Lender) (fed : Fed known all lent l) (some : lent ≢ []) where
   settled : is_settled (reading_of lent l.machine).place ≡ true
   settled = is_second (subst IsLent fed.read_as (run_lent start fed.taken (inl refl))) some
+
+  pub settled_known : known_service l ≡ Some l.machine.service
+  settled_known = ap (λ b. if b then Some l.machine.service else None) settled
 
   abbrev more : List ℕ
   more = take (text_limit - length fed.taken) (l.piece ++ fed.left)

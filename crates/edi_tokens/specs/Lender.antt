@@ -10,8 +10,8 @@ use Rattle.edi_segments.specs.declared.segment.Segment.{Segment}
 use Rattle.edi_segments.specs.declared.fault.TokenFault.{TokenFault}
 use Rattle.edi_segments.specs.declared.fault.TokenFault.TheVariants.{TooLong, ServiceString, Byte, Cut, Tag, LongSegment, Read, Memory}
 use Rattle.edi_segments.specs.Spelling.{text_limit}
-use Rattle.edi_segments.specs.Reading.{start, run, finish, tokens_of}
-use Rattle.edi_segments.specs.Machine.{lent_of, reading_of, tokens_at}
+use Rattle.edi_segments.specs.Reading.{start, run, finish, is_settled, tokens_of}
+use Rattle.edi_segments.specs.Machine.{lent_of, place_of, reading_of, tokens_at}
 
 -- of the bytes of a reader this many are left of a text, or fewer at their end
 pub record HasLeft (known : Option (List ℕ)) (left : List ℕ) (room : ℕ) : Type 0 where
@@ -75,9 +75,9 @@ pub record HasReadNothing (l : Lender) (room : ℕ) : Type 0 where
 abbrev pub lent_by : Lender → Segment
 lent_by l = lent_of l.machine
 
--- the service characters, once a service string or a segment has come
+-- the service characters, once no service string can come any more
 abbrev pub known_service : Lender → Option Service
-known_service l = if l.machine.fresh then None else Some l.machine.service
+known_service l = if is_settled (place_of l.machine.place l.machine) then Some l.machine.service else None
 
 -- the decimal mark of the service characters, as far as they are known
 abbrev pub decimal_of : Lender → ℕ

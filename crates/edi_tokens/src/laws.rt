@@ -1,6 +1,6 @@
 //! States the laws of the token grammar, each as the contract of a function without a body.
 
-ghost use Rattle.std.specs.Prelude.{◌≡◌, ◌⊎◌, ◌↔◌, ◌≤◌, ◌≢◌, ℕ, List, [], ◌++◌, length, Option, Ok};
+ghost use Rattle.std.specs.Prelude.{◌≡◌, ◌⊎◌, ◌↔◌, ◌≤◌, ◌≢◌, ℕ, List, [], ◌++◌, length, Option, Some, Ok};
 ghost use Rattle.std.specs.List.{AllByRecursion};
 ghost use Rattle.edi_segments.specs.declared.segment.Service.{Service};
 ghost use Rattle.edi_segments.specs.declared.segment.Segment.{Segment};
@@ -11,7 +11,7 @@ ghost use Rattle.edi_tokens.specs.Fault.{Shows, ByteShows, EndShows};
 ghost use Rattle.edi_segments.specs.Reading.{tokens_of};
 ghost use Rattle.edi_segments.specs.Service.{with_decimal};
 ghost use Rattle.edi_tokens.specs.declared.lender.Lender.{Lender};
-ghost use Rattle.edi_tokens.specs.Lender.{Fed};
+ghost use Rattle.edi_tokens.specs.Lender.{Fed, known_service};
 ghost use Rattle.edi_tokens.specs.Text.{text, una, segment_text};
 
 /// A text spells at most one list of segments, with one set of service characters.
@@ -63,8 +63,11 @@ pub fn lent_segments_are_spelled()
         (front rest : List ℕ) × (all ≡ front ++ rest) × SpellsWhole front l.machine.service lent }
 {}
 
-/// If a segment of a text was lent, the service characters are those of the whole text.
+/// If a segment of a text was lent, the service characters are known, and they are those of the whole text.
 pub fn service_is_settled()
-    ensures { (known : Option (List ℕ)) (all : List ℕ) (lent : List Segment) (l : Lender) (tokens : Tokens) →
+    ensures known { (known : Option (List ℕ)) (all : List ℕ) (lent : List Segment) (l : Lender) →
+        Fed known all lent l → lent ≢ [] →
+        known_service l ≡ Some l.machine.service }
+    ensures told { (known : Option (List ℕ)) (all : List ℕ) (lent : List Segment) (l : Lender) (tokens : Tokens) →
         Fed known all lent l → lent ≢ [] → tokens_of all ≡ Ok tokens → tokens.service ≡ l.machine.service }
 {}

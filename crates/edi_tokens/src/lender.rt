@@ -243,7 +243,7 @@ impl Lender {
     pub fn service(&self) -> Option<Service>
         ensures { result ≡ known_service self.now }
     {
-        if self.machine.fresh {
+        if !self.machine.is_settled() {
             return None;
         }
         Some(self.machine.service.get())

@@ -192,7 +192,7 @@ pub(crate) fn receipts_on<S: Alter>(
     )
 }
 
-/// The messages that a supplier sent and that were accepted.
+/// What is remembered of a supplier's business: accepted messages from it and for it, and cancellations.
 pub(crate) fn remembered_of<S: Alter>(
     conn: &mut Connection<S>,
     alloc: Global,

@@ -114,20 +114,26 @@ pub record ComesAgainIn (run : HubRun) : Type 0 where
   pub are : run.ran.marked ≡ inputs_to again.first ++ (again.input, mark) ∷ later
   pub reached : Reaches mark again.input again.comes.upload again.place
 
--- In a run from a sound start, a cancellation is accepted and comes again, and neither request is stopped.
-pub record CancelledAgain (run : HubRun) (c : Cancel) : Type 0 where
+-- A cancellation is accepted on the way from the tables `t` to `u`: after some inputs that lead to sound tables, a
+-- request for it is accepted and not stopped, and others follow.
+pub record CancelledEarlier (t u : Tables) (c : Cancel) : Type 0 where
   pub before : Inputs
-  pub first : Input
+  pub input : Input
   pub between : Inputs
+  pub sound : SoundHub (shared_run t before).1
+  pub asks : AsksCancel (shared_run t before).1 c input
+  pub accepted : (cancel_named (register_of (shared_run t before).1) c (shared_run t before).1).0 ≡ Accepted
+  pub leads : (shared_run t (before ++ (input, Whole) ∷ between)).1 ≡ u
+
+-- the inputs that lead from `t` to `u`
+abbrev pub inputs_around : {t u : Tables} {c : Cancel} → CancelledEarlier t u c → Inputs
+inputs_around first = first.before ++ (first.input, Whole) ∷ first.between
+
+-- In a run, a cancellation that was accepted comes again, and this request is not stopped.
+pub record CancelledAgain (run : HubRun) (c : Cancel) : Type 0 where
+  pub here : Tables
+  pub first : CancelledEarlier run.start here c
   pub second : Input
   pub later : Inputs
-  pub are : run.ran.marked ≡ (before ++ (first, Whole) ∷ between) ++ (second, Whole) ∷ later
-  pub sound : SoundHub run.start
-  pub asks : AsksCancel (shared_run run.start before).1 c first
-  pub asks_again : AsksCancel (shared_run run.start (before ++ (first, Whole) ∷ between)).1 c second
-  pub accepted :
-      (cancel_named (register_of (shared_run run.start before).1) c (shared_run run.start before).1).0 ≡ Accepted
-
--- the inputs before the cancellation comes again
-abbrev pub before_second : (run : HubRun) (c : Cancel) → CancelledAgain run c → Inputs
-before_second run c again = again.before ++ (again.first, Whole) ∷ again.between
+  pub are : run.ran.marked ≡ inputs_around first ++ (second, Whole) ∷ later
+  pub asks : AsksCancel here c second

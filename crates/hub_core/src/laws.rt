@@ -4,15 +4,16 @@ ghost use Rattle.edi_envelope.specs.declared.interchange.RawMessage.{RawMessage}
 ghost use Rattle.hub_rules.specs.declared.cancel.Cancel.{Cancel};
 ghost use Rattle.hub_tables.specs.Sets.{Has};
 ghost use Rattle.hub_tables.specs.Tables.{Tables, view};
-ghost use Rattle.hub_law.specs.Again.{AcceptedAt, Reaches, tables_before};
+ghost use Rattle.hub_law.specs.Again.{AcceptedAt, AsksCancel, Reaches, tables_before};
 ghost use Rattle.hub_law.specs.Machine.{replies_to, shared_step};
-ghost use Rattle.hub_law.specs.Mark.{Mark};
+ghost use Rattle.hub_law.specs.Mark.{Mark, Whole};
 ghost use Rattle.hub_law.specs.Replies.{act_reply};
 ghost use Rattle.hub_law.specs.Told.{Accepted, Repeated};
 ghost use Rattle.hub_requests.specs.declared.reply.Reply.{Reply};
 ghost use Rattle.hub_requests.specs.declared.request.Input.{Input};
 ghost use Rattle.hub_core.specs.Laws.{OfTheMachine, ReportsResult, HubRun, WholeInput, AgreeOn, AgreeAndAsk, reply_after};
-ghost use Rattle.hub_core.specs.Laws.{AcceptedEarlier, ComesAgain, ComesAgainIn, CancelledAgain, inputs_to, remembered_row, before_second};
+ghost use Rattle.hub_core.specs.Laws.{AcceptedEarlier, ComesAgain, ComesAgainIn, CancelledAgain, CancelledEarlier};
+ghost use Rattle.hub_core.specs.Laws.{inputs_around, inputs_to, remembered_row};
 
 use hub_law::{
     accepted_stays_remembered, each_line_balances, hub_stays_sound, repeated_in_runs, run_is_own,
@@ -47,9 +48,9 @@ pub fn steps_remember_accepted_messages()
     stops_cut_uploads();
 }
 
-/// A message that was accepted and comes again is reported as repeated, and its act changes nothing. Any steps and runs
-/// of a hub may lie between, and any crashes: each leaves the tables of the machine after some inputs, stopped in some
-/// way. The step to which it comes again must not be stopped before it.
+/// A message that was accepted and comes again is reported as repeated, and its act changes nothing; so is a
+/// cancellation. Any steps and runs of a hub may lie between, and any crashes: each leaves the tables of the machine
+/// after some inputs, stopped in some way. The step to which it comes again must not be stopped before it.
 pub fn steps_report_repeated_messages()
     ensures told { (t u : Tables) (again : ComesAgain t u) (mark : Mark) →
         Reaches mark again.input again.comes.upload again.place →
@@ -57,6 +58,9 @@ pub fn steps_report_repeated_messages()
     ensures stays { (t u : Tables) (again : ComesAgain t u) →
         tables_before u again.input again.comes.upload (again.place + 1) ≡
         tables_before u again.input again.comes.upload again.place }
+    ensures cancellation { (t u : Tables) (c : Cancel) (second : Input) →
+        CancelledEarlier t u c → AsksCancel u c second →
+        shared_step u second Whole ≡ (act_reply Repeated, u) }
 {
     repeated_in_runs();
     stops_cut_uploads();
@@ -70,9 +74,8 @@ pub fn hubs_report_repeated_messages()
         reply_after run (inputs_to x.again.first) ≡ Some reply →
         ReportsResult x.again.comes.upload.interchange x.again.place Repeated reply }
     ensures cancellation { (run : HubRun) (c : Cancel) (again : CancelledAgain run c) →
-        reply_after run (before_second run c again) ≡ Some (act_reply Repeated) }
+        reply_after run (inputs_around again.first) ≡ Some (act_reply Repeated) }
 {
-    hub_stays_sound();
     repeated_in_runs();
     stops_cut_uploads();
 }

@@ -85,8 +85,8 @@ fn either_refused(before: bool, told: Decision) -> bool
     before || told.is_refused()
 }
 
-/// Handles the messages one after another, until one is stopped. Each order that a supplier's messages name is looked
-/// up once. The reply begins with the line of the interchange, and room for the line `stopped`.
+/// Handles the messages one after another, until one is stopped. Each order of which a supplier's messages need all lines
+/// is looked up once, as long as it is kept. The reply begins with the line of the interchange, and room for the line `stopped`.
 pub(crate) fn take_messages<S: Store>(
     alloc: Global,
     upload: &OpenedUpload<'_>,

@@ -90,7 +90,7 @@ pub trait AllRows {
         ensures { Tells content honest (λ t. IsRead receipt_key clean_receipt (receipts_of t sscc.now))
             self.old self.new result };
 
-    /// The accepted messages with these bytes as their supplier.
+    /// The accepted messages and cancellations with these bytes as their supplier.
     fn remembered_of(&mut self, supplier: &[u8]) -> Result<Read<RememberedRow>, StoreFault>
         ensures { Tells content honest (λ t. IsRead remembered_key clean_remembered (view supplier.now t).remembered)
             self.old self.new result };

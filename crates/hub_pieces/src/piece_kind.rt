@@ -16,7 +16,7 @@ pub enum PieceKind {
     Content,
     /// What was received of pallets.
     Receipt,
-    /// Messages that were accepted.
+    /// Messages and cancellations that were accepted.
     Remembered,
     /// Entries of mailboxes.
     Mail,

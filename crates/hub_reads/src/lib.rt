@@ -1,5 +1,5 @@
-//! Looks up the rows of a hub with SQL: each look-up is one statement of fixed text, and reads one table by a key or as
-//! a whole.
+//! Looks up the rows of a hub with SQL, by statements of fixed text: most look-ups take one, which reads one table by a
+//! key or as a whole.
 #![tactic(auto)]
 
 mod advice;

@@ -1,5 +1,5 @@
 //! Reads the rows of an answer as rows of the hub. A query shows all columns of a row, in their order; for a list of a
-//! mailbox, only number, kind and document number.
+//! mailbox, only number, kind and document number; or one column, a number or bytes.
 ghost use Rattle.std.specs.Prelude.{◌≡◌, ◌⊎◌, Bool, false, IsTrue, IfOk, IfErr, IfSome, Err, map, slice_get};
 ghost use Rattle.std.specs.List.{list_all};
 ghost use Rattle.hub_store.specs.Clean.{clean_line, clean_pallet, clean_content, clean_receipt, clean_mail, clean_head};

@@ -83,7 +83,8 @@ fn serve_next<L: Connections, S: Store, M: Moments>(
 
 /// Serves `count` connections one after another. When each has ended, prints its number and the status of its answer,
 /// as `connection 1 200`; or `connection 1 fault` if it failed: a read or a write failed, or its client disconnected
-/// before it was taken. Each connection gets the next moment.
+/// before it was taken. Each connection that was taken gets the next
+/// moment.
 ///
 /// Returns the exit status: 0 if all were answered 200; 3 if one failed or was answered 503, if no more could be taken
 /// or a moment was not known, so that no more are served, or if a line could not be written; and 1 otherwise. If

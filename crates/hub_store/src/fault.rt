@@ -4,7 +4,8 @@ ghost use Rattle.hub_store.specs.declared.fault.StoreFault.TheVariants.{Memory};
 
 use edi_base::MemoryFault;
 
-/// Why a call of a store failed. After `Disk` and `Unclean` the store returns the same fault until it is opened again.
+/// Why a call of a store failed. After `Disk` and `Unclean` the store returns the same fault until it is opened again; of
+/// `Unclean` returned by `register` this is not promised.
 #[derive(Clone, Copy, Debug, PartialEq, Eq)]
 pub enum StoreFault {
     /// Memory ran out. The store stays as it is, and the same call may succeed later.

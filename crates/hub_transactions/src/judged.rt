@@ -253,7 +253,7 @@ pub(crate) fn decide_for_retailer<S: Store>(
 }
 
 /// Decides on a message of a supplier: an ORDRSP or a DESADV. Orders that are kept are not looked up again, and those
-/// that the message names are kept too; after a fault they may be forgotten.
+/// of which it looks up all lines are kept too; after a fault they may be forgotten.
 pub(crate) fn decide_for_supplier<S: Store>(
     alloc: Global,
     register: &Register,

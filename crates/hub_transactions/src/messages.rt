@@ -83,8 +83,8 @@ pub fn take_retailers_message<S: Store>(
     commit_and_report(alloc, store, message, &judged, reply)
 }
 
-/// Handles a message of a supplier, as `take_retailers_message` does one of the retailer. `orders` keeps the supplier's
-/// orders that earlier messages looked up, so each is looked up once; it follows what is committed. Begin with
+/// Handles a message of a supplier, as `take_retailers_message` does one of the retailer. `orders` keeps the
+/// supplier's orders of which earlier messages looked up all lines; it follows what is committed. Begin with
 /// `KnownOrders::new`; after a fault the orders may be forgotten.
 pub fn take_suppliers_message<S: Store>(
     alloc: Global,

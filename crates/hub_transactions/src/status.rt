@@ -103,7 +103,8 @@ fn with_pallets<S: Store>(
 }
 
 /// Writes the status report of a supplier: its lines, then its pallets, in two look-ups, one for each pallet and one
-/// more for each received one. `Unclean`: rows do not rise by order number and line number, or a content names no line.
+/// more for each received one. `Unclean`: rows do not rise by order number and line number, a content names no line, or a
+/// sum has more than 64 bits.
 pub fn status_report<S: Store>(
     alloc: Global,
     store: &mut S,

@@ -29,7 +29,7 @@ pub struct Counts {
     pub entries: usize,
     /// Entries that are not taken.
     pub untaken_entries: usize,
-    /// Messages that are remembered.
+    /// Messages and cancellations that are remembered.
     pub remembered: usize,
 }
 

@@ -1,11 +1,12 @@
-use Rattle.std.proofs.Common.{Option, Some, ◌∷◌, ◌++◌, sym, ap, subst, ◌∙◌}
+use Rattle.std.proofs.Common.{Option, Some, sym, ap, subst, ◌∙◌}
 use Rattle.std.specs.Option.{unwrap_or}
 use Rattle.hub_tables.specs.Tables.{Tables}
+use Rattle.hub_law.specs.Again.{AsksCancel}
 use Rattle.hub_law.specs.Machine.{shared_step}
 use Rattle.hub_law.specs.Mark.{Whole}
 use Rattle.hub_law.specs.Told.{Repeated}
 use Rattle.hub_requests.specs.declared.reply.Reply.{Reply}
-use Rattle.hub_core.specs.Laws.{ReportsResult, inputs_to}
+use Rattle.hub_core.specs.Laws.{ReportsResult, inputs_around, inputs_to}
 use Rattle.hub_core.proofs.Again.{repeated_on, reply_of_run, tells}
 use Rattle.hub_core.proofs.laws.hubs_report_repeated_messages.Goals as goal
 
@@ -27,8 +28,8 @@ returns-clause-message c run x reply there =
 
 pub returns-clause-cancellation : goal.returns-clause-cancellation
 returns-clause-cancellation c run cancel again =
-    let before = again.before ++ (again.first, Whole) ∷ again.between in
-    reply_of_run run.start run.after run.ran.marked before again.later again.second Whole run.replies run.ran.is again.are
+    let first = again.first in
+    reply_of_run run.start run.after run.ran.marked (inputs_around first) again.later again.second Whole run.replies run.ran.is again.are
     ∙ ap (λ (r : Reply × Tables). Some r.0)
-    (c.repeated_in_runs.ensures.cancellation run.start again.before again.between again.first again.second cancel
-    (c.hub_stays_sound.ensures.run run.start again.before again.sound) again.asks again.asks_again again.accepted)
+    (c.repeated_in_runs.ensures.cancellation run.start first.before first.between first.input again.second cancel first.sound first.asks
+    (subst (λ (t : Tables). AsksCancel t cancel again.second) (sym first.leads) again.asks) first.accepted)

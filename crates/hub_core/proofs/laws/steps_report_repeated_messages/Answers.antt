@@ -1,6 +1,9 @@
 use Rattle.std.proofs.Common.{◌≡◌, ◌+◌, subst}
 use Rattle.hub_tables.specs.Tables.{Tables}
-use Rattle.hub_law.specs.Again.{MessageAt, SameReference, tables_before}
+use Rattle.hub_law.specs.Again.{AsksCancel, MessageAt, SameReference, tables_before}
+use Rattle.hub_law.specs.Machine.{shared_step}
+use Rattle.hub_law.specs.Mark.{Whole}
+use Rattle.hub_law.specs.Replies.{act_reply}
 use Rattle.hub_law.specs.Told.{Repeated}
 use Rattle.hub_core.proofs.Again.{repeated_on, tells}
 use Rattle.hub_core.proofs.laws.steps_report_repeated_messages.Goals as goal
@@ -24,3 +27,9 @@ returns-clause-stays c t u again =
     → tables_before u again.input comes.upload (again.place + 1) ≡ tables_before u again.input comes.upload again.place) first.leads
     (c.repeated_in_runs.ensures.stays t first.before first.between first.input again.input first.mark first.place again.place
     first.message first.accepted) again.comes again.same
+
+pub returns-clause-cancellation : goal.returns-clause-cancellation
+returns-clause-cancellation c t u cancel second first =
+    subst (λ (u : Tables). AsksCancel u cancel second → shared_step u second Whole ≡ (act_reply Repeated, u)) first.leads
+    (λ asks. c.repeated_in_runs.ensures.cancellation t first.before first.between first.input second cancel first.sound first.asks asks
+    first.accepted)
