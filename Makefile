@@ -3,7 +3,7 @@ EXAMPLE = 5412345000006 4012345500004 1748942400 1
 PROVED = crates/edihub/out/edihub
 SCRIPT = crates/trial_script/out/trial_script
 
-.PHONY: run runnable day serve page page-test page-pictures try case test wrong split-commit hostile fuzz year crowd front-test worst
+.PHONY: run runnable day serve free-port page page-test page-pictures try case test wrong split-commit hostile fuzz year crowd front-test worst
 .PHONY: hubs bench
 .PHONY: join-test edihub trial_script tests_of_calls install uninstall deb deb-test boot-test clean
 
@@ -51,7 +51,10 @@ serve: runnable
 # page. ^C ends it. `make page PAGE_PORT=8001` takes another port.
 PAGE_PORT = 8000
 
-page: runnable
+free-port:
+	@python3 examples/page/try.py --port $(PAGE_PORT)
+
+page: free-port runnable
 	@python3 examples/page/try.py $(RUNNABLE) $(PAGE_PORT) $(LABEL)
 
 # Tests the page in headless Chromium and Firefox and its readers in Node, some minutes, not part of the gate; and makes its pictures again.

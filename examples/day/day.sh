@@ -18,7 +18,7 @@ echo gamma-key-1 > gamma.key
 edihub() {
     command=$1
     shift
-    echo "\$ edihub $command $*"
+    echo "\$ edihub $command --db hub.db $*"
     "$program" "$command" --db hub.db "$@" || test $? -eq 1
     echo
 }

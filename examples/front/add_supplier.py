@@ -1,7 +1,7 @@
 #!/usr/bin/env python3
 """Registers a supplier while the hub serves: stops it, runs `edihub join` and starts it again. HAProxy keeps the requests meanwhile.
 
-    python3 add_supplier.py --as 5412345000013 --key-file /etc/edihub/retailer.key \\
+    python3 add_supplier.py --as 5412345000013 --key-file /etc/edihub/retail.key \\
         --supplier 7612345000008 --supplier-key-file /etc/edihub/gamma.key --prefixes 7612345,7612346
 
 Run it as root; with --stop and --start also as the owner of the database file. `join` runs as the owner of the file, which has to be able

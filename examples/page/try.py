@@ -1,5 +1,6 @@
 """`make page`: a hub of the example register with the orders of the example day, in a temporary folder, and a proxy in front of it that
-serves the page. Only for trying: it is deleted in the end. `python3 try.py PROGRAM PORT [NOTE]`; the note is printed last."""
+serves the page. Only for trying: it is deleted in the end. `python3 try.py PROGRAM PORT [NOTE]`; the note is printed last. `python3
+try.py --port PORT` says why this port cannot be taken, if it cannot."""
 import os
 import signal
 import socket
@@ -56,6 +57,17 @@ def serving(program, file):
     return child, port
 
 
+def port_fault(port):
+    """Why the page cannot be served on this port, or nothing."""
+    with socket.socket() as one:
+        one.setsockopt(socket.SOL_SOCKET, socket.SO_REUSEADDR, 1)
+        try:
+            one.bind(("127.0.0.1", port))
+        except OSError as error:
+            return f"port {port}: {error.strerror}. PAGE_PORT={port + 1} takes another"
+    return None
+
+
 def main(program, port, *notes):
     with tempfile.TemporaryDirectory() as folder:
         child, hub_port = serving(program, founded(program, folder))
@@ -72,6 +84,8 @@ def main(program, port, *notes):
 
 
 if __name__ == "__main__":
+    if sys.argv[1] == "--port":
+        sys.exit(port_fault(int(sys.argv[2])))
     # SIGTERM is handled like ^C, so that the hub ends too; in the background of a shell ^C would not arrive
     for told in (signal.SIGINT, signal.SIGTERM):
         signal.signal(told, signal.default_int_handler)

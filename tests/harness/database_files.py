@@ -78,6 +78,8 @@ def file_of(tables=TABLES, rows=ROWS, *changes):
     with tempfile.TemporaryDirectory() as folder:
         path = os.path.join(folder, NAME)
         made = sqlite3.connect(path, isolation_level=None)
+        # nothing here has to outlast a crash, and a sync for each row takes long
+        made.execute("PRAGMA synchronous = OFF")
         made.executescript(tables)
         for table, its_rows in rows.items():
             for row in its_rows:

@@ -335,7 +335,7 @@ LISTED = f"2026-11-27T09:01:45Z 5 GET /p/{ALPHA}/mail/after/400 200"
 JOURNAL = {"before": f"printf '%s\\n' '{REFUSED}' '{LISTED}' '{TIMED_OUT}' > journal", "instead": {"/var/lib/edihub/journal": "journal"}}
 # of each document with blocks, how each begins, and how it is tried; or what it is, where it has no command
 BLOCKS = {
-    "README.md": {"UNH+1": "an order", "UNB+UNOC:3": "its mail", "make try": looked_up},
+    "README.md": {"UNH+1": "an order", "UNA:+.? 'UNB": "its mail", "make try": looked_up},
     "docs/ARCHITECTURE.md": {"doors ": PICTURE},
     "docs/CONTRIBUTING.md": {"grep -rn 'MailboxFull'": looked_up},
     "docs/FORMATS.md": {"UNA:": "the form of mail", "service component": shown_lines},
