@@ -61,6 +61,8 @@ def parts():
 
 
 def put(program, into, prefix):
+    if "/out/try/" in os.path.realpath(program):
+        sys.exit(f"{program} is a build without any proof: make edihub first")
     # it makes the folders, and everybody may look into them
     os.umask(0o022)
     for part in parts():
