@@ -479,3 +479,24 @@ looked_up_now orders book changed keep view_is order number gtin base found set 
     ∙ now_found orders changed keep order number gtin
     ∙ ap (option_map (now_of changed)) found
     ∙ ap (λ o. Some (unwrap_or o base)) is
+
+-- a line that is looked up in the orders is in the book too
+pub found_there : (orders book : Orders) (changed : SetLines) → KeepKeys changed orders
+    → each_line (now_of changed) orders ≡ book
+    → (order : List ℕ) (number : Option ℕ) (gtin : List ℕ) (base : LineFacts)
+    → facts_among (lines_in orders order) number gtin ≡ Some base
+    → facts_among (lines_in book order) number gtin ≡ None
+    → ⊥
+found_there orders book changed keep view_is order number gtin base found none =
+    let there = looked_up_now orders book changed keep view_is order number gtin base found
+    (set_at changed base.row.number base.row.line) refl in
+    cc
+
+-- if the entries are the same, each line is as it was
+pub now_same : (changed new : SetLines) → new.entries ≡ changed.entries → (orders : Orders)
+    → each_line (now_of new) orders ≡ each_line (now_of changed) orders
+now_same changed new alike orders =
+    let key : LineFacts → Bor (List ℕ) × ℕ → Ordering =
+    λ line at. ordering_then (bytes_cmp line.row.number at.0.now) (nat_cmp line.row.line at.1) in
+    ap (λ (entries : List ((Bor (List ℕ) × ℕ) × LineFacts)).
+    each_line (λ line. unwrap_or (lookup (is_at (key line)) entries) line) orders) alike

@@ -1,5 +1,5 @@
 //! Keeps the orders that a message names while it is checked.
-ghost use Rattle.std.specs.Prelude.{◌≡◌, ◌+◌, ◌≤◌, IfOk, OnOk, Some, option_map};
+ghost use Rattle.std.specs.Prelude.{◌≡◌, ◌+◌, ◌≤◌, IfOk, IsOk, OnOk, OnErr, Some, None, option_map};
 ghost use Rattle.std.specs.Option.{IfSome};
 ghost use Rattle.hub_order_lines.specs.Book.{answered_row, facts_among, has_order, lines_in, with_row, IsCovered};
 ghost use Rattle.hub_order_lines.specs.declared.facts.LineFacts.{LineFacts};
@@ -83,7 +83,7 @@ impl<'a> Book<'a> {
     }
 
     /// Sets the open, refused and cancelled quantities and the answer of an order line to those of `row`. If there is
-    /// no such line, nothing is set.
+    /// no such line, nothing is set, and no memory is needed. If memory ran out, nothing is set either.
     pub fn set(
         &mut self,
         alloc: Global,
@@ -98,6 +98,9 @@ impl<'a> Book<'a> {
         ensures set { (line : LineFacts) → facts_among (lines_in self.old order.now) number gtin.now ≡ Some line →
             OnOk result (self.new ≡ with_row (answered_row line.row row.now.open_qty row.now.refused
             row.now.cancelled row.now.answer) self.old) }
+        ensures kept { facts_among (lines_in self.old order.now) number gtin.now ≡ None →
+            IsOk result × (self.new ≡ self.old) }
+        ensures err { OnErr result (self.new ≡ self.old) }
     {
         let Some(line) = self.orders.line(order, number, gtin) else {
             return Ok(());
