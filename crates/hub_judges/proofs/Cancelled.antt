@@ -30,9 +30,10 @@ found cancel (Some line) = refl
 
 pub cancel_alike : (known : Known) (content : List ℕ) (cancel : Cancel) (state : Tables)
     → TellsForCancel known content cancel state
+    → known.remembered ≡ None
     → judge_new_cancel cancel state ≡ cancelled_from cancel known
-cancel_alike known content cancel state told =
-    ap₂ (λ v line. refuse_if (not v) NoOrder (given line NoLine (of_line cancel))) told.order
-    (line_told state known.orders cancel.order (Some cancel.line) [] told.lines)
+cancel_alike known content cancel state told none =
+    ap₂ (λ v line. refuse_if (not v) NoOrder (given line NoLine (of_line cancel))) (told.order none)
+    (line_told state known.orders cancel.order (Some cancel.line) [] (told.lines none))
     ∙ ap (refuse_if (not (has_order known.orders cancel.order)) NoOrder)
     (found cancel (facts_among (lines_in known.orders cancel.order) (Some cancel.line) []))

@@ -33,11 +33,12 @@ TellsLines state orders order = lines_of state order ≡ rows (lines_in orders o
 abbrev pub TellsDespatched : Tables → Orders → List ℕ → Type 0
 TellsDespatched state orders order = AllByRecursion (λ line. despatched state line.row ≡ line.despatched) (lines_in orders order)
 
--- the facts for an ORDERS agree
+-- the facts for an ORDERS agree; if its references are already remembered, those of its number and of the mailbox need
+-- not
 pub record TellsForOrder (known : Known) (incoming : IncomingMessage) (order : Order) (state : Tables) : Type 0 where
   pub remembered : TellsRemembered known Retailer incoming.control incoming.message incoming.content state
-  pub number : knows_order state order.number ≡ known.number_known
-  pub mails : length state.mail ≡ known.mails
+  pub number : known.remembered ≡ None → knows_order state order.number ≡ known.number_known
+  pub mails : known.remembered ≡ None → length state.mail ≡ known.mails
 
 -- the facts of the answered order agree
 pub record TellsAnswered (known : Known) (number : List ℕ) (state : Tables) : Type 0 where
@@ -70,15 +71,16 @@ pub record TellsForDespatch (known : Known) (used : List ℕ → Bool) (incoming
   pub used_there : (sscc : List ℕ) → has_pallet state sscc ≡ true → used sscc ≡ true
   pub units : known.remembered ≡ None → known.number_known ≡ false → TellsUnits known used despatch.units state
 
--- the facts for a RECADV agree
+-- the facts for a RECADV agree; if its references are already remembered, those of the mailbox and of the pallets need
+-- not
 pub record TellsForReceipt (known : Known) (incoming : IncomingMessage) (receipt : Receipt)
     (state : Tables) : Type 0 where
   pub remembered : TellsRemembered known Retailer incoming.control incoming.message incoming.content state
-  pub mails : length state.mail ≡ known.mails
-  pub pallets : map (λ unit. pallet_of state unit.sscc) receipt.units ≡ known.pallets
+  pub mails : known.remembered ≡ None → length state.mail ≡ known.mails
+  pub pallets : known.remembered ≡ None → map (λ unit. pallet_of state unit.sscc) receipt.units ≡ known.pallets
 
--- the facts for a cancellation agree
+-- the facts for a cancellation agree; if its reference is already remembered, those of the order need not
 pub record TellsForCancel (known : Known) (content : List ℕ) (cancel : Cancel) (state : Tables) : Type 0 where
   pub remembered : TellsRemembered known Cancellation cancel.reference [] content state
-  pub order : TellsOrder known state cancel.order
-  pub lines : TellsLines state known.orders cancel.order
+  pub order : known.remembered ≡ None → TellsOrder known state cancel.order
+  pub lines : known.remembered ≡ None → TellsLines state known.orders cancel.order

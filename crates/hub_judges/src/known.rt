@@ -10,7 +10,8 @@ pub struct Known {
     /// Whether the content remembered under the references is that of the message or the cancellation; `None` if nothing
     /// is remembered.
     pub remembered: Option<bool>,
-    /// For each order that is named, whether the supplier has it, and all its lines.
+    /// For each order that is named, whether the supplier has it, and its lines. Of an order whose lines are named only
+    /// by their numbers, the lines named may be the only ones there.
     pub orders: KnownOrders,
     /// Whether the supplier already has an order (ORDERS) or an advice (DESADV) with this number.
     pub number_known: bool,

@@ -45,7 +45,8 @@ returns c =
     state)
     ∙ c.in_default.ensures.none row incoming.content fresh told.remembered
     ∙ new_receipt_alike memory s.gln incoming body receipt (apply memory state) known.mails known.pallets
-    (sym c.is_full.ensures.value ∙ c.if-is_full.false) told.mails told.pallets
+    (sym c.is_full.ensures.value ∙ c.if-is_full.false) (told.mails c.in_default.ensures.new)
+    (told.pallets c.in_default.ensures.new)
     )) c.judge_units.ensures
 
 pub remember_and_mail-requires : goal.remember_and_mail-requires
