@@ -12,4 +12,4 @@ returns-clause-told g c = λ honest kept.
     let known = c.in_ok-number_known.ensures.looks.answers second in
     let mails = c.in_ok-mails.ensures.looks.answers honest in
     let count = mails_known (view c.args.supplier.now (g.S.Store.content c.args.store.now)) kept in
-    record { remembered = cc; number = cc; mails = cc }
+    record { remembered = cc; number = λ none. cc; mails = λ none. cc }

@@ -16,8 +16,8 @@ returns-clause-told g c = λ honest kept.
     let count = mails_known (view supplier (g.S.Store.content c.args.store.now)) kept in
     record {
       remembered = cc;
-      mails = cc;
-      pallets =
+      mails = λ none. cc;
+      pallets = λ none.
           ap₂ (λ t units. map (λ unit. pallet_of (view supplier t) unit.sscc) units) (sym (two ∙ one))
           (sym c.as_slice-units.ensures)
           ∙ c.in_ok-pallets.ensures.found honest;
