@@ -9,4 +9,4 @@ mod walk;
 pub use all_rows::{AllRows, Read};
 pub use piece_kind::PieceKind;
 pub use pieces::{PieceRow, rows_of, rows_with};
-pub use walk::{PieceCheck, walk};
+pub use walk::{PieceCheck, walk_pieces};

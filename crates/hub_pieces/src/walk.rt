@@ -38,7 +38,7 @@ pub trait PieceCheck {
 /// # Errors
 ///
 /// Those of the rows and of the check, and `Memory` after 2^64 - 1 pieces.
-pub fn walk<S: AllRows, C: PieceCheck>(
+pub fn walk_pieces<S: AllRows, C: PieceCheck>(
     store: &mut S,
     alloc: Global,
     kind: PieceKind,

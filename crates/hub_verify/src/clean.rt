@@ -9,7 +9,7 @@ ghost use Rattle.hub_verify.specs.Clean.{unclean_of, PartiesAreClean, OrdersAreC
 ghost use Rattle.hub_pieces.specs.Pieces.{piece};
 ghost use Rattle.hub_verify.specs.Verdict.{ToldUnclean};
 
-use hub_pieces::{AllRows, PieceCheck, PieceRow, Read, walk};
+use hub_pieces::{AllRows, PieceCheck, PieceRow, Read, walk_pieces};
 use hub_sound::{Finding, RowKind};
 use hub_store::StoreFault;
 use hub_tables::{
@@ -73,7 +73,7 @@ fn unclean_among<S: AllRows, T: PieceRow>(
 {
     let check = Unclean::<T> { of: PhantomData };
     let kind = T::piece_kind();
-    let found = walk(store, alloc, kind, &check)?;
+    let found = walk_pieces(store, alloc, kind, &check)?;
     Ok(found)
 }
 

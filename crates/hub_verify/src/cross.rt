@@ -15,7 +15,7 @@ use crate::placed::Placed;
 use edi_base::Items;
 use gs1_ids::Sscc;
 use hub_parties::SupplierRow;
-use hub_pieces::{AllRows, PieceCheck, PieceKind, rows_with, walk};
+use hub_pieces::{AllRows, PieceCheck, PieceKind, rows_with, walk_pieces};
 use hub_register::Register;
 use hub_sound::{Finding, RowKind, pallet_finding};
 use hub_store::StoreFault;
@@ -91,7 +91,7 @@ fn misplaced_row<S: AllRows, T: Placed>(
 {
     let check = Misplaced::<T> { of: PhantomData };
     let kind = T::piece_kind();
-    let found = walk(store, alloc, kind, &check)?;
+    let found = walk_pieces(store, alloc, kind, &check)?;
     Ok(found)
 }
 
@@ -216,7 +216,7 @@ fn unrooted_pallet<S: AllRows>(
     ensures { Tells S.content S.honest (TellsRooted register.now) store.old store.new result }
 {
     let check = Unrooted { register };
-    let found = walk(store, alloc, PieceKind::Pallet, &check)?;
+    let found = walk_pieces(store, alloc, PieceKind::Pallet, &check)?;
     Ok(found)
 }
 

@@ -11,7 +11,7 @@ ghost use Rattle.hub_verify.specs.Goods.{LinesAreSettled, PalletsAreSettled, Sho
 ghost use Rattle.hub_pieces.specs.Walk.{Told};
 
 use edi_base::{Items, MemoryFault};
-use hub_pieces::{AllRows, PieceCheck, PieceKind, rows_with, walk};
+use hub_pieces::{AllRows, PieceCheck, PieceKind, rows_with, walk_pieces};
 use hub_sound::{Finding, first_misfit};
 use hub_store::StoreFault;
 use hub_tables::{ContentRow, LineRow, PalletRow};
@@ -156,7 +156,7 @@ impl PieceCheck for OfPallets {
 fn misfit_of_lines<S: AllRows>(store: &mut S, alloc: Global) -> Result<Option<Finding>, StoreFault>
     ensures { Tells S.content S.honest LinesAreSettled store.old store.new result }
 {
-    let found = walk(store, alloc, PieceKind::Line, &OfLines)?;
+    let found = walk_pieces(store, alloc, PieceKind::Line, &OfLines)?;
     Ok(found)
 }
 
@@ -167,7 +167,7 @@ fn misfit_of_pallets<S: AllRows>(
 ) -> Result<Option<Finding>, StoreFault>
     ensures { Tells S.content S.honest PalletsAreSettled store.old store.new result }
 {
-    let found = walk(store, alloc, PieceKind::Pallet, &OfPallets)?;
+    let found = walk_pieces(store, alloc, PieceKind::Pallet, &OfPallets)?;
     Ok(found)
 }
 

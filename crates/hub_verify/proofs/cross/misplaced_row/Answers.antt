@@ -11,4 +11,4 @@ returns g c =
     (λ t value. list_all (g.T.Placed.in_place t) (piece g.T.PieceRow.column value (g.T.PieceRow.rows t)) ≡ true)
     (λ t found. ShowsUnsound t found.kind found.key) g.T.PieceRow.rows g.T.PieceRow.column
     (λ t. ap (λ kind. values_in kind t) c.piece_kind-kind.ensures ∙ g.met.T.PieceRow.valued t) g.T.Placed.in_place
-    (λ t value h. h) c.args.store.now c.walk.new.store c.in_ok-found.found c.in_ok-found.ensures
+    (λ t value h. h) c.args.store.now c.walk_pieces.new.store c.in_ok-found.found c.in_ok-found.ensures

@@ -14,5 +14,5 @@ returns g c =
     walked_rows g.S.AllRows.content g.S.AllRows.honest Pallet
     (λ (t : Tables) value. list_all (fits_pallet c.args.register.now) (piece (λ (row : PalletRow). row.supplier) value t.pallets) ≡ true)
     (ShowsUnrooted c.args.register.now) (λ t. t.pallets) (λ (row : PalletRow). row.supplier) (λ t. refl)
-    (λ t. fits_pallet c.args.register.now) (λ t value h. h) c.args.store.now c.walk.new.store c.in_ok-found.found
+    (λ t. fits_pallet c.args.register.now) (λ t value h. h) c.args.store.now c.walk_pieces.new.store c.in_ok-found.found
     c.in_ok-found.ensures

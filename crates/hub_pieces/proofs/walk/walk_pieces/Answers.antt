@@ -1,6 +1,6 @@
 use Rattle.std.proofs.Common.{sym, ◌∙◌}
 use Rattle.hub_pieces.proofs.Walking.{walk_begins, walk_stops, walk_goes_on, walk_ends}
-use Rattle.hub_pieces.proofs.walk.walk.Goals as goal
+use Rattle.hub_pieces.proofs.walk.walk_pieces.Goals as goal
 
 pub pieces-init : goal.pieces-init
 pieces-init g c =

@@ -1,7 +1,7 @@
 use Rattle.std.proofs.Common.{Ok}
 use Rattle.hub_pieces.specs.AllRows.{Tells}
 use Rattle.hub_pieces.proofs.Walking.{Walked}
-use Rattle.hub_pieces.proofs.walk.walk.Given as goal
+use Rattle.hub_pieces.proofs.walk.walk_pieces.Given as goal
 
 -- each lower value was checked
 abbrev pub invariant-pieces : goal.invariant-pieces
