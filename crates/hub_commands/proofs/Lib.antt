@@ -1,3 +1,4 @@
+mod CheckReports
 mod FirstLine
 mod KeyExamples
 mod OneFile
@@ -7,4 +8,3 @@ mod Running
 mod Showing
 mod SoFar
 mod Told
-mod Verdicts
