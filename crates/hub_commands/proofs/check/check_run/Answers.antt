@@ -1,5 +1,5 @@
 use Rattle.hub_register.specs.Register.{register_of}
-use Rattle.hub_commands.proofs.Verdicts.{checked, written, unwritten}
+use Rattle.hub_commands.proofs.CheckReports.{checked, written, unwritten}
 use Rattle.hub_commands.proofs.check.check_run.Goals as goal
 
 pub returns-clause-checked : goal.returns-clause-checked
