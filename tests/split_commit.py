@@ -1,6 +1,6 @@
 """`make split-commit`: checks that the trial of a stopped machine (trials/stopped_machine.py) finds what the contracts refuse.
 
-The contracts refuse a commit in two transactions (`hub_writes/must-fail/commit_in_two_transactions.edit`). Here the program
+The contracts refuse a commit in two transactions (`hub_writes/wrong/commit_in_two_transactions.edit`). Here the program
 `trial_script` is built with that edit in a copy of the tree, by `rt try`, which proves nothing, and the machine is stopped at every
 third call of its files: some stop has to leave part of a message, and the trial has to report it. Of the program without the edit it
 has to report nothing.
@@ -51,7 +51,7 @@ def tried(room):
 def found(room, edit):
     """Returns what the trial reports of the program, with the edit if one is named; nothing if everything is right."""
     if edit:
-        with open(os.path.join(ROOT, "crates", CRATE, "must-fail", edit), encoding="utf-8") as file:
+        with open(os.path.join(ROOT, "crates", CRATE, "wrong", edit), encoding="utf-8") as file:
             why = applied(file.read(), os.path.join(room, "crates", CRATE))
         if why:
             raise OSError(f"{edit}: {why}")

@@ -1,5 +1,5 @@
 //! Defines the hub's tables: these definitions are used both to make tables and to compare a schema with them.
-ghost use Rattle.std.specs.Prelude.{◌≡◌, ◌<◌, ◌^◌, []};
+ghost use Rattle.std.specs.Prelude.{◌≡◌, ◌<◌, ◌^◌, [], take, drop};
 ghost use Rattle.hub_schema.specs.Definitions.{Make, all_indexes, numbered, trees_of};
 ghost use Rattle.hub_schema.specs.Schema.{hub_tables, indexes_of, party_tables, traffic_tables};
 
@@ -158,6 +158,9 @@ pub(crate) fn all() -> &'static [Definition]
     ensures indexes { all_indexes hub_tables result.now ≡ indexes_of hub_tables }
     ensures texts { Make [] result.now hub_tables }
     ensures trees { trees_of result.now < 2 ^ 32 }
+    ensures traffic { numbered 0 (take 9 result.now) ≡ traffic_tables }
+    ensures traffic_indexes { all_indexes traffic_tables (take 9 result.now) ≡ indexes_of traffic_tables }
+    ensures parties { Make traffic_tables (drop 9 result.now) party_tables }
 {
     &TABLES
 }
@@ -168,12 +171,12 @@ pub(crate) fn traffic() -> &'static [Definition]
     ensures indexes { all_indexes traffic_tables result.now ≡ indexes_of traffic_tables }
     ensures trees { trees_of result.now < 2 ^ 32 }
 {
-    &TABLES[..TRAFFIC]
+    &all()[..TRAFFIC]
 }
 
 /// Returns the tables of the register.
 pub(crate) fn parties() -> &'static [Definition]
     ensures { Make traffic_tables result.now party_tables }
 {
-    &TABLES[TRAFFIC..]
+    &all()[TRAFFIC..]
 }

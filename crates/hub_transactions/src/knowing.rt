@@ -230,9 +230,9 @@ fn named_lines<S: Store>(
 }
 
 /// Looks up what the rules need for an ORDRSP, in one look-up, and two more if nothing is remembered and its order is
-/// not kept (four if the lines named by number cannot be used, which sound rows always can). Also returns the orders kept before, if the order is known only by the lines that are named by their
-/// numbers. `Unclean`: the order's lines do not rise by line number, or more of one is open, refused and cancelled than
-/// is ordered.
+/// not kept (four if the lines named by number cannot be used, which sound rows always can). Also returns the orders
+/// kept before, if the order is known only by the lines that are named by their numbers. `Unclean`: the order's lines do
+/// not rise by line number, or more of one is open, refused and cancelled than is ordered.
 pub(crate) fn known_for_response<S: Store>(
     alloc: Global,
     store: &mut S,

@@ -86,7 +86,8 @@ module _ {S : Type 0} (content : S → Tables) (honest : S → Type 0) where
         (so_far : Tells content honest (SoFar i) old mid (Ok tt)) (b : Bool)
         (looked : Tells content honest (λ t b. b ≡ p t x) mid new (Ok b)) where
       both : Tells content honest (λ t b. SoFar i t tt × (b ≡ p t x)) old new (Ok b)
-      both = then content honest (SoFar i) (λ t b. b ≡ p t x) (λ t b. SoFar i t tt × (b ≡ p t x)) old mid new tt (λ t h y is. (h, is)) so_far (Ok b) looked
+      both = then content honest (SoFar i) (λ t b. b ≡ p t x)
+          (λ t b. SoFar i t tt × (b ≡ p t x)) old mid new tt (λ t h y is. (h, is)) so_far (Ok b) looked
 
       pub passes : b ≡ true → Tells content honest (SoFar (i + 1)) old new (Ok tt)
       passes holds = follows content honest (λ t b. SoFar i t tt × (b ≡ p t x)) (SoFar (i + 1)) old new b tt

@@ -76,10 +76,6 @@ fn over_lists(rt: &HostRuntime) -> Result<(), ScriptFault> {
     play::<VecStore, InMemory>(rt, InMemory)
 }
 
-fn over_sql(rt: &HostRuntime) -> Result<(), ScriptFault> {
-    over_tables::<MemStore, InMemory>(rt, InMemory)
-}
-
 // Runs the script on SQL tables, wherever they are kept.
 fn over_tables<A: Alter + Drop, O: Opener<SqliteStore<A>>>(
     rt: &HostRuntime,
@@ -134,7 +130,7 @@ fn bytes_of(rt: &HostRuntime, path: &str) -> Result<Vec<u8>, ScriptFault> {
 fn over_named(rt: &HostRuntime, words: &[String]) -> Result<(), ScriptFault> {
     match words {
         [] | [_] => over_lists(rt),
-        [_, word] if word.as_str() == "sql" => over_sql(rt),
+        [_, word] if word.as_str() == "sql" => over_tables::<MemStore, InMemory>(rt, InMemory),
         [_, word, path] if word.as_str() == "file" => over_file::<Unknown>(rt, path.as_str()),
         [_, word, calls] => over_stopped(rt, word.as_str(), calls.as_str(), Vec::new(rt.alloc())),
         [_, word, calls, path] => {

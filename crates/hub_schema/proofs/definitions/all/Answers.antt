@@ -10,3 +10,10 @@ returns-clause-indexes c = rw (decimal_digit 1 (omega arith), decimal_digit 2 (o
 pub returns-clause-texts : goal.returns-clause-texts
 unfolding understood everything
 returns-clause-texts c = assumption
+
+pub returns-clause-traffic_indexes : goal.returns-clause-traffic_indexes
+returns-clause-traffic_indexes c = rw (decimal_digit 1 (omega arith), decimal_digit 2 (omega arith))
+
+pub returns-clause-parties : goal.returns-clause-parties
+unfolding understood everything
+returns-clause-parties c = assumption
