@@ -75,7 +75,7 @@ trial_script:
 	python3 -m tests.prove trial_script
 
 # Proves and runs the tests of calls, and leaves their programs for the hostile trials.
-TESTS = edi_tests http_tests hub_tests app_tests
+TESTS = edi_tests hub_tests door_tests
 
 tests_of_calls:
 	for crate in $(TESTS); do \

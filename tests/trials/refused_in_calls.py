@@ -11,7 +11,7 @@ from concurrent.futures import ThreadPoolExecutor
 from tests.harness.shims import REFUSE, built
 from tests.harness.tree import ROOT
 
-CRATES = ("edi_tests", "http_tests", "hub_tests", "app_tests")
+CRATES = ("edi_tests", "hub_tests", "door_tests")
 # how an error, or what was compared, tells out of memory: by a name, or by the word that the program writes, as bytes
 TOLD = (
     "AllocFailed",
@@ -25,21 +25,19 @@ TOLD = (
 BY_ERROR, BY_COMPARISON = 101, -6
 # the tests whose own reader or writer takes memory: where that is refused, a read or a write of theirs fails, and is told as failed
 OF_THEIR_OWN = {
-    "app::a_register_is_checked",
-    "app::a_run_reads_writes_and_answers_its_status",
-    "app::an_order_is_shown",
     "base::a_failed_write_leaves_a_front_of_the_bytes",
-    "base::bytes_that_wait_are_written_in_their_order",
+    "commands::a_register_is_checked",
+    "commands::a_run_reads_writes_and_answers_its_status",
+    "commands::an_order_is_shown",
     "import::files_come_one_after_another",
     "responses::responses_are_written",
     "tokens::a_failed_write_leaves_a_front_of_the_text",
     "tokens::a_text_longer_than_what_waits_is_written_whole",
-    "tokens::an_order_is_read_and_written_again",
 }
 # those that ask of an answer whether it is the right one, and do not say what else it is
 SAY_NO = {
-    "app::a_longer_line_is_no_key",
-    "app::the_text_of_a_register_is_read",
+    "commands::a_longer_line_is_no_key",
+    "commands::the_text_of_a_register_is_read",
     "store::lists_answer_each_look_up",
     "store::rows_under_keys_that_are_there_are_left_out",
     "words::a_file_without_a_key_is_a_usage_error",

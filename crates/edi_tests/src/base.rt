@@ -1,8 +1,6 @@
-use crate::doubles::{Dribble, sink_with_room, took_front};
+use crate::doubles::{Dribble, Pieces, sink_with_room, took_front};
 use edi_base::*;
 use std::alloc::{AllocError, Global};
-use std::io;
-use std::io::{Error, ErrorKind, Read};
 
 /// Returns `size` bytes, of which no two neighbours are equal.
 fn bytes_of(alloc: Global, size: usize) -> Result<Vec<u8>, AllocError> {
@@ -13,80 +11,18 @@ fn bytes_of(alloc: Global, size: usize) -> Result<Vec<u8>, AllocError> {
     Ok(bytes)
 }
 
-const TWO: &[u8] = b"\x07\x05";
-
-// Returns whether a new list was empty, and the list with the two bytes.
-fn two_items(alloc: Global) -> Result<(bool, Items<u8>), AllocError> {
-    let mut items = Items::new(alloc);
-    let was_empty = items.is_empty();
-    items.push(7u8)?;
-    items.push(5)?;
-    Ok((was_empty, items))
-}
-
-fn has_two_bytes(items: &Items<u8>) -> bool {
-    !items.is_empty() && items.len() == 2 && items.as_slice() == TWO
-}
-
-fn is_copied(alloc: Global, bytes: &[u8]) -> Result<bool, AllocError> {
-    Ok(copy_bytes(alloc, bytes)?.as_slice() == bytes)
-}
-
-// Whether the two bytes are kept, and given back.
-fn are_two_kept(alloc: Global) -> Result<bool, AllocError> {
-    let (was_empty, items) = two_items(alloc)?;
-    let are_kept = was_empty && has_two_bytes(&items);
-    let again = Items::from_vec(items.into_vec());
-    Ok(are_kept && again.as_slice() == TWO)
-}
-
-#[test]
-fn items_are_those_of_a_vector(rt: HostRuntime) -> Result<(), AllocError> {
-    assert!(rt; is_copied(rt.alloc(), b"\x00\xff")?);
-    assert!(rt; are_two_kept(rt.alloc())?);
-    Ok(())
-}
-
-// A function of its own, to keep the contract of the call out of the tests.
-fn write(bytes: &[u8], sink: &mut OfWrite<Dribble>) -> Result<(), WriteFault> {
-    write_bytes(bytes, sink)
-}
-
-fn is_front_written(alloc: Global, bytes: &[u8], room: usize, fails: bool) -> bool {
-    let mut sink = sink_with_room(alloc, room, fails);
-    let wrote = write(bytes, &mut sink);
-    took_front(wrote, sink, bytes, room)
-}
-
-// Does this for a writer that fails, and for one that accepts nothing.
-fn are_fronts_written(alloc: Global, bytes: &[u8], room: usize) -> bool {
-    is_front_written(alloc, bytes, room, true) && is_front_written(alloc, bytes, room, false)
-}
-
-static ROOMS: [usize; 6] = [0, 1, 100, 254, 255, 256];
-
-#[test]
-fn a_failed_write_leaves_a_front_of_the_bytes(rt: HostRuntime) -> Result<(), AllocError> {
-    let bytes = bytes_of(rt.alloc(), 255)?;
-    for room in &ROOMS {
-        assert!(rt;
-            are_fronts_written(rt.alloc(), &bytes, *room),
-            "room {room}"
-        );
-    }
-    Ok(())
-}
-
 /// A function of its own, to keep the contract of the call out of the tests.
 fn put(buffer: &mut Buffer, bytes: &[u8], out: &mut OfWrite<Dribble>) -> Result<(), WriteFault> {
     buffer.put(out, bytes)
 }
 
+static SIZES: [usize; 9] = [0, 1, 1000, 23, 1, 1024, 1025, 600, 500];
+
 /// Puts bytes into a buffer in pieces of these sizes, and writes what still waits at the end.
-fn put_pieces(bytes: &[u8], sizes: &[usize], out: &mut OfWrite<Dribble>) -> Result<(), WriteFault> {
+fn put_pieces(bytes: &[u8], out: &mut OfWrite<Dribble>) -> Result<(), WriteFault> {
     let mut buffer = Buffer::new();
     let mut rest = bytes;
-    for size in sizes {
+    for size in &SIZES {
         let (piece, after) = rest.split_at((*size).min(rest.len()));
         put(&mut buffer, piece, out)?;
         rest = after;
@@ -95,51 +31,45 @@ fn put_pieces(bytes: &[u8], sizes: &[usize], out: &mut OfWrite<Dribble>) -> Resu
     buffer.flush(out)
 }
 
-fn are_pieces_written(alloc: Global, bytes: &[u8], room: usize, fails: bool) -> bool {
-    let sizes = [0usize, 1, 1000, 23, 1, 1024, 1025, 600, 500];
+// A function of its own, to keep the contract of the call out of the tests.
+fn write(bytes: &[u8], out: &mut OfWrite<Dribble>) -> Result<(), WriteFault> {
+    write_bytes(bytes, out)
+}
+
+// Writes bytes at once or in pieces.
+fn is_front_written(alloc: Global, bytes: &[u8], room: usize, fails: bool, pieces: bool) -> bool {
     let mut sink = sink_with_room(alloc, room, fails);
-    let wrote = put_pieces(bytes, &sizes, &mut sink);
+    let wrote = if pieces {
+        put_pieces(bytes, &mut sink)
+    } else {
+        write(bytes, &mut sink)
+    };
     took_front(wrote, sink, bytes, room)
 }
 
-fn are_both_written(alloc: Global, bytes: &[u8], room: usize) -> bool {
-    are_pieces_written(alloc, bytes, room, true) && are_pieces_written(alloc, bytes, room, false)
-}
+static ROOMS: [usize; 8] = [0, 1, 1023, 1024, 1025, 4999, 5000, 5001];
 
-static ROOMS_OF_PIECES: [usize; 8] = [0, 1, 1023, 1024, 1025, 4999, 5000, 5001];
+// Whether the writer fails, or accepts nothing; and whether it gets pieces.
+static WAYS: [(bool, bool); 4] = [(true, false), (false, false), (true, true), (false, true)];
 
 #[test]
-fn bytes_that_wait_are_written_in_their_order(rt: HostRuntime) -> Result<(), AllocError> {
+fn a_failed_write_leaves_a_front_of_the_bytes(rt: HostRuntime) -> Result<(), AllocError> {
     let bytes = bytes_of(rt.alloc(), 5000)?;
-    for room in &ROOMS_OF_PIECES {
-        assert!(rt; are_both_written(rt.alloc(), &bytes, *room), "room {room}");
+    for room in &ROOMS {
+        for (fails, pieces) in &WAYS {
+            assert!(rt;
+                is_front_written(rt.alloc(), &bytes, *room, *fails, *pieces),
+                "room {room}"
+            );
+        }
     }
     Ok(())
 }
 
-/// A reader that returns one byte at a time, and then fails.
-#[derive(Drop)]
-struct Drip {
-    left: usize,
-}
-
-impl Read for Drip {
-    fn read(&mut self, buffer: &mut [u8]) -> io::Result<usize> {
-        if self.left == 0 {
-            return Err(Error::from(ErrorKind::BrokenPipe));
-        }
-        if buffer.is_empty() {
-            return Ok(0);
-        }
-        buffer[0] = b'a';
-        self.left -= 1;
-        Ok(1)
-    }
-}
-
+// A function of its own, to keep the contract of the call out of the tests.
 fn read_front(
     alloc: Global,
-    source: &mut OfRead<&[u8]>,
+    source: &mut OfRead<Pieces<'_>>,
     limit: usize,
 ) -> Result<Vec<u8>, ReadFault> {
     read_to_limit(alloc, source, limit)
@@ -152,10 +82,14 @@ type Limit = (&'static str, usize, usize, usize);
 fn is_front_read(alloc: Global, long: &[u8], row: &Limit) -> Result<bool, ReadFault> {
     let (_, given, limit, size) = *row;
     let known = long.get(..given).unwrap_or_default();
-    let mut source = OfRead::new(known);
+    let mut source = OfRead::new(Pieces {
+        left: known,
+        size: usize::MAX,
+        calls: usize::MAX,
+    });
     let read = read_front(alloc, &mut source, limit)?;
     let is_front = !source.has_failed() && known.get(..size) == Some(read.as_slice());
-    Ok(is_front && known.get(size..) == Some(source.into_inner()))
+    Ok(is_front && known.get(size..) == Some(source.into_inner().left))
 }
 
 static LIMITS: [Limit; 7] = [
@@ -177,72 +111,21 @@ fn a_source_is_read_to_its_end_or_the_limit(rt: HostRuntime) -> Result<(), ReadF
     Ok(())
 }
 
-fn read_two(alloc: Global, source: &mut OfRead<Drip>) -> Result<Vec<u8>, ReadFault> {
-    read_to_limit(alloc, source, 2)
-}
-
-// Whether two bytes are read, and the source has not failed.
-fn are_two_read(alloc: Global, source: &mut OfRead<Drip>) -> Result<bool, ReadFault> {
-    Ok(read_two(alloc, source)?.as_slice() == b"aa".as_slice() && !source.has_failed())
-}
-
-fn fault_of_two(alloc: Global, source: &mut OfRead<Drip>) -> Option<ReadFault> {
-    read_two(alloc, source).err()
-}
-
 #[test]
 fn a_failed_read_is_answered(rt: HostRuntime) -> Result<(), ReadFault> {
-    let mut source = OfRead::new(Drip { left: 3 });
-    assert!(rt; are_two_read(rt.alloc(), &mut source)?);
+    let mut source = OfRead::new(Pieces {
+        left: b"aaaa",
+        size: 1,
+        calls: 3,
+    });
+    let read = read_front(rt.alloc(), &mut source, 2)?;
+    assert!(rt; read.as_slice() == b"aa".as_slice() && !source.has_failed());
     // The fault may be that memory ran out, so the comparison prints it.
     assert_eq!(rt;
-        fault_of_two(rt.alloc(), &mut source),
+        read_front(rt.alloc(), &mut source, 2).err(),
         Some(ReadFault::Read)
     );
     assert!(rt; source.has_failed());
-    Ok(())
-}
-
-// Texts in their order, and whether each is new.
-static COMING: [(&[u8], bool); 6] = [
-    (b"b", true),
-    (b"a", true),
-    (b"", true),
-    (b"ab", true),
-    (b"a", false),
-    (b"", false),
-];
-
-fn is_new<'a>(seen: &mut Seen<'a>, text: &'a [u8]) -> Result<bool, AllocError> {
-    seen.insert(text)
-}
-
-#[test]
-fn a_text_comes_again(rt: HostRuntime) -> Result<(), AllocError> {
-    let mut seen = Seen::new(rt.alloc());
-    for (text, want) in &COMING {
-        assert!(rt; is_new(&mut seen, text)? == *want, "{text:?}");
-    }
-    Ok(())
-}
-
-// Numbers, and whether one of them occurs twice.
-static NUMBERS: [(&str, &[u32], bool); 4] = [
-    ("none", &[], false),
-    ("3, 1, 2", &[3, 1, 2], false),
-    ("3, 1, 2, 3", &[3, 1, 2, 3], true),
-    ("0, 0", &[0, 0], true),
-];
-
-fn is_told_twice(alloc: Global, numbers: &[u32], want: bool) -> Result<bool, AllocError> {
-    Ok(number_twice(alloc, numbers)? == want)
-}
-
-#[test]
-fn numbers_that_come_twice(rt: HostRuntime) -> Result<(), AllocError> {
-    for (what, numbers, come_twice) in &NUMBERS {
-        assert!(rt; is_told_twice(rt.alloc(), numbers, *come_twice)?, "{what}");
-    }
     Ok(())
 }
 

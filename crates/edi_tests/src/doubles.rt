@@ -1,9 +1,31 @@
-//! Simulates writers that fail.
+//! Simulates readers and writers that fail.
 
 use edi_base::{OfWrite, WriteFault};
 use std::alloc::Global;
 use std::io;
-use std::io::{Error, ErrorKind, Write};
+use std::io::{Error, ErrorKind, Read, Write};
+
+/// A reader that returns at most `size` bytes at a time, and is interrupted after `calls` calls.
+#[derive(Drop)]
+pub(crate) struct Pieces<'a> {
+    pub(crate) left: &'a [u8],
+    pub(crate) size: usize,
+    pub(crate) calls: usize,
+}
+
+impl<'a> Read for Pieces<'a> {
+    fn read(&mut self, buffer: &mut [u8]) -> io::Result<usize> {
+        if self.calls == 0 {
+            return Err(Error::from(ErrorKind::Interrupted));
+        }
+        self.calls -= 1;
+        let count = self.left.len().min(self.size).min(buffer.len());
+        let (piece, left) = self.left.split_at(count);
+        buffer[..count].copy_from_slice(piece);
+        self.left = left;
+        Ok(count)
+    }
+}
 
 /// A writer that accepts one byte at a time, and then fails, or accepts nothing.
 #[derive(Drop)]
@@ -43,13 +65,6 @@ pub(crate) fn sink_with_room(alloc: Global, room: usize, fails: bool) -> OfWrite
     })
 }
 
-/// Returns the outcome of a write: whether it succeeded, whether the sink has failed, and what it accepted.
-fn outcome(wrote: Result<(), WriteFault>, sink: OfWrite<Dribble>) -> (bool, bool, Vec<u8>) {
-    let failed = sink.has_failed();
-    let Dribble { written, .. } = sink.into_inner();
-    (wrote.is_ok(), failed, written)
-}
-
 /// Whether a sink accepted as much of a text as it has room for, and failed, like the write, exactly if that is not the
 /// whole text.
 pub(crate) fn took_front(
@@ -58,8 +73,9 @@ pub(crate) fn took_front(
     text: &[u8],
     room: usize,
 ) -> bool {
-    let (is_ok, failed, written) = outcome(wrote, sink);
+    let failed = sink.has_failed();
+    let Dribble { written, .. } = sink.into_inner();
     let has_room = room >= text.len();
     let front = text.get(..room.min(text.len()));
-    is_ok == has_room && failed == !has_room && Some(written.as_slice()) == front
+    wrote.is_ok() == has_room && failed == !has_room && Some(written.as_slice()) == front
 }

@@ -84,14 +84,10 @@ fn is_the_interchange(alloc: Global, interchange: &Interchange) -> Result<bool, 
     Ok(are_messages && interchange.decimal == b',' && is_the_head(&interchange.head))
 }
 
-fn is_opened(alloc: Global) -> Result<bool, Fail> {
-    let interchange = opened(alloc, BOTH)?;
-    is_the_interchange(alloc, &interchange)
-}
-
 #[test]
 fn gives_the_head_and_the_messages(rt: HostRuntime) -> Result<(), Fail> {
-    assert!(rt; is_opened(rt.alloc())?);
+    let interchange = opened(rt.alloc(), BOTH)?;
+    assert!(rt; is_the_interchange(rt.alloc(), &interchange)?);
     Ok(())
 }
 
@@ -124,14 +120,10 @@ fn becomes_mail(alloc: Global, message: &RawMessage) -> Result<bool, Fail> {
     has_body(alloc, mail.as_slice(), MAIL)
 }
 
-fn is_wrapped(alloc: Global) -> Result<bool, Fail> {
-    let message = last_message(alloc, RELAYED)?;
-    becomes_mail(alloc, &message)
-}
-
 #[test]
 fn wraps_a_message_for_the_mailbox(rt: HostRuntime) -> Result<(), Fail> {
-    assert!(rt; is_wrapped(rt.alloc())?);
+    let message = last_message(rt.alloc(), RELAYED)?;
+    assert!(rt; becomes_mail(rt.alloc(), &message)?);
     Ok(())
 }
 
@@ -168,15 +160,11 @@ fn becomes_dated(alloc: Global, message: &RawMessage, dated: &Dated) -> Result<b
     Ok(moment.seconds() == *seconds && has_date(mail.as_slice(), want))
 }
 
-fn is_dated(alloc: Global, dated: &Dated) -> Result<bool, Fail> {
-    let message = last_message(alloc, RELAYED)?;
-    becomes_dated(alloc, &message, dated)
-}
-
 #[test]
 fn shows_dates_and_times_at_utc(rt: HostRuntime) -> Result<(), Fail> {
+    let message = last_message(rt.alloc(), RELAYED)?;
     for dated in &MOMENTS {
-        assert!(rt; is_dated(rt.alloc(), dated)?, "{}", dated.0);
+        assert!(rt; becomes_dated(rt.alloc(), &message, dated)?, "{}", dated.0);
     }
     assert!(rt; Moment::new(4_102_444_800).is_none());
     Ok(())

@@ -1,33 +1,10 @@
 //! Tests interchanges that are opened while their bytes arrive.
 
+use crate::doubles::Pieces;
 use edi_base::OfRead;
 use edi_envelope::open_feed;
 use edi_tokens::Feeder;
 use std::alloc::{AllocError, Global};
-use std::io;
-use std::io::{Error, ErrorKind, Read};
-
-/// A reader that returns at most `size` bytes at a time, and is interrupted after `calls` calls.
-#[derive(Drop)]
-struct Pieces<'a> {
-    left: &'a [u8],
-    size: usize,
-    calls: usize,
-}
-
-impl<'a> Read for Pieces<'a> {
-    fn read(&mut self, buffer: &mut [u8]) -> io::Result<usize> {
-        if self.calls == 0 {
-            return Err(Error::from(ErrorKind::Interrupted));
-        }
-        self.calls -= 1;
-        let count = self.left.len().min(self.size).min(buffer.len());
-        let (piece, left) = self.left.split_at(count);
-        buffer[..count].copy_from_slice(piece);
-        self.left = left;
-        Ok(count)
-    }
-}
 
 // A text, the number of its messages, and the code of its fault.
 type Row = (&'static [u8], usize, &'static str);
@@ -52,8 +29,9 @@ fn fed(alloc: Global, pieces: Pieces) -> Result<(usize, &'static str, bool), All
 
 // Whether a text in pieces has this many messages or this fault, and its reader has failed exactly if the fault is
 // `read`.
-fn is_fed(alloc: Global, pieces: Pieces, messages: usize, code: &str) -> Result<bool, AllocError> {
-    let (count, fault, failed) = fed(alloc, pieces)?;
+fn is_fed(alloc: Global, row: &Row, size: usize, calls: usize) -> Result<bool, AllocError> {
+    let (left, messages, code) = *row;
+    let (count, fault, failed) = fed(alloc, Pieces { left, size, calls })?;
     if fault == "memory" {
         return Err(AllocError);
     }
@@ -104,33 +82,18 @@ static TEXTS: [Row; 9] = [
     ),
 ];
 
-fn is_row_fed(alloc: Global, row: &Row, size: usize) -> Result<bool, AllocError> {
-    let (text, messages, code) = row;
-    let pieces = Pieces {
-        left: text,
-        size,
-        calls: usize::MAX,
-    };
-    is_fed(alloc, pieces, *messages, code)
-}
-
-// Returns the text that is not handled as it should be, in pieces of this size.
-fn wrong_text(alloc: Global, size: usize) -> Result<Option<&'static [u8]>, AllocError> {
-    for row in &TEXTS {
-        if !is_row_fed(alloc, row, size)? {
-            return Ok(Some(row.0));
-        }
-    }
-    Ok(None)
-}
-
 static SIZES: [usize; 4] = [1, 2, 7, 8192];
 
 #[test]
 fn pieces_of_any_size_are_opened_alike(rt: HostRuntime) -> Result<(), AllocError> {
-    for size in &SIZES {
-        let wrong = wrong_text(rt.alloc(), *size)?;
-        assert!(rt; wrong.is_none(), "{wrong:?} in {size} bytes at a time");
+    for row in &TEXTS {
+        for size in &SIZES {
+            assert!(rt;
+                is_fed(rt.alloc(), row, *size, usize::MAX)?,
+                "{:?} in {size} bytes at a time",
+                row.0
+            );
+        }
     }
     Ok(())
 }
@@ -138,24 +101,14 @@ fn pieces_of_any_size_are_opened_alike(rt: HostRuntime) -> Result<(), AllocError
 // 37 calls read 255 bytes, and one more reads their end.
 const ENOUGH_CALLS: usize = 38;
 
-fn is_order_fed(alloc: Global, calls: usize) -> Result<bool, AllocError> {
-    let pieces = Pieces {
-        left: ORDERS,
-        size: 7,
-        calls,
-    };
-    let (messages, code) = if calls < ENOUGH_CALLS {
-        (0, "read")
-    } else {
-        (1, "")
-    };
-    is_fed(alloc, pieces, messages, code)
-}
-
 #[test]
 fn each_failed_read_is_answered(rt: HostRuntime) -> Result<(), AllocError> {
-    for calls in 0..ENOUGH_CALLS + 1 {
-        assert!(rt; is_order_fed(rt.alloc(), calls)?, "after {calls} calls");
+    for calls in 0..ENOUGH_CALLS {
+        assert!(rt;
+            is_fed(rt.alloc(), &(ORDERS, 0, "read"), 7, calls)?,
+            "after {calls} calls"
+        );
     }
+    assert!(rt; is_fed(rt.alloc(), &TEXTS[0], 7, ENOUGH_CALLS)?);
     Ok(())
 }

@@ -45,6 +45,15 @@ enum Kind {
     Gln,
     Sscc,
     Prefix,
+    // A prefix that the SSCC 340123455000000012 is under.
+    PrefixOfSscc,
+}
+
+fn is_under(sscc: &[u8], prefix: &[u8]) -> bool {
+    match (Sscc::parse(sscc), Prefix::parse(prefix)) {
+        (Some(sscc), Some(prefix)) => sscc.under(&prefix),
+        _ => false,
+    }
 }
 
 fn is_read(kind: Kind, text: &[u8]) -> bool {
@@ -52,11 +61,12 @@ fn is_read(kind: Kind, text: &[u8]) -> bool {
         Kind::Gln => Gln::parse(text).is_some(),
         Kind::Sscc => Sscc::parse(text).is_some(),
         Kind::Prefix => Prefix::parse(text).is_some(),
+        Kind::PrefixOfSscc => is_under(b"340123455000000012", text),
     }
 }
 
 // Texts, and whether each is an identifier of its kind.
-static TEXTS: [(Kind, &str, bool); 20] = [
+static TEXTS: [(Kind, &str, bool); 24] = [
     (Kind::Gln, "5412345000006", true),
     (Kind::Gln, "4012345500004", true),
     (Kind::Gln, "0614141123452", true),
@@ -77,6 +87,10 @@ static TEXTS: [(Kind, &str, bool); 20] = [
     (Kind::Prefix, "061", false),
     (Kind::Prefix, "6291041500213", false),
     (Kind::Prefix, "40 2345", false),
+    (Kind::PrefixOfSscc, "4012345", true),
+    (Kind::PrefixOfSscc, "401234550000", true),
+    (Kind::PrefixOfSscc, "3401234", false),
+    (Kind::PrefixOfSscc, "4012346", false),
 ];
 
 #[test]
@@ -115,26 +129,6 @@ fn has_digits(text: &str, want: Option<&[u8; 14]>) -> bool {
 fn gtins(rt: HostRuntime) {
     for (text, want) in &GTINS {
         assert!(rt; has_digits(text, *want), "{text}");
-    }
-}
-
-// Digits, and whether the SSCC 340123455000000012 is under them.
-static PREFIXES_OF_AN_SSCC: [(&str, bool); 4] = [
-    ("4012345", true),
-    ("401234550000", true),
-    ("3401234", false),
-    ("4012346", false),
-];
-
-fn is_under(digits: &str) -> Option<bool> {
-    let sscc = Sscc::parse(b"340123455000000012")?;
-    Some(sscc.under(&prefix(digits)?))
-}
-
-#[test]
-fn an_sscc_is_under_its_prefixes(rt: HostRuntime) {
-    for (digits, want) in &PREFIXES_OF_AN_SSCC {
-        assert!(rt; is_under(digits) == Some(*want), "{digits}");
     }
 }
 

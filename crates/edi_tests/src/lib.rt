@@ -5,21 +5,17 @@
 #[cfg(test)]
 mod base;
 #[cfg(test)]
+mod documents;
+#[cfg(test)]
 mod doubles;
 #[cfg(test)]
 mod envelope;
 #[cfg(test)]
 mod feeding;
 #[cfg(test)]
-mod goods;
-#[cfg(test)]
 mod identifiers;
 #[cfg(test)]
 mod messages;
-#[cfg(test)]
-mod orders;
-#[cfg(test)]
-mod show;
 #[cfg(test)]
 mod texts;
 #[cfg(test)]

@@ -56,16 +56,11 @@ fn is_named(message: &RawMessage, names: bool) -> bool {
     }
 }
 
-fn is_told(alloc: Global, row: &Row) -> Result<bool, Fail> {
-    let (kind, behind, names) = row;
-    let message = message(alloc, kind, behind)?;
-    Ok(is_named(&message, *names))
-}
-
 #[test]
 fn the_header_names_the_supplier(rt: HostRuntime) -> Result<(), Fail> {
-    for row in &MESSAGES {
-        assert!(rt; is_told(rt.alloc(), row)?, "{}", row.1);
+    for (kind, behind, names) in &MESSAGES {
+        let message = message(rt.alloc(), kind, behind)?;
+        assert!(rt; is_named(&message, *names), "{behind}");
     }
     Ok(())
 }
@@ -75,14 +70,11 @@ static CODES: [(MessageFault, &str); 2] = [
     (MessageFault::Memory, "memory"),
 ];
 
-fn prints(alloc: Global, fault: MessageFault, code: &str) -> Result<bool, AllocError> {
-    Ok(fault.to_string(alloc)?.as_str() == code)
-}
-
 #[test]
 fn a_fault_prints_its_code(rt: HostRuntime) -> Result<(), AllocError> {
     for (fault, code) in &CODES {
-        assert!(rt; prints(rt.alloc(), *fault, code)?, "{code}");
+        let printed = fault.to_string(rt.alloc())?;
+        assert!(rt; printed.as_str() == *code, "{code}");
     }
     Ok(())
 }

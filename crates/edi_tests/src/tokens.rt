@@ -20,40 +20,6 @@ const OTHER_SEPARATORS: &[u8] =
         \r\nBGM|220|128576|9~\r\nDTM|137*20250603*102~\r\nNAD|BY|5412345000013**9~\r\nNAD|SU|4012345500004**9~\
         \r\nLIN|1||4000862141404*SRV~\r\nQTY|21*48~\r\nUNS|S~\r\nCNT|2*1~\r\nUNT|10|1~\r\nUNZ|1|1001~\r\n";
 
-// The message of the order.
-const MESSAGE: &[u8] =
-    b"UNH+1+ORDERS:D:01B:UN:EAN010'BGM+220+128576+9'DTM+137:20250603:102'NAD+BY+5412345000013::9'\
-        NAD+SU+4012345500004::9'LIN+1++4000862141404:SRV'QTY+21:48'UNS+S'CNT+2:1'UNT+10+1'";
-
-fn write_into(segments: &[Segment], sink: &mut OfWrite<Vec<u8>>) -> Result<(), WriteFault> {
-    write_text(segments, b'.', sink)
-}
-
-// Whether the segments are written as the order, after a service string.
-fn are_written_again(alloc: Global, segments: &[Segment]) -> Result<bool, WriteFault> {
-    let mut sink = OfWrite::new(Vec::new(alloc));
-    write_into(segments, &mut sink)?;
-    Ok(sink.into_inner().as_slice() == ORDERS)
-}
-
-// Whether the segments are those of the order, and its text and its message's text are written as they were read.
-fn are_of_the_order(alloc: Global, segments: &[Segment]) -> Result<bool, Fail> {
-    let Some(message) = segments.get(1..11) else {
-        return Ok(false);
-    };
-    let is_message = has_body(alloc, message, MESSAGE)?;
-    let is_whole = are_written_again(alloc, segments)?;
-    let lengths = [segments.len(), message.len(), ORDERS.len(), MESSAGE.len()];
-    Ok(is_message && is_whole && lengths == [12, 10, 255, 173])
-}
-
-#[test]
-fn an_order_is_read_and_written_again(rt: HostRuntime) -> Result<(), Fail> {
-    let tokens = tokens(rt.alloc(), ORDERS)?;
-    assert!(rt; are_of_the_order(rt.alloc(), tokens.segments.as_slice())?);
-    Ok(())
-}
-
 type Component = (usize, &'static [u8; 3], usize, usize, &'static [u8]);
 
 // The position of a segment of the order, its tag, the positions of an element and a component, and what is there.
@@ -90,19 +56,18 @@ const OTHERS: Service = Service {
     terminator: b'~',
 };
 
-fn has_service(alloc: Global, text: &[u8], service: Service) -> Result<bool, Fail> {
-    Ok(tokens(alloc, text)?.service == service)
-}
-
 #[test]
 fn each_text_gives_its_service_characters(rt: HostRuntime) -> Result<(), Fail> {
-    assert!(rt; has_service(rt.alloc(), ORDERS, Service::usual())?);
-    assert!(rt; has_service(rt.alloc(), OTHER_SEPARATORS, OTHERS)?);
+    for (text, service) in [(ORDERS, Service::usual()), (OTHER_SEPARATORS, OTHERS)] {
+        let tokens = tokens(rt.alloc(), text)?;
+        assert!(rt; tokens.service == service, "{service:?}");
+    }
     Ok(())
 }
 
 // Texts, and the canonical text that each is read as.
-static CANONICAL: [(&[u8], &[u8]); 13] = [
+static CANONICAL: [(&[u8], &[u8]); 14] = [
+    (ORDERS, BEHIND_UNA),
     (OTHER_SEPARATORS, BEHIND_UNA),
     (b"", b""),
     (b"\r\n\n", b""),
@@ -142,16 +107,19 @@ fn write(segments: &[Segment], decimal: u8, sink: &mut OfWrite<Dribble>) -> Resu
     write_text(segments, decimal, sink)
 }
 
-/// Whether a writer with this much room gets as much of the order as it has room for, when its segments are written.
-fn is_front_written(alloc: Global, segments: &[Segment], room: usize, fails: bool) -> bool {
+// Whether a writer with this much room gets as much of a text as it has room for, when its segments are written with
+// this decimal mark.
+fn is_front_written(
+    alloc: Global,
+    segments: &[Segment],
+    decimal: u8,
+    text: &[u8],
+    room: usize,
+    fails: bool,
+) -> bool {
     let mut sink = sink_with_room(alloc, room, fails);
-    let wrote = write(segments, b'.', &mut sink);
-    took_front(wrote, sink, ORDERS, room)
-}
-
-// Does this for a writer that fails, and for one that accepts nothing.
-fn are_fronts_written(alloc: Global, segments: &[Segment], room: usize) -> bool {
-    is_front_written(alloc, segments, room, true) && is_front_written(alloc, segments, room, false)
+    let wrote = write(segments, decimal, &mut sink);
+    took_front(wrote, sink, text, room)
 }
 
 static ROOMS: [usize; 9] = [0, 1, 8, 9, 10, 100, 254, 255, 256];
@@ -160,19 +128,22 @@ static ROOMS: [usize; 9] = [0, 1, 8, 9, 10, 100, 254, 255, 256];
 fn a_failed_write_leaves_a_front_of_the_text(rt: HostRuntime) -> Result<(), Fail> {
     let tokens = tokens(rt.alloc(), ORDERS)?;
     for room in &ROOMS {
-        let segments = tokens.segments.as_slice();
-        assert!(rt;
-            are_fronts_written(rt.alloc(), segments, *room),
-            "room {room}"
-        );
+        for fails in [true, false] {
+            let segments = tokens.segments.as_slice();
+            assert!(rt;
+                is_front_written(rt.alloc(), segments, b'.', ORDERS, *room, fails),
+                "room {room}"
+            );
+        }
     }
     Ok(())
 }
 
 const WITH_COMMA: &[u8] = b"UNA:+,? '";
 
-/// Appends a segment of 8,000 bytes and nine orders.
-fn append_long(text: &mut Vec<u8>) -> Result<(), AllocError> {
+/// Makes a text of a beginning, a segment of 8,000 bytes, and nine orders.
+fn long_text(alloc: Global, front: &[u8]) -> Result<Vec<u8>, AllocError> {
+    let mut text = Vec::from_slice(alloc, front)?;
     let length = text.len().saturating_add(7999);
     text.extend_from_slice(b"FTX+?+")?;
     text.resize(length, b'a')?;
@@ -180,32 +151,15 @@ fn append_long(text: &mut Vec<u8>) -> Result<(), AllocError> {
     for _ in 0..9u8 {
         text.extend_from_slice(BEHIND_UNA)?;
     }
-    Ok(())
-}
-
-/// Makes a text of a beginning, a segment of 8,000 bytes, and nine orders.
-fn long_text(alloc: Global, front: &[u8]) -> Result<Vec<u8>, AllocError> {
-    let mut text = Vec::from_slice(alloc, front)?;
-    append_long(&mut text)?;
     Ok(text)
-}
-
-// Whether the segments are written as this text, whose decimal mark is a comma.
-fn is_written(alloc: Global, segments: &[Segment], text: &[u8]) -> bool {
-    let mut sink = sink_with_room(alloc, usize::MAX, false);
-    let wrote = write(segments, b',', &mut sink);
-    took_front(wrote, sink, text, usize::MAX)
-}
-
-fn long_tokens(alloc: Global) -> Result<Tokens, Fail> {
-    let text = long_text(alloc, b"\r\n")?;
-    tokens(alloc, &text)
 }
 
 #[test]
 fn a_text_longer_than_what_waits_is_written_whole(rt: HostRuntime) -> Result<(), Fail> {
     let want = long_text(rt.alloc(), WITH_COMMA)?;
-    let tokens = long_tokens(rt.alloc())?;
-    assert!(rt; is_written(rt.alloc(), tokens.segments.as_slice(), &want));
+    let text = long_text(rt.alloc(), b"\r\n")?;
+    let tokens = tokens(rt.alloc(), &text)?;
+    let segments = tokens.segments.as_slice();
+    assert!(rt; is_front_written(rt.alloc(), segments, b',', &want, usize::MAX, false));
     Ok(())
 }

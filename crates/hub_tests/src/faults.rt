@@ -9,7 +9,7 @@ ghost use Rattle.hub_store.specs.declared.fault.LastingFault.TheVariants as last
 ghost use Rattle.hub_store.specs.declared.fault.StoreFault.TheVariants.{Memory, Disk, Unclean, Version};
 
 use crate::lists::lists;
-use edi_base::{MemoryFault, copy_bytes};
+use edi_base::copy_bytes;
 use gs1_ids::Gln;
 use hub_store::{LastingFault, Store, StoreFault};
 use hub_tables::{Change, OrderRow};
@@ -109,14 +109,10 @@ fn commit_listed(store: &mut VecStore, changes: &[Change]) -> Result<(), StoreFa
 
 const ORDER: &[u8] = b"128575";
 
-fn order(alloc: Global, supplier: Gln) -> Result<Change, MemoryFault> {
-    let number = copy_bytes(alloc, ORDER)?;
-    Ok(Change::AddOrder(OrderRow { supplier, number }))
-}
-
 // Commits the order. From here on, each call is in a function of its own, to keep its contract out of other proofs.
 fn commit_order(alloc: Global, list: &mut VecStore, supplier: Gln) -> Result<(), StoreFault> {
-    let change = order(alloc, supplier)?;
+    let number = copy_bytes(alloc, ORDER)?;
+    let change = Change::AddOrder(OrderRow { supplier, number });
     commit_listed(list, slice::from_ref(&change))
 }
 
@@ -133,10 +129,6 @@ fn is_broken(trial: &mut TrialStore<VecStore>, supplier: &Gln) -> bool {
     let (first, fault, second) = ask_trial_twice(trial, supplier, ORDER);
     let disk = Err(StoreFault::Disk);
     first == disk && second == disk && fault == Some(LastingFault::Disk)
-}
-
-fn on_trial(list: VecStore) -> TrialStore<VecStore> {
-    TrialStore::failing(list, 1, StoreFault::Disk)
 }
 
 fn assert_list(
@@ -168,7 +160,8 @@ fn assert_faults(
     supplier: &Gln,
 ) -> Result<(), StoreFault> {
     assert_list(rt, alloc, &mut list, supplier)?;
-    assert_trial(rt, &mut on_trial(list), supplier)
+    let mut trial = TrialStore::failing(list, 1, StoreFault::Disk);
+    assert_trial(rt, &mut trial, supplier)
 }
 
 #[test]

@@ -101,14 +101,10 @@ fn is_answered<S: Store>(alloc: Global, hub: &mut Hub<S>, answer: &Answer) -> Re
     Ok(reply.body.as_slice() == *want && is_known(hub, row)? == *is_there)
 }
 
-fn hub_of_lists(alloc: Global) -> Result<Hub<VecStore>, Fail> {
-    let lists = lists(alloc)?;
-    Ok(hub_over(alloc, lists)?)
-}
-
 #[test]
 fn suppliers_join_a_hub_over_lists(rt: HostRuntime) -> Result<(), Fail> {
-    let mut hub = hub_of_lists(rt.alloc())?;
+    let lists = lists(rt.alloc())?;
+    let mut hub = hub_over(rt.alloc(), lists)?;
     for answer in &ANSWERS {
         assert!(rt;
             is_answered(rt.alloc(), &mut hub, answer)?,
@@ -139,14 +135,11 @@ fn hub_that_fails(
     Ok(hub_over(alloc, failing(lists, is_of_disk)))
 }
 
-fn fault_at_once(alloc: Global, is_of_disk: bool) -> Result<Option<StoreFault>, Fail> {
-    Ok(hub_that_fails(alloc, is_of_disk)?.err())
-}
-
 #[test]
 fn a_hub_wants_its_register(rt: HostRuntime) -> Result<(), Fail> {
     for (is_of_disk, fault) in [(false, StoreFault::Memory), (true, StoreFault::Disk)] {
-        assert_eq!(rt; fault_at_once(rt.alloc(), is_of_disk)?, Some(fault));
+        let made = hub_that_fails(rt.alloc(), is_of_disk)?;
+        assert_eq!(rt; made.err(), Some(fault));
     }
     Ok(())
 }

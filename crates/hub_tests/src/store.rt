@@ -9,6 +9,7 @@ use hub_tables::{
 };
 use std::alloc::Global;
 use std::process::Abort;
+use std::slice;
 use std::test::Fail;
 use trial_lists::VecStore;
 use trial_store::TrialStore;
@@ -58,19 +59,6 @@ fn line(alloc: Global, ids: &Ids, line: u32, open_qty: u32) -> Result<LineRow, M
     })
 }
 
-fn mail(alloc: Global, ids: &Ids, number: u64) -> Result<MailRow, MemoryFault> {
-    Ok(MailRow {
-        supplier: ids.supplier,
-        number,
-        moment: ids.moment,
-        decimal: b'.',
-        kind: Column::of(MailKind::Orders),
-        document: copy_bytes(alloc, ORDER)?,
-        body: copy_bytes(alloc, b"UNH+1'")?,
-        taken: Column::of(false),
-    })
-}
-
 // Appends a change. What is built so far is passed as a result, because an exit after each row makes the proof much
 // slower.
 fn with(
@@ -104,7 +92,16 @@ fn adding_line(alloc: Global, ids: &Ids, number: u32) -> Result<Change, MemoryFa
 }
 
 fn adding_mail(alloc: Global, ids: &Ids, number: u64) -> Result<Change, MemoryFault> {
-    Ok(Change::AddMail(mail(alloc, ids, number)?))
+    Ok(Change::AddMail(MailRow {
+        supplier: ids.supplier,
+        number,
+        moment: ids.moment,
+        decimal: b'.',
+        kind: Column::of(MailKind::Orders),
+        document: copy_bytes(alloc, ORDER)?,
+        body: copy_bytes(alloc, b"UNH+1'")?,
+        taken: Column::of(false),
+    }))
 }
 
 // Makes an order of two lines, with its mailbox entry, and a second entry.
@@ -143,22 +140,19 @@ fn adding_content(alloc: Global, ids: &Ids) -> Result<Change, MemoryFault> {
     }))
 }
 
-fn adding_receipt(ids: &Ids) -> Change {
-    Change::AddReceipt(ReceiptRow {
-        sscc: ids.pallet,
-        gtin: ids.item,
-        accepted: 40,
-        returned: 6,
-        destroyed: 2,
-    })
-}
-
 // Makes a pallet with one content and one receipt.
 fn despatched(alloc: Global, ids: &Ids) -> Result<Items<Change>, MemoryFault> {
     let changes = with(Ok(Items::new(alloc)), adding_advice(alloc, ids));
     let changes = with(changes, adding_pallet(alloc, ids));
     let changes = with(changes, adding_content(alloc, ids));
-    with(changes, Ok(adding_receipt(ids)))
+    let receipt = ReceiptRow {
+        sscc: ids.pallet,
+        gtin: ids.item,
+        accepted: 40,
+        returned: 6,
+        destroyed: 2,
+    };
+    with(changes, Ok(Change::AddReceipt(receipt)))
 }
 
 // What the look-ups of one supplier return: for several rows their numbers as digits, and for one row one of its
@@ -260,33 +254,12 @@ fn accepted(receipts: &[ReceiptRow]) -> (usize, u32) {
     }
 }
 
-// Whether this content is remembered.
-fn is_said(content: Option<Items<u8>>) -> bool {
-    match content {
-        Some(content) => content.as_slice() == SAID,
-        None => false,
-    }
-}
-
-// Whether there is a pallet, and it has this SSCC.
-fn is_of(pallet: Option<PalletRow>, sscc: &Sscc) -> bool {
-    match pallet {
-        Some(pallet) => pallet.sscc == *sscc,
-        None => false,
-    }
-}
-
-// Returns the number of an entry, or 0.
-fn number_of(entry: Option<MailRow>) -> u64 {
-    match entry {
-        Some(entry) => entry.number,
-        None => 0,
-    }
-}
-
 // The look-ups are in functions of their own, to keep the contract of each out of other proofs.
 fn is_remembered<S: Store>(store: &mut S, supplier: &Gln) -> Result<bool, StoreFault> {
-    Ok(is_said(store.remembered(supplier, Side::Retailer, b"1001", b"7")?))
+    match store.remembered(supplier, Side::Retailer, b"1001", b"7")? {
+        Some(content) => Ok(content.as_slice() == SAID),
+        None => Ok(false),
+    }
 }
 
 fn matches<S: Store>(
@@ -310,15 +283,22 @@ fn is_advised<S: Store>(store: &mut S, supplier: &Gln) -> Result<bool, StoreFaul
 }
 
 fn is_announced<S: Store>(store: &mut S, supplier: &Gln, sscc: &Sscc) -> Result<bool, StoreFault> {
-    Ok(is_of(store.pallet(supplier, sscc)?, sscc))
+    match store.pallet(supplier, sscc)? {
+        Some(pallet) => Ok(pallet.sscc == *sscc),
+        None => Ok(false),
+    }
 }
 
 fn last<S: Store>(store: &mut S, supplier: &Gln) -> Result<u64, StoreFault> {
     store.last_mail(supplier)
 }
 
+// Returns the number of an entry, or 0.
 fn entry<S: Store>(store: &mut S, supplier: &Gln) -> Result<u64, StoreFault> {
-    Ok(number_of(store.mail_item(supplier, 2)?))
+    match store.mail_item(supplier, 2)? {
+        Some(entry) => Ok(entry.number),
+        None => Ok(0),
+    }
 }
 
 fn untaken<S: Store>(store: &mut S, supplier: &Gln) -> Result<u64, StoreFault> {
@@ -370,7 +350,9 @@ fn see_mail<S: Store>(store: &mut S, ids: &Ids, seen: &mut Seen) -> Result<(), S
     Ok(())
 }
 
-fn see_pallet<S: Store>(store: &mut S, ids: &Ids, seen: &mut Seen) -> Result<(), StoreFault> {
+fn see_goods<S: Store>(store: &mut S, ids: &Ids, seen: &mut Seen) -> Result<(), StoreFault> {
+    seen.advice = is_advised(store, &ids.supplier)?;
+    seen.all_pallets = all_pallets(store, &ids.supplier)?;
     seen.pallet = is_announced(store, &ids.supplier, &ids.pallet)?;
     seen.contents = contents(store, ids)?;
     seen.receipts = receipts(store, ids)?;
@@ -385,19 +367,12 @@ fn see_any_pallet<S: Store>(store: &mut S, ids: &Ids, seen: &mut Seen) -> Result
     Ok(())
 }
 
-fn see_goods<S: Store>(store: &mut S, ids: &Ids, seen: &mut Seen) -> Result<(), StoreFault> {
-    seen.advice = is_advised(store, &ids.supplier)?;
-    seen.all_pallets = all_pallets(store, &ids.supplier)?;
-    Ok(())
-}
-
 fn look_ups<S: Store>(store: &mut S, ids: &Ids) -> Result<Seen, StoreFault> {
     let mut seen = NOTHING;
     see_order(store, ids, &mut seen)?;
     see_mail(store, ids, &mut seen)?;
-    see_pallet(store, ids, &mut seen)?;
-    see_any_pallet(store, ids, &mut seen)?;
     see_goods(store, ids, &mut seen)?;
+    see_any_pallet(store, ids, &mut seen)?;
     Ok(seen)
 }
 
@@ -409,23 +384,17 @@ fn commit<S: Store>(store: &mut S, changes: &[Change]) -> Result<(), StoreFault>
     store.commit(changes)
 }
 
-fn commit_all<S: Store>(store: &mut S, changes: Items<Change>) -> Result<(), StoreFault> {
-    commit(store, changes.as_slice())
-}
-
 // Commits an order of a supplier, and a pallet.
 fn add<S: Store>(alloc: Global, store: &mut S, ids: &Ids) -> Result<(), StoreFault> {
-    commit_all(store, ordered(alloc, ids)?)?;
-    commit_all(store, despatched(alloc, ids)?)
+    let order = ordered(alloc, ids)?;
+    commit(store, order.as_slice())?;
+    let pallet = despatched(alloc, ids)?;
+    commit(store, pallet.as_slice())
 }
 
 // Whether the look-ups of a supplier return this.
 fn is_seen<S: Store>(store: &mut S, ids: &Ids, want: &Seen) -> Result<bool, StoreFault> {
     Ok(look_ups(store, ids)? == *want)
-}
-
-fn has_counted(store: &TrialStore<VecStore>) -> bool {
-    store.look_ups() == 34 && store.commits() == 2
 }
 
 // The look-ups of a supplier that has rows, and of one that has none, are counted.
@@ -439,7 +408,7 @@ fn assert_counted(
     add(alloc, store, alpha)?;
     assert!(*rt; is_seen(store, alpha, &ALL)?, "alpha");
     assert!(*rt; is_seen(store, beta, &NOTHING)?, "beta");
-    assert!(*rt; has_counted(store), "calls");
+    assert!(*rt; store.look_ups() == 34 && store.commits() == 2, "calls");
     Ok(())
 }
 
@@ -451,51 +420,26 @@ fn lists_answer_each_look_up(rt: HostRuntime) -> Result<(), Fail> {
     Ok(assert_counted(&rt, rt.alloc(), &mut store, &alpha, &beta)?)
 }
 
-// The rows are there after they were added, and also after they were added again.
-fn assert_added_twice(
-    rt: &impl Abort,
-    alloc: Global,
-    store: &mut VecStore,
-    alpha: &Ids,
-) -> Result<(), StoreFault> {
-    for round in ["new", "there"] {
-        add(alloc, store, alpha)?;
-        assert!(*rt; is_seen(store, alpha, &ALL)?, "{round}");
-    }
-    Ok(())
-}
-
-fn setting_none(alloc: Global, ids: &Ids) -> Result<Change, MemoryFault> {
-    Ok(Change::SetLine(line(alloc, ids, 3, 0)?))
-}
-
 // Sets a line that does not exist.
-fn set_none<S: Store>(alloc: Global, store: &mut S, ids: &Ids) -> Result<(), StoreFault> {
-    commit_all(
-        store,
-        with(Ok(Items::new(alloc)), setting_none(alloc, ids))?,
-    )
+fn set_none(alloc: Global, store: &mut VecStore, ids: &Ids) -> Result<(), StoreFault> {
+    let change = Change::SetLine(line(alloc, ids, 3, 0)?);
+    commit(store, slice::from_ref(&change))
 }
 
-fn assert_none_set(
-    rt: &impl Abort,
-    alloc: Global,
-    store: &mut VecStore,
-    alpha: &Ids,
-) -> Result<(), StoreFault> {
-    set_none(alloc, store, alpha)?;
-    assert!(*rt; is_seen(store, alpha, &ALL)?, "no such line");
-    Ok(())
-}
-
+// The rows are there after they were added, after they were added again, and after a line was set that does not exist.
 fn assert_left_out(
     rt: &impl Abort,
     alloc: Global,
     lists: &mut VecStore,
     alpha: &Ids,
 ) -> Result<(), StoreFault> {
-    assert_added_twice(rt, alloc, lists, alpha)?;
-    assert_none_set(rt, alloc, lists, alpha)
+    for round in ["new", "there"] {
+        add(alloc, lists, alpha)?;
+        assert!(*rt; is_seen(lists, alpha, &ALL)?, "{round}");
+    }
+    set_none(alloc, lists, alpha)?;
+    assert!(*rt; is_seen(lists, alpha, &ALL)?, "no such line");
+    Ok(())
 }
 
 #[test]
@@ -510,10 +454,6 @@ fn failing<S: Store + Drop>(store: S, calls: u64, fault: StoreFault) -> Option<T
         StoreFault::Memory | StoreFault::Disk => Some(TrialStore::failing(store, calls, fault)),
         StoreFault::Unclean | StoreFault::Version => None,
     }
-}
-
-fn fault_for_good<S: Store>(store: &S) -> Option<LastingFault> {
-    store.fault()
 }
 
 // Returns the result of a store around this one, which fails at once with lack of memory.
@@ -536,7 +476,7 @@ fn told<S: Store + Drop>(mut store: S, supplier: &Gln, changes: &[Change]) -> To
     let done = commit(&mut store, changes);
     let first = is_known(&mut store, supplier);
     let second = is_known(&mut store, supplier);
-    let lasting = fault_for_good(&store);
+    let lasting = store.fault();
     let around = known_around(store, supplier);
     (done, first, second, lasting, around)
 }
@@ -573,18 +513,6 @@ static FAILURES: [Failure; 4] = [
     ),
 ];
 
-// Returns the results of lists that fail in this way.
-fn told_by_lists(
-    lists: VecStore,
-    fault: StoreFault,
-    calls: u64,
-    supplier: &Gln,
-    changes: &[Change],
-) -> Option<Told> {
-    let store = failing(lists, calls, fault)?;
-    Some(told(store, supplier, changes))
-}
-
 // Whether this is the result. A fault that was not wanted is passed on.
 fn is_answer<T: PartialEq + Copy>(
     found: Result<T, StoreFault>,
@@ -611,32 +539,23 @@ fn is_told(
 ) -> Result<bool, Fail> {
     let (fault, calls, want) = failure;
     let lists = lists(alloc)?;
-    match told_by_lists(lists, *fault, *calls, supplier, changes) {
-        Some(found) => Ok(are_answers(found, want)?),
+    match failing(lists, *calls, *fault) {
+        Some(store) => Ok(are_answers(told(store, supplier, changes), want)?),
         None => Ok(false),
     }
-}
-
-fn assert_failures(
-    rt: &impl Abort,
-    alloc: Global,
-    supplier: &Gln,
-    changes: &[Change],
-) -> Result<(), Fail> {
-    for failure in &FAILURES {
-        assert!(*rt;
-            is_told(alloc, failure, supplier, changes)?,
-            "{:?} behind {} calls",
-            failure.0,
-            failure.1
-        );
-    }
-    Ok(())
 }
 
 #[test]
 fn a_store_that_fails_keeps_its_rows(rt: HostRuntime) -> Result<(), Fail> {
     let alpha = ids_of(ALPHA).ok_or("alpha")?;
     let changes = ordered(rt.alloc(), &alpha)?;
-    assert_failures(&rt, rt.alloc(), &alpha.supplier, changes.as_slice())
+    for failure in &FAILURES {
+        assert!(rt;
+            is_told(rt.alloc(), failure, &alpha.supplier, changes.as_slice())?,
+            "{:?} behind {} calls",
+            failure.0,
+            failure.1
+        );
+    }
+    Ok(())
 }

@@ -1,15 +1,15 @@
 ghost use Rattle.std.specs.Prelude.{IfSome};
 ghost use Rattle.edi_relay.specs.Relay.{AreRelayWords};
 
+use crate::doubles::{Brittle, Slow, room_for};
+use edi_base::ReadFault;
 use edi_envelope::Moment;
 use edi_relay::{RelayWords, relay_run, relay_text};
-use edi_tokens::{ReadFault, Sink, Source};
 use hub_commands::{RegisterTextFault, check_run, key_in, read_key, read_register_text, show_run};
 use std::alloc::Global;
-use std::io;
 use std::test::Fail;
 
-const ORDERS: &[u8] =
+pub(crate) const ORDERS: &[u8] =
     b"UNA:+.? 'UNB+UNOC:3+5412345000013:14+5412345000006:14+250603:0915+1001'UNH+1+ORDERS:D:01B:UN:EAN010'\
         BGM+220+128576+9'DTM+137:20250603:102'NAD+BY+5412345000013::9'NAD+SU+4012345500004::9'\
         LIN+1++4000862141404:SRV'QTY+21:48'UNS+S'CNT+2:1'UNT+10+1'UNZ+1+1001'";
@@ -30,73 +30,12 @@ fn words() -> Option<RelayWords>
     )
 }
 
-fn becomes_mail(alloc: Global) -> Result<bool, Fail> {
-    let words = words().ok_or("words")?;
-    Ok(relay_text(alloc, ORDERS, &words)?.as_slice() == MAIL)
-}
-
 #[test]
 fn an_order_becomes_its_mail(rt: HostRuntime) -> Result<(), Fail> {
-    assert!(rt; becomes_mail(rt.alloc())?);
+    let words = words().ok_or("words")?;
+    let mail = relay_text(rt.alloc(), ORDERS, &words)?;
+    assert!(rt; mail.as_slice() == MAIL);
     Ok(())
-}
-
-// A reader that returns what it has, and then ends, or returns an error.
-#[derive(Drop)]
-struct Brittle<'a> {
-    left: &'a [u8],
-    fails: bool,
-}
-
-impl Source for Brittle<'_> {
-    ghost use Rattle.std.specs.Prelude.{true};
-
-    ghost failed = { λ _. true };
-
-    fn read(&mut self, buffer: &mut [u8]) -> io::Result<usize> {
-        if self.fails && self.left.is_empty() {
-            return Err(io::Error::from(io::ErrorKind::Other));
-        }
-        io::Read::read(&mut self.left, buffer)
-    }
-}
-
-// A writer that accepts one byte at a time, and after some of them nothing, or returns an error.
-#[derive(Drop)]
-struct Slow {
-    taken: Vec<u8>,
-    room: usize,
-    answers_error: bool,
-}
-
-impl Sink for Slow {
-    ghost use Rattle.std.specs.Prelude.{true};
-
-    ghost failed = { λ _. true };
-
-    fn write(&mut self, bytes: &[u8]) -> io::Result<usize> {
-        if bytes.is_empty() {
-            return Ok(0);
-        }
-        if self.taken.len() >= self.room {
-            return if self.answers_error {
-                Err(io::Error::from(io::ErrorKind::Other))
-            } else {
-                Ok(0)
-            };
-        }
-        self.taken.push(bytes[0])?;
-        Ok(1)
-    }
-}
-
-// Makes a writer with this much room.
-fn room_for(alloc: Global, room: usize, answers_error: bool) -> Slow {
-    Slow {
-        taken: Vec::new(alloc),
-        room,
-        answers_error,
-    }
 }
 
 // Whether this is the outcome: a status, what was printed, and what was reported of a fault. Lack of memory is an
@@ -257,7 +196,7 @@ const SHOWN: &[u8] =
 
 const CUT_SHOWN: &[u8] = b"refused E04 text cut at offset 200 line 1 segment 7\n";
 
-// Runs of `show` on a prefix of the order: its length, whether the read after it fails, how many bytes the output
+// Runs of `show` on a prefix of a text: its length, whether the read after it fails, how many bytes the output
 // accepts, and whether the next write fails; then the status, the lines of which a part is printed and how much of
 // them, and what is reported of a fault.
 type ShowRun = (
@@ -282,14 +221,35 @@ static SHOW_RUNS: [ShowRun; 8] = [
     (200, false, 51, false, 3, CUT_SHOWN, 51, "file\n"),
 ];
 
+// An order, and one without its BGM.
+const TWO: &[u8] =
+    b"UNB+UNOC:3+5412345000013:14+5412345000006:14+250603:0915+1001'UNH+1+ORDERS:D:01B:UN:EAN010'BGM+220+128576+9'\
+        DTM+137:20250603:102'NAD+BY+5412345000013::9'NAD+SU+4012345500004::9'LIN+1++4000862141404:SRV'QTY+21:48'\
+        UNS+S'CNT+2:1'UNT+10+1'UNH+2+ORDERS:D:01B:UN:EAN010'UNT+2+2'UNZ+2+1001'";
+
+const TWO_SHOWN: &[u8] =
+    b"service component : element + decimal . release ? terminator '\ninterchange 1001\n  sender 5412345000013\
+        \n  recipient 5412345000006\n  prepared 250603 0915\n  messages 2\nmessage 1\n  reference 1\n  type ORDERS\
+        \n  order 128576\n  buyer 5412345000013\n  supplier 4012345500004\n  line 1 item 04000862141404 ordered 48\
+        \nmessage 2\n  reference 2\n  type ORDERS\n  refused M02 beginning of the message at segment 13\n";
+
+// Texts of which a part is refused, or all, and the lines that show each.
+static REFUSED: [(&[u8], &[u8]); 2] = [
+    (TWO, TWO_SHOWN),
+    (
+        b"UNB+UNOC:3+S:14+R:14+250603:0915+1'UNH+1+A:1:2:3'UNT+2+1'UNH+1+A:1:2:3'UNT+2+1'UNZ+2+1'",
+        b"refused E16 repeated message reference at segment 4\n",
+    ),
+];
+
 // A function of its own, to keep the contract of the call out of other proofs.
 fn show(alloc: Global, input: &mut Brittle<'_>, out: &mut Slow, err: &mut Slow) -> u8 {
     show_run(alloc, input, out, err)
 }
 
-fn is_shown(alloc: Global, run: &ShowRun) -> Result<bool, Fail> {
+fn is_shown(alloc: Global, text: &[u8], run: &ShowRun) -> Result<bool, Fail> {
     let (length, fails, room, write_fails, status, lines, printed, told) = *run;
-    let left = ORDERS.get(..length).ok_or("a front")?;
+    let left = text.get(..length).ok_or("a front")?;
     let mut out = room_for(alloc, room, write_fails);
     let mut err = room_for(alloc, usize::MAX, false);
     let answered = show(alloc, &mut Brittle { left, fails }, &mut out, &mut err);
@@ -301,16 +261,29 @@ fn is_shown(alloc: Global, run: &ShowRun) -> Result<bool, Fail> {
 fn an_order_is_shown(rt: HostRuntime) -> Result<(), Fail> {
     for run in &SHOW_RUNS {
         assert!(rt;
-            is_shown(rt.alloc(), run)?,
+            is_shown(rt.alloc(), ORDERS, run)?,
             "{} bytes, room for {}",
             run.0,
             run.2
         );
     }
+    for (text, lines) in &REFUSED {
+        let run = (
+            text.len(),
+            false,
+            usize::MAX,
+            false,
+            1,
+            *lines,
+            lines.len(),
+            "",
+        );
+        assert!(rt; is_shown(rt.alloc(), text, &run)?, "{lines:?}");
+    }
     Ok(())
 }
 
-const REGISTER: &str =
+pub(crate) const REGISTER: &str =
     "hub = \"5412345000006\"\nretailer = { gln = \"5412345000013\", key = \"retail-key\" }\n[[supplier]]\
         \ngln = \"4012345500004\"\nprefix = \"40123455\"\nkey = \"alpha-key-1\"\n";
 
@@ -371,17 +344,11 @@ fn is_limit_kept(alloc: Global) -> Result<bool, Fail> {
 
 // The bytes of an input, whether the read after them fails, and whether it is read as the text of a register.
 static TEXTS: [(&str, &[u8], bool, bool); 3] = [
-    (
-        "a register",
-        b"hub = \"5412345000006\"\nretailer = { gln = \"5412345000013\", key = \"retail-key\" }\n[[supplier]]\
-            \ngln = \"4012345500004\"\nprefix = \"40123455\"\nkey = \"alpha-key-1\"\n",
-        false,
-        true,
-    ),
+    ("a text", b"hub = \"5412345000006\"\n", false, true),
     ("no text", b"hub = \"\xff\"", false, false),
     (
         "a read that fails",
-        b"hub = \"5412345000006\"\nretailer = { gln =",
+        b"hub = \"5412345000006\"\n",
         true,
         false,
     ),

@@ -1,10 +1,9 @@
-use edi_base::{OfWrite, WriteFault};
+use crate::doubles::{Slow, room_for};
+use edi_base::WriteFault;
 use http::StatusCode;
 use http_messages::write_response;
 use std::alloc::Global;
-use std::io;
-use std::io::Write;
-use std::test::*;
+use std::test::Fail;
 
 // The list of a mailbox with one order.
 const BODY: &[u8] = b"             1 ORDERS 128576\nend\n";
@@ -13,41 +12,9 @@ const TEXT: &[u8] =
     b"HTTP/1.1 200 OK\r\nContent-Type: application/octet-stream\r\nContent-Length: 33\r\nConnection: close\
         \r\n\r\n             1 ORDERS 128576\nend\n";
 
-/// A writer with room for this many bytes, which accepts a few at a time, and then nothing.
-#[derive(Drop)]
-struct Narrow {
-    written: Vec<u8>,
-    room: usize,
-}
-
-impl Write for Narrow {
-    fn write(&mut self, bytes: &[u8]) -> io::Result<usize> {
-        let count = bytes.len().min(7).min(self.room);
-        self.written.extend_from_slice(&bytes[..count])?;
-        self.room -= count;
-        Ok(count)
-    }
-
-    fn flush(&mut self) -> io::Result<()> {
-        Ok(())
-    }
-}
-
-/// Writes a response to a writer with this much room. Returns the result, whether the writer has failed, and what was
-/// written.
-fn send_response(
-    alloc: Global,
-    status: StatusCode,
-    body: &[u8],
-    room: usize,
-) -> (Result<(), WriteFault>, bool, Vec<u8>) {
-    let mut out = OfWrite::new(Narrow {
-        written: Vec::new(alloc),
-        room,
-    });
-    let result = write_response(&mut out, status, body);
-    let failed = out.has_failed();
-    (result, failed, out.into_inner().written)
+// A function of its own, to keep the contract of the call out of the tests.
+fn respond(out: &mut Slow, status: StatusCode, body: &[u8]) -> Result<(), WriteFault> {
+    write_response(out, status, body)
 }
 
 static RESPONSES: [(u16, &[u8], &[u8]); 6] = [
@@ -84,10 +51,9 @@ static RESPONSES: [(u16, &[u8], &[u8]); 6] = [
 
 // Whether as much of a response is written as the writer has room for, and it fails if that is not the whole.
 fn is_written(alloc: Global, status: StatusCode, body: &[u8], text: &[u8], room: usize) -> bool {
-    let (result, failed, written) = send_response(alloc, status, body, room);
-    let is_whole = room == text.len();
-    let front = text.get(..room);
-    result.is_ok() == is_whole && failed == !is_whole && Some(written.as_slice()) == front
+    let mut out = room_for(alloc, room, false);
+    let result = respond(&mut out, status, body);
+    result.is_ok() == (room == text.len()) && Some(out.taken.as_slice()) == text.get(..room)
 }
 
 #[test]

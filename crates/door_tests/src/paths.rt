@@ -1,6 +1,6 @@
 use hub_http::{Paths, Route, parts_in};
 use std::alloc::Global;
-use std::test::*;
+use std::test::Fail;
 
 // The route of a path, the caller, and the part in place of `{n}` or `{supplier}`, if the route has one.
 type Found<'p> = Option<(Route, &'p [u8], &'p [u8])>;
@@ -72,14 +72,10 @@ static PATHS: [Row; 28] = [
     ("http://hub/p/a/status", None),
 ];
 
-fn is_found(alloc: Global, row: &Row) -> Result<bool, Fail> {
-    Ok(found(alloc, row.0)? == row.1)
-}
-
 #[test]
 fn paths_and_near_misses(rt: HostRuntime) -> Result<(), Fail> {
-    for row in &PATHS {
-        assert!(rt; is_found(rt.alloc(), row)?, "{}", row.0);
+    for (path, want) in &PATHS {
+        assert!(rt; found(rt.alloc(), path)? == *want, "{path}");
     }
     Ok(())
 }

@@ -1,19 +1,15 @@
 ghost use Rattle.std.specs.Prelude.{length};
 
-use crate::lists::lists;
-use edi_base::{MemoryFault, ReadFault, Sink, Source, copy_bytes};
+use crate::commands::{ORDERS, REGISTER};
+use crate::doubles::{Brittle, Slow, room_for};
+use edi_base::{MemoryFault, ReadFault, copy_bytes};
 use edi_envelope::Moment;
 use gs1_ids::Gln;
 use hub_commands::{Files, Hub, Input, NamedFile, NextFile, Request, import_run};
+use hub_register::{Register, RegisterFault};
 use std::alloc::Global;
-use std::io;
 use std::test::Fail;
 use trial_lists::VecStore;
-
-const ORDERS: &[u8] =
-    b"UNA:+.? 'UNB+UNOC:3+5412345000013:14+5412345000006:14+250603:0915+1001'UNH+1+ORDERS:D:01B:UN:EAN010'\
-        BGM+220+128576+9'DTM+137:20250603:102'NAD+BY+5412345000013::9'NAD+SU+4012345500004::9'\
-        LIN+1++4000862141404:SRV'QTY+21:48'UNS+S'CNT+2:1'UNT+10+1'UNZ+1+1001'";
 
 // How the bytes of a file arrive.
 #[derive(Clone, Copy)]
@@ -80,40 +76,15 @@ static NO_MEMORY: [Row; 3] = [
     ORDER,
 ];
 
-// A reader that returns what it has, and then ends, or returns an error.
-#[derive(Drop)]
-struct Brittle {
-    left: &'static [u8],
-    fails: bool,
-}
-
-impl Source for Brittle {
-    ghost use Rattle.std.specs.Prelude.{true};
-
-    ghost failed = { λ _. true };
-
-    fn read(&mut self, buffer: &mut [u8]) -> io::Result<usize> {
-        if self.fails && self.left.is_empty() {
-            return Err(io::Error::from(io::ErrorKind::Other));
-        }
-        io::Read::read(&mut self.left, buffer)
-    }
-}
-
-fn file_of(alloc: Global, row: &Row) -> Result<NextFile<Brittle>, MemoryFault> {
+fn file_of(alloc: Global, row: &Row) -> Result<NextFile<Brittle<'static>>, MemoryFault> {
     let Some(name) = row.name else {
         return Ok(NextFile::Unnamed);
     };
     let name = String::from_str(alloc, name)?;
+    let left = row.bytes;
     let source = match row.how {
-        How::Whole => Ok(Brittle {
-            left: row.bytes,
-            fails: false,
-        }),
-        How::Failing => Ok(Brittle {
-            left: row.bytes,
-            fails: true,
-        }),
+        How::Whole => Ok(Brittle { left, fails: false }),
+        How::Failing => Ok(Brittle { left, fails: true }),
         How::Shut => Err(ReadFault::Read),
         How::NoMemory => Err(ReadFault::Memory),
     };
@@ -127,34 +98,17 @@ struct Given {
 }
 
 impl Files for Given {
-    type Bytes = Brittle;
+    type Bytes = Brittle<'static>;
 
     ghost most = { λ given. length given.left.now };
 
-    fn next(&mut self, alloc: Global) -> Result<Option<NextFile<Brittle>>, MemoryFault> {
+    fn next(&mut self, alloc: Global) -> Result<Option<NextFile<Brittle<'static>>>, MemoryFault> {
         let Some((row, rest)) = self.left.split_first() else {
             return Ok(None);
         };
         let file = file_of(alloc, row)?;
         self.left = rest;
         Ok(Some(file))
-    }
-}
-
-// Collects what is printed.
-#[derive(Drop)]
-struct Printed {
-    bytes: Vec<u8>,
-}
-
-impl Sink for Printed {
-    ghost use Rattle.std.specs.Prelude.{true};
-
-    ghost failed = { λ _. true };
-
-    fn write(&mut self, bytes: &[u8]) -> io::Result<usize> {
-        self.bytes.extend_from_slice(bytes)?;
-        Ok(bytes.len())
     }
 }
 
@@ -167,7 +121,7 @@ fn import(
     alloc: Global,
     hub: &mut Hub<VecStore>,
     rows: &'static [Row],
-    printed: &mut Printed,
+    printed: &mut Slow,
 ) -> Option<u8> {
     let (caller, moment) = retailer()?;
     let mut files = Given { left: rows };
@@ -182,8 +136,18 @@ fn import(
     ))
 }
 
+// A function of its own, as for each call, to keep its contract out of other proofs.
+fn register(alloc: Global) -> Result<Register, RegisterFault> {
+    Register::from_toml(alloc, REGISTER)
+}
+
+fn founded(alloc: Global, register: &Register) -> Result<VecStore, MemoryFault> {
+    VecStore::new(alloc, register)
+}
+
 fn hub_of_one(alloc: Global) -> Result<Hub<VecStore>, Fail> {
-    let lists = lists(alloc)?;
+    let register = register(alloc)?;
+    let lists = founded(alloc, &register)?;
     match Hub::new(alloc, lists) {
         Ok(hub) => Ok(hub),
         Err((_, fault)) => Err(fault.into()),
@@ -205,12 +169,10 @@ fn files_come_one_after_another(rt: HostRuntime) -> Result<(), Fail> {
         (TO_THE_END.as_slice(), TOLD_TO_THE_END),
         (NO_MEMORY.as_slice(), TOLD_WITHOUT_MEMORY),
     ] {
-        let mut printed = Printed {
-            bytes: Vec::new(rt.alloc()),
-        };
+        let mut printed = room_for(rt.alloc(), usize::MAX, false);
         let status = import(rt.alloc(), &mut hub, rows, &mut printed);
         assert_eq!(rt; status, Some(3));
-        assert_eq!(rt; printed.bytes.as_slice(), told);
+        assert_eq!(rt; printed.taken.as_slice(), told);
     }
     Ok(())
 }
@@ -226,14 +188,10 @@ fn asked(alloc: Global) -> Result<Input, Fail> {
     })
 }
 
-fn shown(alloc: Global) -> Result<String, Fail> {
-    let input = asked(alloc)?;
-    Ok(format!(in alloc; "{input:?}")?)
-}
-
 #[test]
 fn the_key_of_an_input_is_not_shown(rt: HostRuntime) -> Result<(), Fail> {
-    let shown = shown(rt.alloc())?;
+    let input = asked(rt.alloc())?;
+    let shown = format!(in rt.alloc(); "{input:?}")?;
     assert!(rt; shown.contains("key: Key(..), request: Status"));
     assert!(rt; !shown.contains("114, 101, 116"));
     Ok(())

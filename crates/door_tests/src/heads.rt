@@ -1,17 +1,19 @@
-use crate::steps::{Steps, in_steps, left_of};
+use crate::doubles::{Steps, in_steps, left_of};
 use edi_base::{Items, OfRead, ReadFault};
 use http_messages::{HeadFault, HttpHead, Values, read_body, read_head};
 use std::alloc::{AllocError, Global};
 
-// A head: its start, a piece that is repeated this many times, and its end; and what is read from it, if it is a head:
-// its method, its target, and the values of its fields `X-Key`.
+// What is read from a head: its method, its target, and the values of its fields `X-Key`.
+type Read = (&'static [u8], &'static str, Key);
+
+// A head: its start, a piece that is repeated this many times, and its end; and what is read from it, if it is a head.
 type Row = (
     &'static str,
     &'static [u8],
     &'static [u8],
     usize,
     &'static [u8],
-    Option<(&'static [u8], &'static str, Key)>,
+    Option<Read>,
 );
 
 #[derive(Clone, Copy)]
@@ -26,40 +28,21 @@ const BEHIND: &[u8] = b"body\r\n\r\n";
 
 const START: &[u8] = b"GET /a HTTP/1.1\r\n";
 
+// The start of a head whose first field is long.
+const LONG: &[u8] = b"GET /a HTTP/1.1\r\nA: ";
+
+const NO_KEY: Option<Read> = Some((b"GET", "/a", Key::Absent));
+
+const ONE_KEY: Option<Read> = Some((b"GET", "/a", Key::One(b"k")));
+
+const KEYS: Option<Read> = Some((b"GET", "/a", Key::Several));
+
 static HEADS: [Row; 27] = [
-    (
-        "no fields",
-        START,
-        b"",
-        0,
-        b"\r\n",
-        Some((b"GET", "/a", Key::Absent)),
-    ),
-    (
-        "32 fields",
-        START,
-        b"A: 1\r\n",
-        32,
-        b"\r\n",
-        Some((b"GET", "/a", Key::Absent)),
-    ),
+    ("no fields", START, b"", 0, b"\r\n", NO_KEY),
+    ("32 fields", START, b"A: 1\r\n", 32, b"\r\n", NO_KEY),
     ("33 fields", START, b"A: 1\r\n", 33, b"\r\n", None),
-    (
-        "8,192 bytes",
-        b"GET /a HTTP/1.1\r\nA: ",
-        b"1",
-        8168,
-        b"\r\n\r\n",
-        Some((b"GET", "/a", Key::Absent)),
-    ),
-    (
-        "8,193 bytes",
-        b"GET /a HTTP/1.1\r\nA: ",
-        b"1",
-        8169,
-        b"\r\n\r\n",
-        None,
-    ),
+    ("8,192 bytes", LONG, b"1", 8168, b"\r\n\r\n", NO_KEY),
+    ("8,193 bytes", LONG, b"1", 8169, b"\r\n\r\n", None),
     (
         "a target of 8,192 bytes",
         b"GET /",
@@ -70,11 +53,11 @@ static HEADS: [Row; 27] = [
     ),
     (
         "empty lines first",
-        b"\r\n\nGET /a HTTP/1.1\r\n",
+        b"\r\n\n",
         b"",
         0,
-        b"\r\n",
-        Some((b"GET", "/a", Key::Absent)),
+        b"GET /a HTTP/1.1\r\n\r\n",
+        NO_KEY,
     ),
     (
         "empty lines of 8,192 bytes",
@@ -116,14 +99,7 @@ static HEADS: [Row; 27] = [
         b"\r\n",
         Some((b"GET", "/\u{e4}", Key::Absent)),
     ),
-    (
-        "a target that is no UTF-8",
-        b"GET /\xe4 HTTP/1.1\r\n",
-        b"",
-        0,
-        b"\r\n",
-        None,
-    ),
+    ("no UTF-8", b"GET /\xe4 HTTP/1.1\r\n", b"", 0, b"\r\n", None),
     (
         "a key",
         START,
@@ -138,68 +114,33 @@ static HEADS: [Row; 27] = [
         b"X-Keys: 2\r\n",
         9,
         b"x-kEY:k\r\nX-Ke: 3\r\n\r\n",
-        Some((b"GET", "/a", Key::One(b"k"))),
+        ONE_KEY,
     ),
     (
         "an empty key",
         START,
-        b"",
-        0,
-        b"X-Key: \r\n\r\n",
+        b"X-Key: \r\n",
+        1,
+        b"\r\n",
         Some((b"GET", "/a", Key::One(b""))),
     ),
-    (
-        "two keys",
-        START,
-        b"X-Key: k\r\n",
-        2,
-        b"\r\n",
-        Some((b"GET", "/a", Key::Several)),
-    ),
-    (
-        "three keys",
-        START,
-        b"X-Key:\r\n",
-        3,
-        b"\r\n",
-        Some((b"GET", "/a", Key::Several)),
-    ),
+    ("two keys", START, b"X-Key: k\r\n", 2, b"\r\n", KEYS),
+    ("three keys", START, b"X-Key:\r\n", 3, b"\r\n", KEYS),
     ("HTTP/2.0", b"GET /a HTTP/2.0\r\n", b"", 0, b"\r\n", None),
     ("HTTP/1.2", b"GET /a HTTP/1.2\r\n", b"", 0, b"\r\n", None),
     ("no target", b"GET HTTP/1.1\r\n", b"", 0, b"\r\n", None),
     ("two blanks", b"GET  /a HTTP/1.1\r\n", b"", 0, b"\r\n", None),
-    (
-        "a field without a colon",
-        START,
-        b"",
-        0,
-        b"X-Key\r\n\r\n",
-        None,
-    ),
-    (
-        "a blank before the colon",
-        START,
-        b"",
-        0,
-        b"X-Key : k\r\n\r\n",
-        None,
-    ),
+    ("no colon", START, b"X-Key\r\n", 1, b"\r\n", None),
+    ("a blank first", START, b"X-Key : k\r\n", 1, b"\r\n", None),
     (
         "a folded field",
         START,
-        b"",
-        0,
-        b"X-Key: k\r\n l\r\n\r\n",
-        None,
-    ),
-    (
-        "a line that ends with CR alone",
-        b"GET /a HTTP/1.1\r",
-        b"",
-        0,
+        b"X-Key: k\r\n l\r\n",
+        1,
         b"\r\n",
         None,
     ),
+    ("CR alone", b"GET /a HTTP/1.1\r", b"", 0, b"\r\n", None),
     ("nothing of a head", b"", b"\x00", 1, b"", None),
 ];
 
