@@ -63,6 +63,7 @@ NAMED = [
     (join(prefixes="761"), PREFIXES),
     (join(prefixes="7612345,7612345"), PREFIXES),
     (join(prefixes=","), PREFIXES),
+    (join(prefixes="7612,"), PREFIXES),
     (serve(port="0"), "--port is 1 to 65535"),
     (serve(port="65536"), "--port is 1 to 65535"),
     (serve(count="0"), "--count is 1 to 1000000"),
