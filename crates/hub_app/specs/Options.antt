@@ -1,5 +1,5 @@
 -- Reads the values of options.
-use Rattle.std.specs.Prelude.{ℕ, Bool, false, codes, ◌++◌, ◌&&◌, if◌then◌else◌, nat_eq, nat_le, List, [], ◌∷◌}
+use Rattle.std.specs.Prelude.{ℕ, Bool, false, codes, ◌&&◌, if◌then◌else◌, nat_eq, nat_le, List, [], ◌∷◌}
 use Rattle.std.specs.Prelude.{Option, Some, None, option_map, option_and_then}
 use Rattle.std.specs.List.{list_all, slice_split}
 use Rattle.std.specs.Str.{bytes_eq}

@@ -1,5 +1,5 @@
 -- Calls one after another, and what they tell.
-use Rattle.std.proofs.Common.{◌≡◌, Result, Ok, Err, refl, ◌∙◌, subst}
+use Rattle.std.proofs.Common.{Result, Ok, Err, refl, ◌∙◌, subst}
 use Rattle.hub_store.specs.declared.fault.StoreFault.{StoreFault}
 use Rattle.hub_tables.specs.Tables.{Tables}
 use Rattle.hub_pieces.specs.AllRows.{Tells}

@@ -27,7 +27,7 @@ use Rattle.hub_tables.proofs.KindOrders.{key_total, ordered_after}
 use Rattle.hub_tables.proofs.Lists.{all_weaker, differ, same_is}
 use Rattle.hub_tables.proofs.Setting.{rises_set}
 use Rattle.hub_law.specs.HubRules.Laws.{SoundHub}
-use Rattle.hub_law.specs.HubRules.Sound.{IsRooted, Kept, Rooted, Sound}
+use Rattle.hub_law.specs.HubRules.Sound.{IsRooted, Kept, Rooted}
 use Rattle.hub_rekey.specs.KeyChange.{rekeyed, with_retailers, with_suppliers}
 use Rattle.hub_rekey.specs.declared.key_change.KeyOwner.{KeyOwner}
 use Rattle.hub_rekey.specs.declared.key_change.KeyOwner.TheVariants.{Retailer, Supplier}

@@ -1,9 +1,8 @@
 -- What is on the pallets of a supplier, gathered pallet by pallet, is what it sees.
 use Rattle.std.proofs.Common.{◌≡◌, ◌⊎◌, ℕ, ◌+◌, ◌==◌, Bool, true, false, ◌&&◌, ◌||◌, cond, inl, inr, List, [], ◌∷◌, ◌++◌, filter}
-use Rattle.std.proofs.Common.{sum_by, Option, Some, None, refl, sym, ◌∙◌, ap, ap₂, subst, arith}
-use Rattle.std.specs.List.{AllByRecursion, list_all, list_any}
+use Rattle.std.proofs.Common.{sum_by, Option, Some, None, refl, sym, ◌∙◌, ap, ap₂, arith}
+use Rattle.std.specs.List.{list_all, list_any}
 use Rattle.std.specs.declared.cmp.Ordering.TheVariants.{Less}
-use Rattle.std.proofs.lemmas.Bool.{or_parts}
 use Rattle.std.proofs.lemmas.List.Sums.{sum_by-cons}
 use Rattle.hub_parties.specs.KeyOrder.{Rises}
 use Rattle.hub_rules.proofs.Prefixes.{holds_seen}

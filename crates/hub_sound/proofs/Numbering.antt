@@ -1,9 +1,8 @@
 -- Entries that are the first of their mailbox or have the one before them are numbered from 1, and only these are.
-use Rattle.std.proofs.Common.{◌≡◌, ◌⊎◌, ℕ, ◌+◌, ◌-◌, ◌<◌, ◌≤◌, ◌==◌, Bool, true, false, ◌||◌, cond, inl, inr, List, [], ◌∷◌}
-use Rattle.std.proofs.Common.{filter, find, is_some, Option, Some, None, refl, sym, ◌∙◌, ap, subst, arith}
-use Rattle.std.specs.List.{AllByRecursion, list_any}
+use Rattle.std.proofs.Common.{◌≡◌, ◌⊎◌, ℕ, ◌+◌, ◌-◌, ◌<◌, ◌≤◌, ◌==◌, true, false, cond, inl, inr, List, [], ◌∷◌}
+use Rattle.std.proofs.Common.{find, is_some, Some, refl, sym, ◌∙◌, ap, arith}
+use Rattle.std.specs.List.{AllByRecursion}
 use Rattle.std.specs.Ordering.{nat_cmp, ordering_then}
-use Rattle.std.specs.declared.cmp.Ordering.{Ordering}
 use Rattle.std.specs.declared.cmp.Ordering.TheVariants.{Less, Equal}
 use Rattle.std.proofs.lemmas.Bool.Decides.{nat_tests}
 use Rattle.std.proofs.lemmas.Cmp.{tied_itself, nat_list_cmp_total}
@@ -11,7 +10,7 @@ use Rattle.hub_parties.specs.KeyOrder.{bytes_cmp, Rises}
 use Rattle.hub_tables.specs.Rows.{mail_cmp}
 use Rattle.hub_tables.specs.Sets.{Has}
 use Rattle.hub_tables.specs.declared.rows.MailRow.{MailRow}
-use Rattle.hub_tables.proofs.Lists.{decide, all_weaker}
+use Rattle.hub_tables.proofs.Lists.{all_weaker}
 use Rattle.hub_tables.proofs.Members.{all_of, all_if}
 use Rattle.hub_rules.specs.Sound.{Numbered}
 

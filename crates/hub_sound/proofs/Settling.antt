@@ -3,7 +3,7 @@ use Rattle.std.proofs.Common.{◌≡◌, ◌⊎◌, ℕ, ◌+◌, ◌<◌, ◌�
 use Rattle.std.proofs.Common.{◌∷◌, filter, find, sum_by, length, get_or, drop, is_some, Option, Some, None, option_map, refl, sym}
 use Rattle.std.proofs.Common.{◌∙◌, ap, ap₂, subst, arith, eq-eqb, nat_le}
 use Rattle.std.specs.Borrow.{Bor}
-use Rattle.std.specs.BTreeMap.{BTreeMap, is_at, get}
+use Rattle.std.specs.BTreeMap.{is_at, get}
 use Rattle.std.specs.Map.{lookup}
 use Rattle.std.specs.List.{AllByRecursion, list_all, list_any}
 use Rattle.std.specs.Option.{unwrap_or}
@@ -17,7 +17,7 @@ use Rattle.std.proofs.lemmas.List.Sums.{list_all-from_AllPass, sum_by-cons}
 use Rattle.std.proofs.lemmas.Map.Text.{is_eq-slice_cmp}
 use Rattle.edi_base.specs.Limits.{greatest}
 use Rattle.hub_parties.specs.KeyOrder.{bytes_cmp}
-use Rattle.hub_store.specs.Clean.{are_bytes, clean_line, is_number, is_line, is_quantity, is_answer, is_within}
+use Rattle.hub_store.specs.Clean.{are_bytes, clean_line, is_number, is_line, is_quantity}
 use Rattle.gs1_ids.specs.Digits.{is_key}
 use Rattle.gs1_ids.specs.Gln.{is_gln}
 use Rattle.hub_tables.specs.Rows.{same}
@@ -31,7 +31,7 @@ use Rattle.hub_tables.proofs.Members.{all_of, all_if, any_if}
 use Rattle.hub_sound.specs.Finding.{content_key, line_key}
 use Rattle.hub_sound.specs.Goods.{Sent, sent_at, with_more, none_from, sent_from, is_sent_settled, goods_of, ShowsUnsettled}
 use Rattle.hub_sound.specs.Goods.{TellsSettled}
-use Rattle.hub_sound.specs.Showing.{IsSettled, has_line, is_balanced}
+use Rattle.hub_sound.specs.Showing.{has_line, is_balanced}
 use Rattle.hub_sound.specs.declared.finding.Finding.{Finding}
 use Rattle.hub_sound.specs.declared.finding.RowKind.TheVariants as kinds
 use Rattle.hub_sound.proofs.Deciding.{all_true, all_both}

@@ -1,37 +1,36 @@
 -- Rows that show it, and tables of which all was checked.
-use Rattle.std.proofs.Common.{◌≡◌, ◌⊎◌, ℕ, ◌+◌, ◌-◌, ◌<◌, ◌≤◌, ◌==◌, nat_le, Bool, true, false, not, ◌&&◌, ◌||◌, cond, inl, inr}
-use Rattle.std.proofs.Common.{List, [], ◌∷◌, filter, find, is_some, Option, Some, None, refl, sym, ◌∙◌, ap, ap₂, subst, arith}
+use Rattle.std.proofs.Common.{◌≡◌, ℕ, ◌+◌, ◌-◌, ◌<◌, ◌==◌, nat_le, Bool, true, false, not, ◌&&◌, ◌||◌, inl, inr}
+use Rattle.std.proofs.Common.{List, [], filter, is_some, Option, Some, None, refl, sym, ◌∙◌, ap, subst, arith}
 use Rattle.std.proofs.Common.{eq-eqb}
-use Rattle.std.specs.List.{AllByRecursion, list_all, list_any}
-use Rattle.std.specs.Ordering.{nat_cmp, is_eq, ordering_then}
+use Rattle.std.specs.List.{list_all, list_any}
+use Rattle.std.specs.Ordering.{nat_cmp}
 use Rattle.std.proofs.Math.Bool.{and-false}
-use Rattle.std.proofs.lemmas.Bool.{and_parts, and_from, or_parts}
+use Rattle.std.proofs.lemmas.Bool.{and_parts, and_from}
 use Rattle.std.proofs.lemmas.Bool.Decides.{nat_tests}
 use Rattle.gs1_ids.specs.Digits.{is_key}
 use Rattle.gs1_ids.specs.Gln.{is_gln}
 use Rattle.gs1_ids.specs.Sscc.{under_some}
 use Rattle.hub_founding.specs.Fits.{fits_pallet, is_under}
-use Rattle.hub_parties.specs.KeyOrder.{bytes_cmp, Rises}
+use Rattle.hub_parties.specs.KeyOrder.{bytes_cmp}
 use Rattle.hub_parties.specs.Rows.{row_of}
 use Rattle.hub_parties.specs.declared.row.SupplierRow.{SupplierRow}
 use Rattle.hub_rules.specs.Laws.{SoundHub}
-use Rattle.hub_rules.specs.Sound.{Kept, IsRooted, Balanced, Numbered, Single, knows_line, was_received}
+use Rattle.hub_rules.specs.Sound.{Kept, IsRooted, Balanced, was_received}
 use Rattle.hub_rules.specs.Sound.{same_order, same_line_number, same_advice, same_sscc, same_place, same_gtin, same_reference}
 use Rattle.hub_store.specs.Clean.{are_clean, clean_hub, clean_key, clean_prefix, clean_order, clean_line, clean_advice}
 use Rattle.hub_store.specs.Clean.{clean_pallet, clean_content, clean_receipt, clean_remembered, clean_mail, is_within}
-use Rattle.hub_tables.specs.Register.{HoldsRegister, register_of, suppliers_of}
+use Rattle.hub_tables.specs.Register.{register_of, suppliers_of}
 use Rattle.hub_tables.specs.Rows.{same, hub_cmp, key_cmp, prefix_cmp, order_cmp, line_cmp, advice_cmp, pallet_cmp, content_cmp}
 use Rattle.hub_tables.specs.Rows.{receipt_cmp, remembered_cmp, mail_cmp}
 use Rattle.hub_tables.specs.Sets.{Has, Rising}
 use Rattle.hub_tables.specs.State.{knows_order, despatched, entry_at, is_announced}
 use Rattle.hub_tables.specs.Tables.{Tables, Ordered, has_pallet, holds, view}
 use Rattle.hub_tables.specs.declared.rows.LineRow.{LineRow}
-use Rattle.hub_tables.specs.declared.rows.ContentRow.{ContentRow}
 use Rattle.hub_tables.specs.declared.rows.ReceiptRow.{ReceiptRow}
 use Rattle.hub_tables.specs.declared.rows.PalletRow.{PalletRow}
 use Rattle.hub_tables.specs.declared.rows.MailRow.{MailRow}
 use Rattle.hub_tables.proofs.KeyOrder.{rises_filter, in_order_rising}
-use Rattle.hub_tables.proofs.Lists.{decide, same_is, same_if, all_weaker, all_filter, all_passes, filter_none}
+use Rattle.hub_tables.proofs.Lists.{decide, same_is, same_if, all_filter, all_passes, filter_none}
 use Rattle.hub_tables.proofs.Members.{all_of, all_if, none_if, one_of, any_if, has_filter}
 use Rattle.hub_sound.specs.Finding.{RowKey}
 use Rattle.hub_sound.specs.Showing.{PassesChecks, IsSettled, ShowsUnclean, ShowsUnsound, has_order, is_balanced, has_line, is_on_pallet}
@@ -39,7 +38,7 @@ use Rattle.hub_sound.specs.Showing.{is_of_received, goes_on}
 use Rattle.hub_sound.specs.declared.finding.RowKind.{RowKind}
 use Rattle.hub_sound.specs.declared.finding.RowKind.TheVariants.{Hub, Supplier, Prefix, Order, Line, Advice, Pallet}
 use Rattle.hub_sound.specs.declared.finding.RowKind.TheVariants.{Content, Receipt, Remembered, Mail}
-use Rattle.hub_sound.proofs.Deciding.{all_true, true_all, all_then, not_all, all_but, from_filter, picked, all_both, then_tied}
+use Rattle.hub_sound.proofs.Deciding.{all_true, all_then, not_all, all_but, from_filter, picked, all_both, then_tied}
 use Rattle.hub_sound.proofs.Deciding.{text_tied, number_tied, single_rising, one_member}
 use Rattle.hub_sound.proofs.Numbering.{HasNumberBefore, numbered_if, by_numbers, found_number, numbered_goes}
 

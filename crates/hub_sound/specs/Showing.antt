@@ -1,5 +1,5 @@
 -- Which rows show that tables are not clean or not sound, and what is left to know where none does.
-use Rattle.std.specs.Prelude.{◌≡◌, ◌⊎◌, ℕ, ◌-◌, ◌+◌, ◌==◌, Bool, true, false, ◌&&◌, ◌||◌, List, [], is_some}
+use Rattle.std.specs.Prelude.{◌≡◌, ◌⊎◌, ℕ, ◌-◌, ◌+◌, ◌==◌, Bool, true, false, ◌||◌, List, [], is_some}
 use Rattle.std.specs.List.{AllByRecursion, list_all, list_any}
 use Rattle.hub_founding.specs.Fits.{fits_pallet}
 use Rattle.hub_founding.specs.Founding.{HoldsNone}

@@ -1,6 +1,6 @@
 -- What is found of rows, one call after another.
 use Rattle.std.proofs.Common.{◌≡◌, ◌+◌, ◌<◌, ◌≤◌, Bool, true, false, not, List, find, drop, length, get_or, ℕ}
-use Rattle.std.proofs.Common.{Option, Some, None, option_copied, Result, Ok, Err, refl, sym, ◌∙◌, ap, subst}
+use Rattle.std.proofs.Common.{Option, Some, None, option_copied, Result, Ok, refl, sym, ◌∙◌, ap, subst}
 use Rattle.std.specs.Borrow.{Bor}
 use Rattle.std.specs.List.{list_all}
 use Rattle.hub_sound.specs.Finding.{RowKey}
