@@ -74,13 +74,9 @@ edihub:
 trial_script:
 	python3 -m tests.prove trial_script
 
-# Proves and runs the tests of calls, and leaves their programs for the hostile trials.
-TESTS = edi_tests hub_tests door_tests
-
+# Proves and runs the tests of calls, and leaves their program for the hostile trials.
 tests_of_calls:
-	for crate in $(TESTS); do \
-		(mkdir -p crates/$$crate/out && cd crates/$$crate && rt test > out/log 2>&1 || { cat out/log; exit 1; }) || exit 1; \
-	done
+	mkdir -p crates/call_tests/out && cd crates/call_tests && rt test > out/log 2>&1 || { cat out/log; exit 1; }
 
 # Runs cases on an unproved `edihub` or `trial_script`, of one group or with some words in their names: make case OF=orders WORDS=QTY
 case:

@@ -16,7 +16,7 @@ import tempfile
 from concurrent.futures import ThreadPoolExecutor
 
 from tests import codes, layout, schema, untried
-from tests.cases import connections, corrections, hub_commands, hub_files, hub_rules, joins, limits, older_files, order_of_rules, verify
+from tests.cases import connections, corrections, heads, hub_commands, hub_files, hub_rules, joins, limits, older_files, order_of_rules, verify
 from tests.cases import without_hub
 from tests.harness import processor_time
 from tests.harness.case import SECONDS
@@ -37,8 +37,8 @@ PROGRAMS = [
     (built("edihub"), without_hub.CASES + hub_commands.COMMANDS + older_files.MIGRATIONS + verify.VERIFIED + limits.LIMITS),
     (
         built("trial_script"),
-        hub_rules.HUBS + hub_rules.OVER_SQL + order_of_rules.ORDER + hub_files.FILES + connections.CONNECTIONS + joins.JOINS
-        + corrections.CORRECTIONS,
+        hub_rules.HUBS + hub_rules.OVER_SQL + order_of_rules.ORDER + hub_files.FILES + connections.CONNECTIONS + heads.CASES
+        + joins.JOINS + corrections.CORRECTIONS,
     ),
 ]
 

@@ -112,6 +112,11 @@ REGISTERS = [
     ("a supplier without a key", f'{INLINE}{ENTRY}prefix = "40123455"', "text"),
     ("a retailer with a key of six bytes", INLINE.replace("retail-key", "retail"), "key"),
     ("a hub with a wrong check digit", INLINE.replace(HUB, "5412345000007"), "gln"),
+    *(("a GLN that GS1 has published", register((it, "0614", "alpha-key-1")), "ok 1") for it in ("0614141123452", "6291041500213")),
+    *(
+        (f"no GLN, {it!r}", register((it, "0614", "alpha-key-1")), "gln")
+        for it in ("0614141123453", "614141123452", "00614141123452", "061414112345 ", "")
+    ),
     ("one GLN for the hub and the retailer", INLINE.replace(HUB, RETAILER), "twice"),
     ("an empty list of suppliers", f"{INLINE}\nsupplier = []", "ok 0"),
     (

@@ -62,6 +62,18 @@ def mails(count, first=1):
     return "".join(mail(first + k) for k in range(count))
 
 
+# moments, and the date and the time of a mail at each: ends of years and of February
+MOMENTS = (
+    (946_684_799, "991231:2359"),
+    (946_684_800, "000101:0000"),
+    (951_782_399, "000228:2359"),
+    (951_782_400, "000229:0000"),
+    (951_868_800, "000301:0000"),
+    (1_709_164_800, "240229:0000"),
+    (1_709_251_199, "240229:2359"),
+    (1_740_787_200, "250301:0000"),
+)
+
 RELAY = [
     relayed("an order becomes the supplier's mail", ORDERS, mail()),
     relayed("an order without a service string", ORDERS.removeprefix("UNA:+.? '"), mail()),
@@ -91,7 +103,12 @@ RELAY = [
     relayed("leading zeros in a number", ORDERS, mail(7), number="0007"),
     relayed("the first moment", ORDERS, mail().replace("250603:0920", "700101:0000"), moment="0"),
     relayed("the last moment", ORDERS, mail().replace("250603:0920", "991231:2359"), moment="4102444799"),
-    relayed("a leap day", ORDERS, mail().replace("250603:0920", "240229:2359"), moment="1709251199"),
+    *(relayed(f"the moment {at}", ORDERS, mail().replace("250603:0920", day), moment=str(at)) for at, day in MOMENTS),
+    relayed(
+        "components behind a message reference stay",
+        ORDERS.replace("UNH+1+", "UNH+7:x+").replace("UNT+10+1'", "UNT+10+7:y'"),
+        mail().replace("UNH+1+", "UNH+1:x+").replace("UNT+10+1'", "UNT+10+1:y'"),
+    ),
     Case("line ends up to 1,048,576 bytes", relay(), text(ORDERS).ljust(TEXT_LIMIT, b"\n"), text(mail())),
     refused("one byte more", text(ORDERS).ljust(TEXT_LIMIT + 1, b"\n"), "E01"),
     refused("a service string whose characters are equal", ORDERS.replace("UNA:+.? '", "UNA++.? '"), "E02"),

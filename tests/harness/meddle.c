@@ -10,7 +10,9 @@
    LISTING  a folder cannot be read on behind its first entries
    ENTRY    a folder does not say what this entry is, and it cannot be looked at
    SHORT    one read gives this many bytes at most
-   READS    how often standard input was read, and how often its end was found, are written to this file at the end */
+   READS    how often standard input was read, and how often its end was found, are written to this file at the end
+   TORN     this file, or standard input if it is -, cannot be read on once AFTER bytes of it were read
+   ROOM     standard output takes a byte at a time, and once it has this many it fails, or with NOTHING takes no more */
 #define _GNU_SOURCE
 #include <dirent.h>
 #include <errno.h>
@@ -72,20 +74,25 @@ int accept(int fd, void *address, void *length) {
     return accept4(fd, address, length, 0);
 }
 
-static long written;
+static int fault(void) {
+    errno = EIO;
+    return -1;
+}
+
+static long written, printed;
 
 ssize_t write(int fd, const void *bytes, size_t length) {
-    const char *pipe = getenv("PIPE"), *gone = getenv("GONE");
+    const char *pipe = getenv("PIPE"), *gone = getenv("GONE"), *room = getenv("ROOM");
+    if (room && fd == 1 && length) {
+        if (printed >= atol(room)) return getenv("NOTHING") ? 0 : fault();
+        printed++;
+        length = 1;
+    }
     if (fd == 1 && !written++) {
         if (pipe || gone) unlink(pipe ? pipe : gone);
         if (pipe) mkfifo(pipe, 0600);
     }
     return syscall(SYS_write, fd, bytes, length);
-}
-
-static int fault(void) {
-    errno = EIO;
-    return -1;
 }
 
 ssize_t getdents64(int fd, void *buffer, size_t length) {
@@ -109,12 +116,24 @@ int statx(int folder, const char *path, int flags, unsigned mask, struct statx *
     return result;
 }
 
-static long reads, ends;
+static int is_torn(int fd) {
+    const char *path = getenv("TORN");
+    struct stat this, torn;
+    if (!path || !strcmp(path, "-")) return path && !fd;
+    return !fstat(fd, &this) && !stat(path, &torn) && this.st_dev == torn.st_dev && this.st_ino == torn.st_ino;
+}
+
+static long reads, ends, of_torn;
 
 ssize_t read(int fd, void *bytes, size_t length) {
     const char *most = getenv("SHORT");
     if (most && length > (size_t)atol(most)) length = atol(most);
+    int torn = is_torn(fd);
+    long left = torn ? atol(getenv("AFTER")) - of_torn : 0;
+    if (torn && left <= 0) return fault();
+    if (torn && length > (size_t)left) length = left;
     ssize_t taken = syscall(SYS_read, fd, bytes, length);
+    if (torn && taken > 0) of_torn += taken;
     if (!fd) reads++;
     if (!fd && !taken) ends++;
     return taken;

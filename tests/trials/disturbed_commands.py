@@ -13,11 +13,12 @@ from tests.cases.broken_texts import TEXT_LIMIT
 from tests.harness.case import SECONDS
 from tests.harness.database_files import NAME, has_rows, is_whole
 from tests.harness.first_order import ORDERS
-from tests.harness.hub_scripts import SECOND, SPELLED, TWO_SUPPLIERS
+from tests.harness.hub_scripts import FIRST_MAIL, SECOND, SPELLED, TWO_SUPPLIERS, interchange, order
 from tests.harness.hub_steps import FIRST_TWO, MOMENT, REGISTER, init, made_folder, mode_of, over, rows_of_register
 from tests.harness.hub_steps import told
 from tests.harness.register_texts import ALPHA, HUB, RETAILER
 from tests.harness.shims import STOP, WAYS, built, meddled
+from tests.harness.show_cases import Interchange, shown_text
 from tests.harness.tree import EXAMPLES
 
 
@@ -255,6 +256,51 @@ def few_reads(program):
     return None
 
 
+# what `show` prints of the order
+LINES = ["order 128576", f"buyer {RETAILER}", f"supplier {ALPHA}", "line 1 item 04000862141404 ordered 48"]
+SHOWN = shown_text(Interchange(kinds=["ORDERS"]), [LINES])
+# commands with their standard input, and what they print
+PRINTERS = [(READERS[0], ORDERS, FIRST_MAIL), (READERS[1], ORDERS, SHOWN), (["check", "--register", REGISTER], "", "ok 2 suppliers\n")]
+
+
+def disturbed(program, words, source, **variables):
+    """What a command ends with, prints and says on standard error, over the library of meddle.c with these variables."""
+    with tempfile.TemporaryDirectory() as folder:
+        with open(os.path.join(folder, REGISTER), "w", encoding="ascii") as file:
+            file.write(TWO_SUPPLIERS)
+        env = {"LD_PRELOAD": meddled(folder), **variables}
+        ran = subprocess.run([program, *words], cwd=folder, input=source.encode(), capture_output=True, env=env, timeout=SECONDS)
+        return ran.returncode, ran.stdout.decode(), ran.stderr.decode()
+
+
+def torn(program):
+    """What is wrong where what is read cannot be read on, at once, midway or at its end, if anything: nothing is printed; and an import
+    goes on with the next file."""
+    for words, source, _ in PRINTERS:
+        read = source or TWO_SUPPLIERS
+        for after in (0, 1, 100, len(read)):
+            found = disturbed(program, words, source, TORN="-" if source else REGISTER, AFTER=str(after))
+            if found != (3, "", "file\n"):
+                return f"{words[0]}, torn after {after} bytes: {found!r:.300}"
+    for after in (0, 1, 100, len(interchange(RETAILER, "U1", order("1")))):
+        found = meddled_import(program, TORN=os.path.join("in", "01.edi"), AFTER=str(after))
+        if found != (3, SECOND_IS_FAULT, b""):
+            return f"an import, torn after {after} bytes: {found!r:.300}"
+    return None
+
+
+def narrow(program):
+    """What is wrong where standard output takes so many bytes and no more, if anything: these are printed, and the rest is a fault."""
+    for words, source, whole in PRINTERS:
+        for room in (0, 1, len(whole) // 2, len(whole) - 1, len(whole)):
+            for more in ({}, {"NOTHING": "1"}):
+                wanted = (0, whole, "") if room == len(whole) else (3, whole[:room], "file\n")
+                found = disturbed(program, words, source, ROOM=str(room), **more)
+                if found != wanted:
+                    return f"{words[0]}, room for {room} bytes, {more}: {found!r:.300}"
+    return None
+
+
 def at_a_terminal(program):
     """What is wrong where an order is typed at a terminal and its end told once, if anything: nobody has to tell it again."""
     for words in READERS:
@@ -350,6 +396,8 @@ TRIALS = [
     ("the moment of an import", one_moment),
     ("a folder that cannot be read on, and a file of it that cannot be looked at", hidden),
     ("how standard input is read", few_reads),
+    ("what cannot be read on", torn),
+    ("an output that takes a part", narrow),
     ("an order that is typed at a terminal", at_a_terminal),
     ("the days of the example", day),
 ]

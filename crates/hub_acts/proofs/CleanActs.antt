@@ -1,10 +1,9 @@
 -- Proves that calls that look up, decide and commit never fail with `Unclean` over rows that have their form, and leave
 -- such rows.
-use Rattle.std.proofs.Common.{◌≡◌, ◌≢◌, inl, inr, ℕ, ◌==◌, Bool, true, false, cond, List, [], ◌∷◌}
-use Rattle.std.proofs.Common.{Some, None, Result, Ok, Err, OnOk, OnErr}
+use Rattle.std.proofs.Common.{◌≡◌, ◌≢◌, ℕ, true, false, cond, List, [], ◌∷◌}
+use Rattle.std.proofs.Common.{Some, None, Result, Err}
 use Rattle.std.proofs.Common.{refl, sym, subst, ap, ◌∙◌}
 use Rattle.std.specs.List.{AllByRecursion}
-use Rattle.std.proofs.lemmas.Bool.{true≢false}
 use Rattle.hub_tables.specs.Cases.{truth_number}
 use Rattle.hub_tables.specs.Change.{apply_all}
 use Rattle.hub_tables.specs.Sets.{Fit, Rising, clears}
@@ -14,7 +13,7 @@ use Rattle.hub_tables.specs.declared.change.Change.{Change}
 use Rattle.hub_tables.specs.declared.change.Change.TheVariants.{SetMail}
 use Rattle.hub_tables.specs.declared.rows.MailRow.{MailRow}
 use Rattle.hub_tables.proofs.Back.{fit_uncleared}
-use Rattle.hub_store.specs.Calls.{Commits, have_places}
+use Rattle.hub_store.specs.Calls.{have_places}
 use Rattle.hub_store.specs.Clean.{are_clean}
 use Rattle.hub_store.specs.declared.fault.StoreFault.{StoreFault}
 use Rattle.hub_store.specs.declared.fault.StoreFault.TheVariants.{Unclean}
@@ -70,32 +69,6 @@ module _ {S X : Type 0} (g : Ghosts S) (old middle new : S) (stays : Stays g old
       both : g.honest new → are_clean (g.content old) ≡ true → StaysClean g middle new result
       both h clean = then (subst fits (sym (same h)) (fit (was h))) (subst cleans (sym (same h)) (fine (was h) clean))
 
--- a commit
-
-clean_by : {S X : Type 0} (g : Ghosts S) (old new : S) (result : Result X StoreFault) (after : Tables)
-    → OnOk result (g.content new ≡ after)
-    → OnErr result (g.content new ≡ g.content old)
-    → are_clean (g.content old) ≡ true
-    → are_clean after ≡ true
-    → are_clean (g.content new) ≡ true
-clean_by g old new (Ok x) after done kept before fine = ap are_clean done ∙ fine
-clean_by g old new (Err fault) after done kept before fine = ap are_clean kept ∙ before
-
-commits_clean : {S X : Type 0} (g : Ghosts S) (old new : S) (changes : List Change) (result : Result X StoreFault)
-    → Commits g.content g.honest g.left g.broken old new changes result
-    → Fit changes (g.content old)
-    → have_places changes (g.content old) ≡ true
-    → are_clean (apply_all changes (g.content old)) ≡ true
-    → StaysClean g old new result
-commits_clean g old new changes result commits fit places fine = record {
-  never = λ h none clean is. elim (commits.unclean h none is fit places) [
-    | inl e ↦ true≢false (sym clean ∙ e)
-    | inr e ↦ true≢false (sym fine ∙ e)
-  ];
-  rows = λ h clean.
-      clean_by g old new result (apply_all changes (g.content old)) (commits.done h fit) (commits.kept h) clean fine;
-}
-
 -- Marking an entry as taken.
 
 uncleared : (entry : MailRow) → AllByRecursion (λ change. clears change ≡ false) (taking entry)
@@ -103,21 +76,9 @@ uncleared entry =
     elim (is_taken entry) as (λ v. AllByRecursion (λ change. clears change ≡ false)
     (cond v [] (SetMail (record entry { taken = truth_number true }) ∷ []))) [ true ↦ tt | false ↦ (refl, tt) ]
 
--- an entry that is not taken is marked
-pub taking_is : (entry : MailRow) (is : Bool) (number : ℕ) (changes : List Change)
-    → truth_number is ≡ entry.taken
-    → is ≡ false
-    → number ≡ truth_number true
-    → changes ≡ SetMail (record entry { taken = number }) ∷ []
-    → changes ≡ taking entry
-taking_is entry is number changes column not_yet mark e =
-    let untaken : is_taken entry ≡ false =
-    ap (λ n. n == truth_number true) (sym column) ∙ ap (λ v. truth_number v == truth_number true) not_yet in
-    e ∙ ap (λ n. SetMail (record entry { taken = n }) ∷ []) mark
-    ∙ sym (ap (λ v. cond v [] (SetMail (record entry { taken = truth_number true }) ∷ [])) untaken)
-
 pub mark_clean : {S X : Type 0} (g : Ghosts S) (old middle new : S)
     → Stays g old middle
+    → (g.honest new → g.honest middle)
     → g.broken middle ≡ g.broken old
     → (gln : List ℕ) (number : ℕ) (entry : MailRow)
     → (g.honest middle → entry_at (view gln (g.content old)) number ≡ Some entry)
@@ -125,17 +86,19 @@ pub mark_clean : {S X : Type 0} (g : Ghosts S) (old middle new : S)
     → (changes : List Change)
     → changes ≡ taking entry
     → (result : Result X StoreFault)
-    → Commits g.content g.honest g.left g.broken middle new changes result
+    → (Fit changes (g.content middle) → have_places changes (g.content middle) ≡ true
+    → are_clean (apply_all changes (g.content middle)) ≡ true → StaysClean g middle new result)
     → StaysClean g old new result
-mark_clean g old middle new stays whole gln number entry found rises changes is result commits =
+mark_clean g old middle new stays was whole gln number entry found rises changes is result then =
     let t = g.content old in
-    clean_after_looking g old middle new stays commits.was_honest whole
+    let m = g.content middle in
+    clean_after_looking g old middle new stays was whole
     (Fit (taking entry)) (λ t. (have_places (taking entry) t ≡ true) × (are_clean (apply_all (taking entry) t) ≡ true))
     (λ h. fit_uncleared (taking entry) t (uncleared entry) (rises h))
     (λ h clean. (taking_there gln number t entry (found h), cleaned_taken gln number t entry clean (found h)))
     result
-    (λ fit fine. commits_clean g middle new (taking entry) result
-    (subst (λ changes. Commits g.content g.honest g.left g.broken middle new changes result) is commits) fit fine.0 fine.1)
+    (λ fit fine. subst (λ changes. Fit changes m → have_places changes m ≡ true
+    → are_clean (apply_all changes m) ≡ true → StaysClean g middle new result) is then fit fine.0 fine.1)
 
 -- the same fault, of another call
 pub stays_at : {S X Y : Type 0} (g : Ghosts S) (old new : S)

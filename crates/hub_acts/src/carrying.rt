@@ -53,8 +53,8 @@ pub fn reply_to_act(alloc: Global, told: Decision) -> Result<Reply, MemoryFault>
     })
 }
 
-// Commits the changes, if there are any.
-fn make<S: Store>(store: &mut S, changes: &[Change]) -> Result<(), StoreFault>
+/// Commits the changes, if there are any.
+pub(crate) fn commit_if_any<S: Store>(store: &mut S, changes: &[Change]) -> Result<(), StoreFault>
     ensures done { Fit changes.now (S.content store.old) → S.honest store.new →
         OnOk result (S.content store.new ≡ apply_all changes.now (S.content store.old)) }
     ensures durable { S.honest store.new → OnOk result ((t : Tables) → S.left store.new t →
@@ -84,6 +84,6 @@ pub fn carry_out<S: Store>(store: &mut S, verdict: &Verdict) -> Result<(), Store
 {
     match verdict {
         Verdict::Refuse(_) => Ok(()),
-        Verdict::Accept(changes) => make(store, changes.as_slice()),
+        Verdict::Accept(changes) => commit_if_any(store, changes.as_slice()),
     }
 }

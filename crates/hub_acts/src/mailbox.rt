@@ -8,15 +8,16 @@ ghost use Rattle.hub_texts.specs.HubRules.Laws.{Registered, PartiesRise};
 ghost use Rattle.hub_clean.specs.HubLaw.MailText.{list_text};
 ghost use Rattle.hub_clean.specs.HubLaw.Mark.{Whole};
 ghost use Rattle.hub_clean.specs.HubLaw.Replies.{unknown, done, entry_reply};
-ghost use Rattle.hub_clean.specs.HubLaw.Requests.{taken};
+ghost use Rattle.hub_clean.specs.HubLaw.Requests.{taken, taking};
 ghost use Rattle.hub_acts.specs.Acts.{Carried, FailsOver, NoCause, Unharmed, Stays, as_told, no_answer};
 ghost use Rattle.hub_acts.specs.StaysClean.{StaysClean};
 
+use crate::carrying::commit_if_any;
 use edi_base::{Items, MemoryFault, copy_bytes};
 use gs1_ids::Gln;
 use hub_clean::acts_stay_sound;
 use hub_store::{Store, StoreFault};
-use hub_tables::{Change, Column};
+use hub_tables::{Change, Column, MailRow};
 use hub_texts::{LIST_LIMIT, Outcome, Reply, entry_text, list_text};
 use std::alloc::Global;
 
@@ -84,12 +85,15 @@ pub fn mailbox_entry<S: Store>(
     Ok(done_reply(text))
 }
 
-// Returns a list of this one change.
-fn only(alloc: Global, change: Change) -> Result<Items<Change>, MemoryFault>
-    ensures { IfOk result (λ changes. changes ≡ change ∷ []) }
+// Returns the changes that mark an entry as taken: none if it is marked.
+fn marking(alloc: Global, mut entry: MailRow) -> Result<Items<Change>, MemoryFault>
+    ensures { IfOk result (λ changes. changes ≡ taking entry) }
 {
     let mut changes = Items::new(alloc);
-    changes.push(change)?;
+    if !entry.taken.case() {
+        entry.taken = Column::of(true);
+        changes.push(Change::SetMail(entry))?;
+    }
     Ok(changes)
 }
 
@@ -112,14 +116,11 @@ pub fn take_entry<S: Store>(
         StaysClean S.Store store.old store.new result }
 {
     acts_stay_sound();
-    let Some(mut entry) = store.mail_item(supplier, number)? else {
+    let Some(entry) = store.mail_item(supplier, number)? else {
         return Ok(unknown_reply(alloc)?);
     };
     let reply = done_reply(copy_bytes(alloc, b"taken\n")?);
-    if !entry.taken.case() {
-        entry.taken = Column::of(true);
-        let changes = only(alloc, Change::SetMail(entry))?;
-        store.commit(changes.as_slice())?;
-    }
+    let changes = marking(alloc, entry)?;
+    commit_if_any(store, changes.as_slice())?;
     Ok(reply)
 }

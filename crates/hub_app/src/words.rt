@@ -25,17 +25,16 @@ use hub_rules::Join;
 use hub_texts::{CancelFields, cancel_with};
 use std::alloc::{AllocError, Global};
 use std::convert::AsStr;
-use std::fmt;
 
 /// What `check` is asked for.
-#[derive(Debug, Drop)]
+#[derive(Drop)]
 pub struct CheckWords<'a> {
     /// The path of the register's file.
     pub register: &'a str,
 }
 
 /// What `init` is asked for.
-#[derive(Debug, Drop)]
+#[derive(Drop)]
 pub struct InitWords<'a> {
     /// The path of the register's file.
     pub register: &'a str,
@@ -43,7 +42,7 @@ pub struct InitWords<'a> {
     pub db: &'a str,
 }
 
-/// Where a key is. `Debug` does not show the key.
+/// Where a key is. Neither it nor what holds it can be printed, so that no key is shown.
 #[derive(Clone, Copy)]
 pub enum KeyWord<'a> {
     /// On the command line: the key itself.
@@ -52,17 +51,8 @@ pub enum KeyWord<'a> {
     InFile(&'a str),
 }
 
-impl fmt::Debug for KeyWord<'_> {
-    fn fmt<W: fmt::Write>(&self, f: &mut fmt::Formatter<W>) -> fmt::Result {
-        match self {
-            KeyWord::Given(_) => f.write_str("Key(..)"),
-            KeyWord::InFile(path) => f.debug_tuple("File").field(path).finish(),
-        }
-    }
-}
-
 /// A join whose key is in a file. The prefixes are 1 to 8 different ones.
-#[derive(Debug, Drop)]
+#[derive(Drop)]
 pub struct JoinByFile<'a> {
     /// The supplier's GLN.
     pub supplier: Gln,
@@ -82,7 +72,7 @@ impl JoinByFile<'_> {
 }
 
 /// What is asked of a hub.
-#[derive(Debug, Drop)]
+#[derive(Drop)]
 pub enum HubTask<'a> {
     /// To upload the interchanges in this folder.
     Import(&'a str),
@@ -92,8 +82,8 @@ pub enum HubTask<'a> {
     JoinByFile(JoinByFile<'a>),
 }
 
-/// What a command over a hub is asked for. `Debug` does not show a key.
-#[derive(Debug, Drop)]
+/// What a command over a hub is asked for.
+#[derive(Drop)]
 pub struct HubWords<'a> {
     /// The path of the database's file.
     pub db: &'a str,
@@ -108,7 +98,7 @@ pub struct HubWords<'a> {
 }
 
 /// What `serve` is asked for.
-#[derive(Debug, Drop)]
+#[derive(Drop)]
 pub struct ServeWords<'a> {
     /// The path of the database's file.
     pub db: &'a str,
@@ -125,7 +115,7 @@ pub struct ServeWords<'a> {
 }
 
 /// What `rekey` is asked for.
-#[derive(Debug, Drop)]
+#[derive(Drop)]
 pub struct RekeyWords<'a> {
     /// The path of the database's file.
     pub db: &'a str,
@@ -136,14 +126,14 @@ pub struct RekeyWords<'a> {
 }
 
 /// What `verify` is asked for.
-#[derive(Debug, Drop)]
+#[derive(Drop)]
 pub struct VerifyWords<'a> {
     /// The path of the database's file.
     pub db: &'a str,
 }
 
 /// What the words ask for: a command with its options.
-#[derive(Debug, Drop)]
+#[derive(Drop)]
 pub enum Words<'a> {
     Check(CheckWords<'a>),
     Relay(RelayWords),

@@ -72,10 +72,6 @@ fn play<S: Store + Drop, O: Opener<S>>(rt: &HostRuntime, opener: O) -> Result<()
     trial.play(rt, text.as_slice(), &mut OfWrite::new(rt.stdout()))
 }
 
-fn over_lists(rt: &HostRuntime) -> Result<(), ScriptFault> {
-    play::<VecStore, InMemory>(rt, InMemory)
-}
-
 // Runs the script on SQL tables, wherever they are kept.
 fn over_tables<A: Alter + Drop, O: Opener<SqliteStore<A>>>(
     rt: &HostRuntime,
@@ -129,7 +125,7 @@ fn bytes_of(rt: &HostRuntime, path: &str) -> Result<Vec<u8>, ScriptFault> {
 // Runs the script on the store that the arguments name.
 fn over_named(rt: &HostRuntime, words: &[String]) -> Result<(), ScriptFault> {
     match words {
-        [] | [_] => over_lists(rt),
+        [] | [_] => play::<VecStore, InMemory>(rt, InMemory),
         [_, word] if word.as_str() == "sql" => over_tables::<MemStore, InMemory>(rt, InMemory),
         [_, word, path] if word.as_str() == "file" => over_file::<Unknown>(rt, path.as_str()),
         [_, word, calls] => over_stopped(rt, word.as_str(), calls.as_str(), Vec::new(rt.alloc())),

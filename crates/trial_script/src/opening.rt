@@ -18,8 +18,8 @@ pub trait Opener<S: Store>: Drop {
     /// register.
     fn again(&mut self, rt: &HostRuntime, register: &Register, store: S) -> Result<S, FoundFault>;
 
-    /// Takes back a store that no hub uses.
-    fn take_back(&mut self, store: S);
+    /// Takes back a store that no hub uses. Gives it back if nothing of it is kept.
+    fn take_back(&mut self, store: S) -> Option<S>;
 }
 
 /// Keeps the store in memory, with only the rows of the register.
@@ -43,7 +43,9 @@ impl Opener<VecStore> for InMemory {
         Ok(store)
     }
 
-    fn take_back(&mut self, _store: VecStore) {}
+    fn take_back(&mut self, store: VecStore) -> Option<VecStore> {
+        Some(store)
+    }
 }
 
 impl Opener<SqliteStore<MemStore>> for InMemory {
@@ -67,7 +69,9 @@ impl Opener<SqliteStore<MemStore>> for InMemory {
         Ok(store)
     }
 
-    fn take_back(&mut self, _store: SqliteStore<MemStore>) {}
+    fn take_back(&mut self, store: SqliteStore<MemStore>) -> Option<SqliteStore<MemStore>> {
+        Some(store)
+    }
 }
 
 /// What is assumed of a file that is opened, made again for each opening.
@@ -115,5 +119,10 @@ impl<'a, T: Supposed> Opener<SqliteStore<FileStore<FileFrom<T>>>> for InFile<'a>
         Ok(store)
     }
 
-    fn take_back(&mut self, _store: SqliteStore<FileStore<FileFrom<T>>>) {}
+    fn take_back(
+        &mut self,
+        store: SqliteStore<FileStore<FileFrom<T>>>,
+    ) -> Option<SqliteStore<FileStore<FileFrom<T>>>> {
+        Some(store)
+    }
 }

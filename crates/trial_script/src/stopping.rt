@@ -111,6 +111,11 @@ impl<D: Stopping> StoppingFiles<D> {
         let db = file_of(alloc, self.held.as_slice(), self.of_file)?;
         Ok(Files { log, db })
     }
+
+    // Keeps the files of a store.
+    fn keep_files(&mut self, store: SqliteStore<FileStore<D>>) {
+        self.left = Some(store.into_connection().into_store().close());
+    }
 }
 
 impl<D: Stopping> Opener<SqliteStore<FileStore<D>>> for StoppingFiles<D> {
@@ -145,11 +150,12 @@ impl<D: Stopping> Opener<SqliteStore<FileStore<D>>> for StoppingFiles<D> {
         register: &Register,
         store: SqliteStore<FileStore<D>>,
     ) -> Result<SqliteStore<FileStore<D>>, FoundFault> {
-        self.take_back(store);
+        self.keep_files(store);
         self.open(rt, register)
     }
 
-    fn take_back(&mut self, store: SqliteStore<FileStore<D>>) {
-        self.left = Some(store.into_connection().into_store().close());
+    fn take_back(&mut self, store: SqliteStore<FileStore<D>>) -> Option<SqliteStore<FileStore<D>>> {
+        self.keep_files(store);
+        None
     }
 }

@@ -235,7 +235,7 @@ impl<S: Store + Drop, O: Opener<S>> Trial<S, O> {
                 Ok(())
             }
             Err((store, fault)) => {
-                self.opener.take_back(store.into_store());
+                let _ = self.opener.take_back(store.into_store());
                 write_fault(self.alloc, FoundFault::Store(fault), out)
             }
         }

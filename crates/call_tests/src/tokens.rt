@@ -1,10 +1,11 @@
 use crate::doubles::{Dribble, sink_with_room, took_front};
-use crate::texts::{has_body, tokens};
-use edi_tokens::*;
+use edi_base::{OfWrite, WriteFault};
+use edi_tokens::{Segment, Tokens, body_text, read_all, write_text};
 use std::alloc::{AllocError, Global};
 use std::test::Fail;
 
-const ORDERS: &[u8] =
+/// An order in an interchange of 255 bytes.
+pub(crate) const ORDERS: &[u8] =
     b"UNA:+.? 'UNB+UNOC:3+5412345000013:14+5412345000006:14+250603:0915+1001'UNH+1+ORDERS:D:01B:UN:EAN010'\
         BGM+220+128576+9'DTM+137:20250603:102'NAD+BY+5412345000013::9'NAD+SU+4012345500004::9'\
         LIN+1++4000862141404:SRV'QTY+21:48'UNS+S'CNT+2:1'UNT+10+1'UNZ+1+1001'";
@@ -19,51 +20,6 @@ const OTHER_SEPARATORS: &[u8] =
     b"UNA*|,! ~UNB|UNOC*3|5412345000013*14|5412345000006*14|250603*0915|1001~\r\nUNH|1|ORDERS*D*01B*UN*EAN010~\
         \r\nBGM|220|128576|9~\r\nDTM|137*20250603*102~\r\nNAD|BY|5412345000013**9~\r\nNAD|SU|4012345500004**9~\
         \r\nLIN|1||4000862141404*SRV~\r\nQTY|21*48~\r\nUNS|S~\r\nCNT|2*1~\r\nUNT|10|1~\r\nUNZ|1|1001~\r\n";
-
-type Component = (usize, &'static [u8; 3], usize, usize, &'static [u8]);
-
-// The position of a segment of the order, its tag, the positions of an element and a component, and what is there.
-static COMPONENTS: [Component; 3] = [
-    (1, b"UNH", 1, 4, b"EAN010"),
-    (5, b"NAD", 1, 1, b""),
-    (5, b"NAD", 1, 2, b"9"),
-];
-
-fn stands_there(segments: &[Segment], there: &Component) -> bool {
-    let (segment, tag, element, component, want) = there;
-    match segments.get(*segment) {
-        Some(segment) => {
-            segment.tag == **tag && segment.component(*element, *component) == *want
-        }
-        None => false,
-    }
-}
-
-#[test]
-fn components_stand_at_their_places(rt: HostRuntime) -> Result<(), Fail> {
-    let tokens = tokens(rt.alloc(), ORDERS)?;
-    for there in &COMPONENTS {
-        assert!(rt; stands_there(tokens.segments.as_slice(), there));
-    }
-    Ok(())
-}
-
-const OTHERS: Service = Service {
-    component: b'*',
-    element: b'|',
-    decimal: b',',
-    release: Some(b'!'),
-    terminator: b'~',
-};
-
-#[test]
-fn each_text_gives_its_service_characters(rt: HostRuntime) -> Result<(), Fail> {
-    for (text, service) in [(ORDERS, Service::usual()), (OTHER_SEPARATORS, OTHERS)] {
-        let tokens = tokens(rt.alloc(), text)?;
-        assert!(rt; tokens.service == service, "{service:?}");
-    }
-    Ok(())
-}
 
 // Texts, and the canonical text that each is read as.
 static CANONICAL: [(&[u8], &[u8]); 14] = [
@@ -87,6 +43,15 @@ static CANONICAL: [(&[u8], &[u8]); 14] = [
     ),
     (b"UNA:+.  'FTX+A?:B\xA0\xFF'", b"FTX+A??:B\xA0\xFF'"),
 ];
+
+// A function of its own, as for each call, to keep its contract out of the tests.
+pub(crate) fn tokens(alloc: Global, text: &[u8]) -> Result<Tokens, Fail> {
+    Ok(read_all(alloc, text)?)
+}
+
+pub(crate) fn has_body(alloc: Global, segments: &[Segment], body: &[u8]) -> Result<bool, Fail> {
+    Ok(body_text(alloc, segments)?.as_slice() == body)
+}
 
 /// Whether a text is read as segments that have this canonical text.
 fn is_read_as(alloc: Global, text: &[u8], canonical: &[u8]) -> Result<bool, Fail> {

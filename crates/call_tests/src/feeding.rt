@@ -1,6 +1,7 @@
 //! Tests interchanges that are opened while their bytes arrive.
 
 use crate::doubles::Pieces;
+use crate::tokens::ORDERS;
 use edi_base::OfRead;
 use edi_envelope::open_feed;
 use edi_tokens::Feeder;
@@ -37,11 +38,6 @@ fn is_fed(alloc: Global, row: &Row, size: usize, calls: usize) -> Result<bool, A
     }
     Ok(count == messages && fault == code && failed == (code == "read"))
 }
-
-const ORDERS: &[u8] =
-    b"UNA:+.? 'UNB+UNOC:3+5412345000013:14+5412345000006:14+250603:0915+1001'UNH+1+ORDERS:D:01B:UN:EAN010'\
-        BGM+220+128576+9'DTM+137:20250603:102'NAD+BY+5412345000013::9'NAD+SU+4012345500004::9'\
-        LIN+1++4000862141404:SRV'QTY+21:48'UNS+S'CNT+2:1'UNT+10+1'UNZ+1+1001'";
 
 static TEXTS: [Row; 9] = [
     (ORDERS, 1, ""),
