@@ -1,8 +1,9 @@
 """`make test`. First checks what takes seconds: that each file of a crate is in the toolchain's layout (layout.py), each public function
 has a wrong body (untried.py), the tables in code are those of the definition (schema.py), and each code means the same everywhere
 (codes.py).
-Then runs the gate (rt ci), and prints the processor time of each crate. Then runs the cases and trials named in PROGRAMS and TRIALS on
-the programs that the gate built. The last line is `N passed, M failed` over everything.
+Then runs the gate (rt ci), and the cases and trials named in PROGRAMS and TRIALS on the programs that the gate built. At the end it
+prints again what failed, as it may stand far above, and the processor time of each crate. The last line is `N passed, M failed` over
+everything.
 
 `--alone` leaves out the gate and uses the programs that are there. `--anew` reuses nothing that an earlier gate proved.
 
@@ -14,6 +15,7 @@ import subprocess
 import sys
 import tempfile
 from concurrent.futures import ThreadPoolExecutor
+from dataclasses import dataclass, field
 
 from tests import codes, layout, schema, untried
 from tests.cases import connections, corrections, heads, hub_commands, hub_files, hub_rules, joins, limits, older_files, order_of_rules, verify
@@ -73,9 +75,32 @@ TRIALS = [
 ]
 
 
+# what the gate says of a crate, a test or an edit that is not as it has to be
+OF_GATE = re.compile(r"NOT PROVED|FAILED|NOT REFUSED|NOT TRIED|BAD EDIT|^rt: .* did not end|^rt: .* was stopped by|^rt: .* ended with status")
+# as many of the failures are printed again, and as much of each
+AGAIN, WIDTH = 10, 200
+
+
+@dataclass
+class Count:
+    """How many passed, and a line for each that failed."""
+
+    passed: int = 0
+    failures: list = field(default_factory=list)
+
+    def add(self, other):
+        self.passed += other.passed
+        self.failures += other.failures
+
+    def tell(self, line):
+        """Prints why something failed, and keeps it."""
+        print(line, flush=True)
+        self.failures.append(line)
+
+
 def gate(words):
-    """Runs rt ci and passes its output on, then the processor time of each crate. Returns what it counted."""
-    passed, failed = 0, 1
+    """Runs rt ci and passes its output on. Returns what it counted, and lines that tell the processor time of each crate."""
+    count = Count()
     for program, _ in PROGRAMS:
         if os.path.isfile(program):
             os.remove(program)
@@ -86,47 +111,38 @@ def gate(words):
     try:
         child = subprocess.Popen(["rt", "ci", *words], cwd=ROOT, env=one_job_each, stdout=subprocess.PIPE, text=True, errors="replace")
     except OSError as why:
-        print(f"rt ci cannot be run: {why}")
-        return passed, failed
-    taken = processor_time.Spent(child.pid)
+        count.tell(f"rt ci cannot be run: {why}")
+        return count, []
+    taken, failed, told = processor_time.Spent(child.pid), 0, []
     for line in child.stdout:
         found = re.fullmatch(r"(\d+) passed, (\d+) failed\n?", line)
         if found:
-            passed, failed = int(found[1]), int(found[2])
+            count.passed, failed = int(found[1]), int(found[2])
         else:
             print(line, end="", flush=True)
-    if child.wait() and not failed:
-        failed = 1
-    for line in processor_time.printed(*taken.end()):
-        print(line)
-    return passed, failed
+            told += [line.rstrip("\n")] if OF_GATE.search(line) else []
+    if child.wait() or not count.passed:
+        failed = failed or 1
+    # as many lines as rt ci counted failures
+    if failed:
+        count.failures = (told + [f"rt ci failed, {failed} in all"] * failed)[:failed]
+    return count, list(processor_time.printed(*taken.end()))
 
 
-def files_are_in_layout():
-    """Whether each file is in the layout that the gate asks for, as a count of one. The gate itself would say it an hour later."""
-    return (0, 1) if layout.main([]) else (1, 0)
-
-
-def every_function_is_tried():
-    """Whether each public function has a wrong body, as a count of one."""
-    number, lines = untried.check()
-    print(
-        *lines,
-        f"{number} public functions, each with a wrong body or a reason why not" if not lines else "these are untried",
-        sep="\n",
-        flush=True,
-    )
-    return (0, 1) if lines else (1, 0)
-
-
-def tables_are_written():
-    """Whether the tables in code are those of the definition, as a count of one."""
-    return (0, 1) if schema.main([]) else (1, 0)
-
-
-def codes_mean_the_same():
-    """Whether each code means the same in the list, the definitions, the documents, the page and the help texts, as a count of one."""
-    return (0, 1) if codes.main([]) else (1, 0)
+def before_the_gate():
+    """Checks what takes seconds, each as a count of one: the gate itself would tell the first an hour later."""
+    count = Count()
+    for what, is_wrong in (
+        ("a file is not in the toolchain's layout", layout.main([])),
+        ("a public function has no wrong body and no reason why not", untried.main()),
+        ("a table in code is not that of the definition", schema.main([])),
+        ("a code means different things in different places", codes.main([])),
+    ):
+        if is_wrong:
+            count.tell(what)
+        else:
+            count.passed += 1
+    return count
 
 
 def run(program, case, folder):
@@ -162,10 +178,11 @@ def run(program, case, folder):
 
 
 def program_cases(program, of_program):
-    """Runs the cases of a program side by side, each in a folder of its own. Returns how many passed and failed."""
+    """Runs the cases of a program side by side, each in a folder of its own."""
+    count = Count()
     if not os.path.isfile(program):
-        print(f"{os.path.basename(program)} was not built, so none of its cases was run")
-        return 0, 1
+        count.tell(f"{os.path.basename(program)} was not built, so none of its cases was run")
+        return count
 
     def tried(case):
         with tempfile.TemporaryDirectory() as folder:
@@ -175,31 +192,40 @@ def program_cases(program, of_program):
         whys = list(pool.map(tried, of_program))
     for case, why in zip(of_program, whys):
         if why:
-            print(f"case '{case.name}' failed: {why}")
-    failed = sum(bool(why) for why in whys)
-    return len(whys) - failed, failed
+            count.tell(f"case '{case.name}' failed: {why}")
+    count.passed = sum(not it for it in whys)
+    return count
+
+
+def program_trials():
+    """Runs the trials, one after the other."""
+    count = Count()
+    for program, name, trial in TRIALS:
+        why = trial(program) if os.path.isfile(program) else "the program was not built"
+        if why:
+            count.tell(f"{name}: {why}")
+        else:
+            count.passed += 1
+    return count
 
 
 def main(words):
     if words not in ([], ["--alone"], ["--anew"]):
         print("usage: python3 -m tests.test [--alone | --anew]")
         return 2
-    passed, failed = (sum(it) for it in zip(files_are_in_layout(), every_function_is_tried(), tables_are_written(), codes_mean_the_same()))
+    count, costs = before_the_gate(), []
     if words != ["--alone"]:
-        more_passed, more_failed = gate(words)
-        passed, failed = passed + more_passed, failed + more_failed
+        of_gate, costs = gate(words)
+        count.add(of_gate)
     for program, of_program in PROGRAMS:
-        more_passed, more_failed = program_cases(program, of_program)
-        passed, failed = passed + more_passed, failed + more_failed
-    for program, name, trial in TRIALS:
-        why = trial(program) if os.path.isfile(program) else "the program was not built"
-        if why:
-            print(f"{name}: {why}")
-        passed, failed = (passed, failed + 1) if why else (passed + 1, failed)
+        count.add(program_cases(program, of_program))
+    count.add(program_trials())
     spent = resource.getrusage(resource.RUSAGE_CHILDREN)
-    print(f"processor time: {(spent.ru_utime + spent.ru_stime) / 60:.1f} minutes")
-    print(f"{passed} passed, {failed} failed")
-    return 1 if failed else 0
+    for line in count.failures[:AGAIN]:
+        print(f"failed: {line:.{WIDTH}}")
+    print(*costs, f"processor time: {(spent.ru_utime + spent.ru_stime) / 60:.1f} minutes", sep="\n")
+    print(f"{count.passed} passed, {len(count.failures)} failed")
+    return 1 if count.failures else 0
 
 
 if __name__ == "__main__":

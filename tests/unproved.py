@@ -40,9 +40,9 @@ def main(words):
         print(why)
         return 1
     asked = [it for it in cases if " ".join(words[1:]) in it.name and not it.memory and not it.large]
-    passed, failed = test.program_cases(build.program(), asked)
-    print(f"{passed} passed, {failed} failed")
-    return 1 if failed else 0
+    count = test.program_cases(build.program(), asked)
+    print(f"{count.passed} passed, {len(count.failures)} failed")
+    return 1 if count.failures else 0
 
 
 if __name__ == "__main__":

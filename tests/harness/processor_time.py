@@ -1,5 +1,6 @@
 """What the processes of a command take of the processors, by the crate that each works on: sampled from /proc while the command runs."""
 import os
+import textwrap
 import threading
 from collections import defaultdict
 
@@ -77,12 +78,11 @@ class Spent:
 
 
 def printed(table, rest):
-    """The table, a line a crate, the dearest first, and the sums."""
-    yield f"{'processor minutes':<20}{'proofs':>8}{'tests':>8}{'edits':>8}"
-    for crate, row in sorted(table.items(), key=lambda it: -sum(it[1].values())):
-        yield f"{crate:<20}" + "".join(f"{row[kind]:8.1f}" for kind in ("proofs", "tests", "edits"))
-    yield (
-        f"{'in sum':<20}"
-        + "".join(f"{sum(row[kind] for row in table.values()):8.1f}" for kind in ("proofs", "tests", "edits"))
-        + f"   and {rest:.1f} of no crate"
-    )
+    """The minutes of each kind in sum, and of each crate, the dearest first."""
+    sums = ", ".join(f"{kind} {sum(row[kind] for row in table.values()):.1f}" for kind in ("proofs", "tests", "edits"))
+    yield f"processor minutes of the gate: {sums}, of no crate {rest:.1f}"
+    dearest = sorted(table.items(), key=lambda it: -sum(it[1].values()))
+    told = [
+        f"{crate} {sum(row.values()):.1f}" + (f" ({row['edits']:.1f} edits)" if row["edits"] else "") for crate, row in dearest
+    ]
+    yield from textwrap.wrap(", ".join(told), 120)
