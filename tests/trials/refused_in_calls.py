@@ -35,7 +35,7 @@ OF_THEIR_OWN = {
 }
 # the fewest tests that there are, and the fewest allocations of all of them; and how many of one test are refused at most: of a test with
 # more, some, all over it
-FEWEST_TESTS, FEWEST_ALLOCATIONS, MOST_OF_ONE = 14, 3_000, 3_000
+FEWEST_TESTS, FEWEST_ALLOCATIONS, MOST_OF_ONE = 13, 3_000, 3_000
 
 
 def names_of(program):

@@ -6,8 +6,6 @@
 #[cfg(test)]
 mod base;
 #[cfg(test)]
-mod columns;
-#[cfg(test)]
 mod doubles;
 #[cfg(test)]
 mod faults;
