@@ -337,11 +337,10 @@ class Tried:
             it for it in below if any(it == judge or it in below[judge] for judge in {wrong.refused_by or wrong.crate for wrong in left})
         ]
         bodies = {crate: [it for it in left if it.crate == crate and not it.refused_by] for crate in below}
-        # each with the crate that refuses: the bodies of a crate, or one definition
-        self.tries = (
-            [(crate, its) for crate, its in sorted(bodies.items(), key=lambda it: -len(it[1])) if its]
-            + [(it.refused_by, it) for it in left if it.refused_by]
-        )
+        # each with the crate that refuses: the bodies of a crate, or one definition. The highest crates come first, so that what a run
+        # leaves when it is stopped needs few libraries
+        self.tries = [(crate, its) for crate, its in bodies.items() if its] + [(it.refused_by, it) for it in left if it.refused_by]
+        self.tries.sort(key=lambda it: -len(below[it[0]]))
         self.count = {REFUSED: 0, NAMES_ALONE: 0, NOT_REFUSED: 0}
 
     def next(self, lanes_left):
