@@ -8,6 +8,8 @@ everything.
 `--alone` leaves out the gate and uses the programs that are there. `--anew` reuses nothing that an earlier gate proved.
 
     python3 -m tests.test [--alone | --anew]"""
+import contextlib
+import io
 import os
 import re
 import resource
@@ -76,7 +78,7 @@ TRIALS = [
 
 
 # what the gate says of a crate, a test or an edit that is not as it has to be
-OF_GATE = re.compile(r"NOT PROVED|FAILED|NOT REFUSED|NOT TRIED|BAD EDIT|^rt: .* did not end|^rt: .* was stopped by|^rt: .* ended with status")
+OF_GATE = re.compile(r"NOT PROVED|FAILED|NOT REFUSED|NOT TRIED|BAD EDIT|had not ended|was stopped by signal|ended with status|they differ")
 # as many of the failures are printed again, and as much of each
 AGAIN, WIDTH = 10, 200
 
@@ -132,14 +134,17 @@ def gate(words):
 def before_the_gate():
     """Checks what takes seconds, each as a count of one: the gate itself would tell the first an hour later."""
     count = Count()
-    for what, is_wrong in (
-        ("a file is not in the toolchain's layout", layout.main([])),
-        ("a public function has no wrong body and no reason why not", untried.main()),
-        ("a table in code is not that of the definition", schema.main([])),
-        ("a code means different things in different places", codes.main([])),
+    for what, wrong_in in (
+        ("a file is not in the toolchain's layout", lambda: layout.main([])),
+        ("a public function has no wrong body and no reason why not", untried.main),
+        ("a table in code is not that of the definition", lambda: schema.main([])),
+        ("a code means different things in different places", lambda: codes.main([])),
     ):
+        with contextlib.redirect_stdout(io.StringIO()) as said:
+            is_wrong = wrong_in()
+        print(said.getvalue(), end="", flush=True)
         if is_wrong:
-            count.tell(what)
+            count.tell(f"{what}: {said.getvalue().partition(chr(10))[0]}")
         else:
             count.passed += 1
     return count
