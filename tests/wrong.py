@@ -221,11 +221,11 @@ def refused_together(room, crate, batch):
     return refused, waiting, []
 
 
-def bodies_tried(crate, bodies, keep):
+def bodies_tried(crate, bodies, below, keep):
     """What becomes of a crate's wrong bodies: triples of the edit, the verdict and a line that says why. Tells each verdict as it is
     known."""
     with room_beside() as room:
-        copied(room, {crate})
+        copied(room, {crate}, below[crate])
         texts, done, checks = sources(crate), [], 0
         left = [(it, functions) for it, functions in ((it, functions_of(it.text, texts)) for it in bodies) if functions]
         while left:
@@ -307,7 +307,8 @@ def definition_tried(wrong, below):
     """What becomes of a wrong definition, in a copy of its own: the verdict and why."""
     between = [it for it in below if it == wrong.crate or wrong.crate in below[it] and it in below[wrong.refused_by]]
     with room_beside() as room:
-        copied(room, {*between, wrong.refused_by})
+        anew = {*between, wrong.refused_by}
+        copied(room, anew, below[wrong.refused_by] - anew)
         why = applied(wrong.text, os.path.join(room, "crates", wrong.crate))
         if why:
             return NOT_REFUSED, why
@@ -368,7 +369,7 @@ class Tried:
         return [], "", ""
 
     def bodies(self, its):
-        told, checks = bodies_tried(its[0].crate, its, self.kept.keep)
+        told, checks = bodies_tried(its[0].crate, its, self.below, self.kept.keep)
         minutes = (time.time() - self.begun) / 60
         alone = sum(bool(why) for _, _, why in told)
         line = f"{its[0].crate}: {len(told)} wrong bodies in {checks} checks and {alone} alone, {minutes:.0f} minutes from the start"

@@ -44,10 +44,10 @@ def text_copied(room):
                 shutil.copytree(os.path.join(ROOT, "crates", crate, part), os.path.join(room, "crates", crate, part))
 
 
-def copied(room, anew, used=None):
-    """The same with the libraries that its checks built, all or those that are used, and, of the crates in `anew`, what these kept."""
+def copied(room, anew, used):
+    """The same with the libraries of the crates that are used, and, of the crates in `anew`, with what their checks kept."""
     text_copied(room)
-    for crate in os.listdir(os.path.join(ROOT, "crates")) if used is None else [*used, *anew]:
+    for crate in [*used, *anew]:
         for part in ("rlib", "incremental") if crate in anew else ("rlib",):
             work = os.path.join(ROOT, "crates", crate, "out", part)
             with TAKEN_OVER:
