@@ -13,9 +13,10 @@ check. What is not refused in this way, or only by a proof that names what the e
 `rt must-fail`, whose verdict counts.
 
 What was refused is kept in crates/NAME/out/refused, under a checksum of the edit and of everything that the verdict depends on, without
-comments, and is not tried again; crates/NAME/out/proved does the same for libraries. So a run goes on where the last one was stopped. A
-crate whose edits were all refused has one line in tests/refused.txt, with their number and their checksum; of another crate each edit
-that was refused has a line. This file is kept with the tree: while a checksum is right, its edits are not tried again on any machine.
+comments and `#[inline(never)]`, and is not tried again; crates/NAME/out/proved does the same for libraries. So a run goes on where the last
+one was stopped. A crate whose edits were all refused has one line in tests/refused.txt, with their number and their checksum; of another
+crate each edit that was refused has a line. This file is kept with the tree: while a checksum is right, its edits are not tried again on
+any machine.
 `--anew` ignores all of this.
 
 Prints each edit that is not refused and each that is refused by names alone (which says little of the contract). The last line
@@ -41,6 +42,8 @@ PLACE = re.compile(r"(?:note: )?(?:\./)?(\S+?):(\d+):\d+: ")
 REFUSED, NAMES_ALONE, NOT_REFUSED = "refused", "refused by names alone", "not refused"
 # this much of a checksum distinguishes an edit from all others
 SHORT = 16
+# a hint to LLVM, which changes no proof
+HINT = b"#[inline(never)]"
 # what was refused, as the tree keeps it
 TOLD = os.path.join(ROOT, "tests", "refused.txt")
 
@@ -74,7 +77,7 @@ def summed(crate, parts, seen, with_comments=False):
         comment = b"--" if path.endswith(".antt") else b"//"
         with open(path, encoding="utf-8") as file:
             lines = seen(path, file.read()).encode().splitlines(keepends=True)
-        said = [line for line in lines if with_comments or not line.lstrip().startswith(comment)]
+        said = [line for line in lines if with_comments or not (line.lstrip().startswith(comment) or line.strip() == HINT)]
         total.update(repr((os.path.relpath(path, folder), said)).encode())
     return total.hexdigest()
 
@@ -100,7 +103,7 @@ class Kept:
 
     @functools.cache
     def sum_of(self, crate, with_comments=False):
-        """Returns the checksum of a crate's text, with or without comments, on which no proof depends."""
+        """Returns the checksum of a crate's text, with or without comments and hints, on which no proof depends."""
         return summed(crate, PARTS, lambda _, text: text, with_comments)
 
     @functools.cache

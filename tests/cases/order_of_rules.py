@@ -502,4 +502,4 @@ ORDER += [replace(it, name=f"{it.name}, over SQL", words=["sql"]) for it in ORDE
 ORDER += [replace(play.case(f"{name}, over a file"), words=WORDS, after=has_rows(left)) for name, play, left in PLAYS]
 ORDER += [Case(name, WORDS, play.script, play.printed, files=files, after=is_whole) for name, play, files in BY_FILES]
 ORDER += unusable()
-ORDER.append(replace(most_kept().case("orders of 400,000 lines in one upload, and of one more, over SQL"), words=["sql"], large=True))
+ORDER.append(replace(most_kept().case("orders of 400,000 lines in one upload, and of one more, over a file"), words=WORDS, large=True))

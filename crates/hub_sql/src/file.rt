@@ -34,6 +34,7 @@ pub enum LeftOfFile<D: Disk + Drop> {
 }
 
 /// Opens a connection to a file, which is made if it does not exist.
+#[inline(never)]
 pub fn open_file<S: Start>(
     rt: &HostRuntime,
     path: &str,

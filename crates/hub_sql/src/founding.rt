@@ -28,6 +28,7 @@ use sqlite_trees::memory::MemStore;
 use std::alloc::Global;
 
 // Makes a store with the rows of a register alone, in a database without tables.
+#[inline(never)]
 fn found_with_register<S: Alter + Drop>(
     alloc: Global,
     mut conn: Connection<S>,
@@ -55,6 +56,7 @@ fn found_with_register<S: Alter + Drop>(
 }
 
 // Founds a hub in a database without tables.
+#[inline(never)]
 fn found_bare<S: Alter + Drop>(
     alloc: Global,
     conn: Connection<S>,

@@ -1,4 +1,7 @@
 //! Keeps a hub in the tables of an SQL database, in memory or in a file.
+//!
+//! A function that takes a connection and gives it back is `inline(never)`: where several were inlined into one, LLVM
+//! took minutes over the fields that they move.
 #![tactic(auto)]
 
 mod calls;

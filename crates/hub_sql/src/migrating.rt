@@ -29,6 +29,7 @@ use sqlite::{Alter, Connection};
 use std::alloc::Global;
 
 // Returns the connection if it still lists the tables of schema 1 and the register fits their rows.
+#[inline(never)]
 fn connection_if_fits<S: Alter + Drop>(
     mut conn: Connection<S>,
     register: &Register,
@@ -74,6 +75,7 @@ fn connection_if_fits<S: Alter + Drop>(
 }
 
 // Makes a store with the rows of the register beside those of schema 1, which it fits.
+#[inline(never)]
 fn found_beside<S: Alter + Drop>(
     alloc: Global,
     mut conn: Connection<S>,
@@ -104,6 +106,7 @@ fn found_beside<S: Alter + Drop>(
 }
 
 // Like `found_beside`, for a connection that still lists the tables of schema 1, if the register fits.
+#[inline(never)]
 fn beside<S: Alter + Drop>(
     alloc: Global,
     conn: Connection<S>,
@@ -137,6 +140,7 @@ fn beside<S: Alter + Drop>(
 }
 
 /// Founds a hub in a database that has tables, if they are those of schema 1 and the register fits their rows.
+#[inline(never)]
 pub(crate) fn migrate_hub<S: Alter + Drop>(
     alloc: Global,
     conn: Connection<S>,
@@ -165,6 +169,7 @@ pub(crate) fn migrate_hub<S: Alter + Drop>(
 }
 
 /// Like `migrate_hub`, for a connection that was just opened, in whose tables the row numbers rise.
+#[inline(never)]
 pub(crate) fn migrate_opened_hub<S: Alter + Drop>(
     alloc: Global,
     conn: Connection<S>,

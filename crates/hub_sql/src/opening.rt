@@ -37,6 +37,7 @@ fn look_fault(fault: StoreFault) -> StoreFault
 }
 
 // Returns the connection and the register of its rows, if it still lists all tables and these hold one.
+#[inline(never)]
 fn with_register<S: Alter + Drop>(
     alloc: Global,
     mut conn: Connection<S>,
@@ -80,6 +81,7 @@ fn with_register<S: Alter + Drop>(
 }
 
 // Makes a store of a connection with the tables of schema 2, after setting their number.
+#[inline(never)]
 fn renumber_tables<S: Alter + Drop>(
     alloc: Global,
     mut conn: Connection<S>,
@@ -105,6 +107,7 @@ fn renumber_tables<S: Alter + Drop>(
 }
 
 // Makes a store of a connection with the tables of schema 2 or 3.
+#[inline(never)]
 fn raise_version<S: Alter + Drop>(
     alloc: Global,
     conn: Connection<S>,
@@ -138,6 +141,7 @@ fn raise_version<S: Alter + Drop>(
 }
 
 // Makes a store of a connection if its rows hold a register.
+#[inline(never)]
 fn store_of_rows<S: Alter + Drop>(
     alloc: Global,
     conn: Connection<S>,
@@ -174,6 +178,7 @@ impl<S: Alter + Drop> SqliteStore<S> {
     /// `Version`: the connection has no tables, tables that are not a hub's, or another number of the schema; it comes
     /// back as it was. `Unclean`: its rows hold no register; they stay as they are, with their number. A malformed row
     /// of another kind is found when it is looked up.
+    #[inline(never)]
     pub fn adopt(
         alloc: Global,
         conn: Connection<S>,
@@ -199,6 +204,7 @@ impl<S: Alter + Drop> SqliteStore<S> {
 
     /// Like `adopt`, for a connection that was just opened, in whose tables the row numbers rise: its storage is not
     /// checked, and the file is not read again.
+    #[inline(never)]
     pub(crate) fn adopt_opened(
         alloc: Global,
         conn: Connection<S>,

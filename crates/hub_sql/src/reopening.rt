@@ -17,6 +17,7 @@ use sqlite::{Alter, Connection};
 use std::alloc::Global;
 
 /// Returns the connection if both its tables and their number are of this version.
+#[inline(never)]
 pub fn of_version<S: Alter + Drop>(
     mut conn: Connection<S>,
     version: Version,
@@ -65,6 +66,7 @@ pub fn of_version<S: Alter + Drop>(
 }
 
 /// Returns the connection and the version of its tables, if that is schema 3 or 2.
+#[inline(never)]
 pub fn of_hub<S: Alter + Drop>(
     conn: Connection<S>,
 ) -> Result<(Connection<S>, Version), (Connection<S>, StoreFault)>
@@ -106,6 +108,7 @@ pub fn of_hub<S: Alter + Drop>(
 }
 
 /// Opens the connection again, if its storage reports that it is not broken and that it has the tables of this version.
+#[inline(never)]
 pub(crate) fn reopen<S: Alter + Drop>(
     alloc: Global,
     conn: Connection<S>,
