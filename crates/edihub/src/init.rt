@@ -36,9 +36,10 @@ fn found_file<S: Start>(
     start: S,
 ) -> Result<(), FoundFault> {
     make_missing(rt, path);
-    let tables = SqliteStore::<FileStore<FileFrom<S>>>::found_at(rt, path, start, register).map_err(
-        |(fault, _left)| fault,
-    )?;
+    let tables = match SqliteStore::<FileStore<FileFrom<S>>>::found_at(rt, path, start, register) {
+        Ok(tables) => tables,
+        Err((fault, _left)) => return Err(fault),
+    };
     let _ = tables.into_connection().close();
     Ok(())
 }

@@ -27,10 +27,10 @@ fn rekey_file<S: Start>(
     if let Some(fault) = fault_at(rt, path) {
         return Err(fault);
     }
-    let mut tables = SqliteStore::<FileStore<FileFrom<S>>>::at_path(rt, path, start).map_err(|(
-        fault,
-        _left,
-    )| fault)?;
+    let mut tables = match SqliteStore::<FileStore<FileFrom<S>>>::at_path(rt, path, start) {
+        Ok(tables) => tables,
+        Err((fault, _left)) => return Err(fault),
+    };
     let told = rekey(&mut tables, owner, key);
     let _ = tables.into_connection().close();
     told
