@@ -42,9 +42,7 @@ fn found_with_register<S: Alter + Drop>(
     ensures spared { IfErr result (λ e.
         SparesConnection S.Store ⊥ (MayBeBeside empty register.now) (state S.Store conn) e.0) }
 {
-    // This contract says whether a transaction is open.
     let _idle = conn.is_autocommit();
-    // This contract says that the register is one.
     let _hub = register.hub();
     let Ok(changes) = register_changes(alloc, register) else {
         return Err((conn, StoreFault::Memory));
@@ -123,8 +121,7 @@ impl<S: Alter + Drop> SqliteStore<S> {
 }
 
 impl SqliteStore<MemStore> {
-    /// Makes a store in memory, with the rows of the register alone. Fails with `Memory`, or with `Disk`, for which
-    /// memory has no cause.
+    /// Makes a store in memory, with the rows of the register alone. Fails with `Memory`, or without cause with `Disk`.
     pub fn in_memory(
         alloc: Global,
         register: &Register,

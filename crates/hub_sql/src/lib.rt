@@ -1,7 +1,7 @@
 //! Keeps a hub in the tables of an SQL database, in memory or in a file.
 //!
-//! A function that takes a connection and gives it back is `inline(never)`: where several were inlined into one, LLVM
-//! took minutes over the fields that they move.
+//! A function that takes a connection and gives it back is `inline(never)`: inlined, a few of them took LLVM minutes. A
+//! result that is named `_idle`, `_was_idle` or `_hub` is there for its call's contract.
 #![tactic(auto)]
 
 mod calls;

@@ -17,8 +17,7 @@ use hub_store::{MailHead, StoreFault};
 use sqlite::{Alter, Connection};
 use std::alloc::Global;
 
-/// Returns what a list shows of the entries above a number that are not taken. It begins at the supplier's mark if that
-/// is higher, and raises the mark.
+/// Lists the entries above a number, or above the supplier's mark if higher, that are not taken, and raises the mark.
 pub(crate) fn list_after<S: Alter>(
     conn: &mut Connection<S>,
     alloc: Global,

@@ -1,5 +1,4 @@
-//! Keeps, for each supplier that asked for a list, a number up to which all entries of its mailbox are taken, so that
-//! the next list does not pass over them again.
+//! Keeps up to which number all entries of a supplier's mailbox are taken, so that no list passes over them again.
 ghost use Rattle.std.specs.Prelude.{◌≡◌, ◌≤◌, List, ℕ, OnOk, OnErr, false};
 ghost use Rattle.std.specs.BTreeMap.{btree_map_len, get, IsUnchanged};
 ghost use Rattle.std.specs.Cmp.Lexicographic.{slice_cmp};
@@ -77,8 +76,7 @@ fn shown_mark(heads: &[MailHead], limit: usize, mark: u64) -> u64
     }
 }
 
-/// Returns where a list above a number begins: at the supplier's mark if that is higher, because every entry before it
-/// is taken.
+/// Returns where a list above a number begins: at the supplier's mark, up to which all is taken, if that is higher.
 pub(crate) fn list_start(marks: &TakenMarks, supplier: &Gln, number: u64) -> u64
     ensures { result ≡ spec.list_start marks.now supplier.now number }
 {

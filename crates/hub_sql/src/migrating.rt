@@ -58,14 +58,12 @@ fn connection_if_fits<S: Alter + Drop>(
     ensures fails { IfErr result (λ e. IsOfFounding e.1) }
     ensures spared { IfErr result (λ e. SparesConnection S.Store ⊥ Never (state S.Store conn) e.0) }
 {
-    // This contract says whether a transaction is open.
     let _was_idle = conn.is_autocommit();
     if !is_old_schema(conn.schema()) {
         return Err((conn, FoundFault::Store(StoreFault::Disk)));
     }
     match fits(&mut conn, register) {
         Ok(true) => {
-            // This contract says whether a transaction is open.
             let _idle = conn.is_autocommit();
             Ok(conn)
         }
@@ -92,9 +90,7 @@ fn found_beside<S: Alter + Drop>(
     ensures spared { IfErr result (λ e. SparesConnection S.Store ⊥
         (MayBeBeside (traffic_in (state S.Store conn).now.trees) register.now) (state S.Store conn) e.0) }
 {
-    // This contract says whether a transaction is open.
     let _idle = conn.is_autocommit();
-    // This contract says that the register is one.
     let _hub = register.hub();
     let Ok(changes) = register_changes(alloc, register) else {
         return Err((conn, FoundFault::Store(StoreFault::Memory)));

@@ -64,14 +64,12 @@ fn with_register<S: Alter + Drop>(
         HasCleanDisk (state S.Store e.0) → HoldsNone (tables_in (state S.Store conn).now.trees)) }
     ensures spared { IfErr result (λ e. SparesConnection S.Store ⊥ Never (state S.Store conn) e.0) }
 {
-    // This contract says whether a transaction is open.
     let _was_idle = conn.is_autocommit();
     if !is_hub_schema(conn.schema()) {
         return Err((conn, StoreFault::Disk));
     }
     match register(&mut conn, alloc) {
         Ok(Some(register)) => {
-            // This contract says whether a transaction is open.
             let _idle = conn.is_autocommit();
             Ok((conn, register))
         }
@@ -98,7 +96,6 @@ fn renumber_tables<S: Alter + Drop>(
     ensures spared { IfErr result (λ e. SparesConnection S.Store ⊥
         (MayBeRenumbered Version.Second (tables_in (state S.Store conn).now.trees)) (state S.Store conn) e.0) }
 {
-    // This contract says whether a transaction is open.
     let _was_idle = conn.is_autocommit();
     match renumber(&mut conn) {
         Ok(()) => Ok(SqliteStore::from_tables(alloc, conn, Some(register))),
@@ -128,7 +125,6 @@ fn raise_version<S: Alter + Drop>(
     ensures spared { IfErr result (λ e. SparesConnection S.Store ⊥
         (MayBeRenumbered version (tables_in (state S.Store conn).now.trees)) (state S.Store conn) e.0) }
 {
-    // This contract says whether a transaction is open.
     let _idle = conn.is_autocommit();
     match version {
         Version::Second => renumber_tables(alloc, conn, register),
@@ -226,8 +222,7 @@ impl<S: Alter + Drop> SqliteStore<S> {
         }
     }
 
-    /// Gives the connection back. Unless it is shut, it has the hub's tables with the rows of the content, even after a
-    /// lasting fault.
+    /// Gives the connection back. Unless it is shut, its tables have the content's rows, even after a lasting fault.
     pub fn into_connection(self) -> Connection<S>
         ensures held { result ≡ self.held }
         ensures idle { result.in_transaction ≡ false }

@@ -49,14 +49,12 @@ pub fn of_version<S: Alter + Drop>(
     ensures unclean { IfErr result (λ e. e.1 ≢ StoreFault.Unclean) }
     ensures spared { IfErr result (λ e. SparesConnection S.Store ⊥ Never (state S.Store conn) e.0) }
 {
-    // This contract says whether a transaction is open.
     let _was_idle = conn.is_autocommit();
     if !version.is_of(conn.schema()) {
         return Err((conn, StoreFault::Version));
     }
     match is_numbered(&mut conn, version.number()) {
         Ok(true) => {
-            // This contract says whether a transaction is open.
             let _idle = conn.is_autocommit();
             Ok(conn)
         }
@@ -95,7 +93,6 @@ pub fn of_hub<S: Alter + Drop>(
     ensures unclean { IfErr result (λ e. e.1 ≢ StoreFault.Unclean) }
     ensures spared { IfErr result (λ e. SparesConnection S.Store ⊥ Never (state S.Store conn) e.0) }
 {
-    // This contract says whether a transaction is open.
     let _was_idle = conn.is_autocommit();
     match of_version(conn, Version::Third) {
         Ok(conn) => Ok((conn, Version::Third)),
