@@ -35,6 +35,7 @@ fn db_of<'a>(work: &Work<'a>) -> &'a str {
 }
 
 // Does the work over the hub in these tables, and gives them back, even if nothing was done.
+#[inline(never)]
 fn over_tables<A: Alter + Drop>(
     rt: &HostRuntime,
     tables: SqliteStore<A>,
@@ -56,6 +57,7 @@ fn over_tables<A: Alter + Drop>(
 
 // Does the work over the hub in a file, and closes it, together with everything in the log beside it. If closing fails,
 // what was accepted is kept. No file is made: only `init` founds a hub.
+#[inline(never)]
 fn over_file<S: Start>(rt: &HostRuntime, work: Work<'_>, start: S) -> Result<u8, BeginFault> {
     let db = db_of(&work);
     if let Some(fault) = fault_at(rt, db) {

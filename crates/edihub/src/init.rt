@@ -29,6 +29,7 @@ fn make_missing(rt: &HostRuntime, path: &str) {
 }
 
 // Puts the register into the database file, beside the rows of a file of schema 1, and closes it.
+#[inline(never)]
 fn found_file<S: Start>(
     rt: &HostRuntime,
     path: &str,

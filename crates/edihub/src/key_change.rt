@@ -17,6 +17,7 @@ use sqlite_std_file::FileFrom;
 use sqlite_store::FileStore;
 
 // Changes the key in the database file, and closes it, together with everything in the log beside it. No file is made.
+#[inline(never)]
 fn rekey_file<S: Start>(
     rt: &HostRuntime,
     path: &str,

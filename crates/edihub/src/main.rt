@@ -1,4 +1,6 @@
 //! The program `edihub`: the EDI hub of one retailer.
+//!
+//! What takes tables or opens them is `inline(never)`, which spares LLVM minutes.
 #![tactic(auto)]
 
 mod database;

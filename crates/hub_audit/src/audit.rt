@@ -47,6 +47,7 @@ fn audit_rows<S: Alter>(rows: &mut HubRows<S>, alloc: Global) -> Result<Audit, S
 }
 
 // Decides what the rows behind a connection to a hub are, and counts them if they are a sound start.
+#[inline(never)]
 fn audit_hub<S: Alter + Drop>(
     alloc: Global,
     conn: Connection<S>,
@@ -64,6 +65,7 @@ fn audit_hub<S: Alter + Drop>(
 }
 
 // The number of schema 1, if the tables are those of schema 1.
+#[inline(never)]
 fn audit_earlier<S: Alter + Drop>(conn: Connection<S>) -> Result<(Audit, Connection<S>), StoreFault>
     requires idle { conn.in_transaction ≡ false }
     ensures { IfOk result (λ found. HasCleanDisk (state S.Store found.1) →
@@ -82,6 +84,7 @@ fn audit_earlier<S: Alter + Drop>(conn: Connection<S>) -> Result<(Audit, Connect
 ///
 /// `Memory`; `Version` if it has no tables, others than a hub's or another number of the schema; or `Disk` if a read
 /// failed.
+#[inline(never)]
 pub fn check_database<S: Alter + Drop>(
     alloc: Global,
     conn: Connection<S>,

@@ -18,6 +18,7 @@ use sqlite_store::FileStore;
 ///
 /// `Memory`; `Disk` if the file cannot be opened or read, is no database, or another program has it open; `Version` if
 /// it has no tables, others than a hub's or another number of the schema.
+#[inline(never)]
 pub fn check_file<S: Start>(
     rt: &HostRuntime,
     path: &str,

@@ -14,8 +14,7 @@ pub enum FoundFault {
     Store(StoreFault),
 }
 
-/// Returns the fault of a failed founding, or of a number that was not set. It is never `Unclean`, since the rows of a
-/// register have the form of their kind.
+/// Returns the fault of a failed founding, or of a number that was not set. No row of a register is `Unclean`.
 pub(crate) fn laying_fault(fault: StoreFault) -> StoreFault
     ensures exact { result ≡ laying_of fault }
     ensures either { (result ≡ StoreFault.Memory) ⊎ (result ≡ StoreFault.Disk) }

@@ -62,6 +62,7 @@ impl<S: Start> SqliteStore<FileStore<FileFrom<S>>> {
     /// `Disk`: the disk failed, another program has the file open, or it is not a database. `Version`: it has no
     /// tables, tables that are not a hub's, or another number of the schema; a file that did not exist is made, and is
     /// empty. `Unclean`: its rows hold no register; the file keeps its schema.
+    #[inline(never)]
     pub fn at_path(
         rt: &HostRuntime,
         path: &str,
@@ -84,6 +85,7 @@ impl<S: Start> SqliteStore<FileStore<FileFrom<S>>> {
     ///
     /// `Rows`: the register does not fit the rows of schema 1. `Version`: the file has other tables or another number
     /// of the schema. `Disk`: the disk failed, another program has the file open, or it is not a database.
+    #[inline(never)]
     pub fn found_at(
         rt: &HostRuntime,
         path: &str,

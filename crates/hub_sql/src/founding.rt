@@ -99,6 +99,7 @@ impl<S: Alter + Drop> SqliteStore<S> {
     }
 
     /// Like `found`, for a connection that was just opened, in whose tables the row numbers rise.
+    #[inline(never)]
     pub(crate) fn found_opened(
         alloc: Global,
         conn: Connection<S>,

@@ -198,8 +198,7 @@ impl<S: Alter + Drop> SqliteStore<S> {
         }
     }
 
-    /// Like `adopt`, for a connection that was just opened, in whose tables the row numbers rise: its storage is not
-    /// checked, and the file is not read again.
+    /// Like `adopt`, for a connection just opened, in whose tables the row numbers rise: no storage is checked again.
     #[inline(never)]
     pub(crate) fn adopt_opened(
         alloc: Global,

@@ -5,6 +5,8 @@
 //! it is reopened. `stop-file C PATH` and `stop-log C PATH` do this with a copy of the database file at PATH, such as
 //! one of schema 1.
 //!
+//! What takes a store or its files is `inline(never)`, which spares LLVM minutes.
+//!
 //! A script is lines of words, separated by single blanks. If a line names a number of bytes, these bytes follow it,
 //! and then a line end.
 //!
@@ -66,6 +68,7 @@ use trial_lists::VecStore;
 const SCRIPT_LIMIT: usize = 64 << 20;
 
 // Runs the script on standard input.
+#[inline(never)]
 fn play<S: Store + Drop, O: Opener<S>>(rt: &HostRuntime, opener: O) -> Result<(), ScriptFault> {
     let text = read_to_limit(rt.alloc(), &mut OfRead::new(rt.stdin()), SCRIPT_LIMIT)?;
     let mut trial = Trial::<S, O>::new(rt.alloc(), opener)?;

@@ -54,6 +54,7 @@ pub struct StoppingFiles<D: Stopping> {
 }
 
 // Returns the files after the machine has come back: what a crash leaves of them.
+#[inline(never)]
 fn crashed<D: Stopping>(files: Files<D>) -> Files<D>
     ensures log { IsTrue (D.Disk.is_usable result.log) }
     ensures db { IsTrue (D.Disk.is_usable result.db) }
@@ -65,6 +66,7 @@ fn crashed<D: Stopping>(files: Files<D>) -> Files<D>
 }
 
 // Returns the files of what came back with a fault.
+#[inline(never)]
 fn returned<D: Stopping>(back: Returned<FileStore<D>>) -> Files<D> {
     match back {
         Returned::Connection(conn) => conn.into_store().close(),
@@ -81,6 +83,7 @@ fn options() -> Options {
 
 // Returns the store over a connection: with the rows that it has, or founded with those of a register if it has no
 // tables or those of schema 1.
+#[inline(never)]
 fn found_store<A: Alter + Drop>(
     alloc: Global,
     conn: Connection<A>,
@@ -100,6 +103,7 @@ fn found_store<A: Alter + Drop>(
 
 impl<D: Stopping> StoppingFiles<D> {
     // Returns the files that were left, or new ones.
+    #[inline(never)]
     fn next_files(&mut self, alloc: Global) -> Result<Files<D>, StoreFault>
         ensures log { IfOk result (λ files. IsTrue (D.Disk.is_usable files.log)) }
         ensures db { IfOk result (λ files. IsTrue (D.Disk.is_usable files.db)) }
@@ -113,6 +117,7 @@ impl<D: Stopping> StoppingFiles<D> {
     }
 
     // Keeps the files of a store.
+    #[inline(never)]
     fn keep_files(&mut self, store: SqliteStore<FileStore<D>>) {
         self.left = Some(store.into_connection().into_store().close());
     }
