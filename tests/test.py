@@ -108,10 +108,11 @@ def gate(words):
             os.remove(program)
     # a kit whose gate never reuses proofs has no such word
     words = [it for it in words if it in subprocess.run(["rt", "help"], stdout=subprocess.PIPE, text=True, errors="replace").stdout]
-    # one job for each check, and one check for each processor, because each job of a check loads the crates below again
-    one_job_each = {"RT_JOBS": str(len(os.sched_getaffinity(0))), **os.environ}
+    # one job for each check, and one check for each processor, because each job of a check loads the crates below again; and the prover's
+    # allocator keeps what is freed, which halves its page faults
+    sparing = {"RT_JOBS": str(len(os.sched_getaffinity(0))), "MIMALLOC_PURGE_DELAY": "-1", **os.environ}
     try:
-        child = subprocess.Popen(["rt", "ci", *words], cwd=ROOT, env=one_job_each, stdout=subprocess.PIPE, text=True, errors="replace")
+        child = subprocess.Popen(["rt", "ci", *words], cwd=ROOT, env=sparing, stdout=subprocess.PIPE, text=True, errors="replace")
     except OSError as why:
         count.tell(f"rt ci cannot be run: {why}")
         return count, []

@@ -3,11 +3,11 @@ ghost use Rattle.hub_tables.specs.Register.{HoldsRegister};
 ghost use Rattle.hub_sql.specs.Stored.{content, honest};
 
 use crate::fault::BeginFault;
+use crate::hub_file::{close, opened};
 use crate::keys::KeyRequest;
 use crate::serve::serve_over;
 use crate::tasks::obey;
 use crate::tell;
-use crate::unopened::fault_at;
 use edi_base::exit::FAILED;
 use hub_app::ServeWords;
 use hub_commands::Hub;
@@ -55,17 +55,12 @@ fn over_tables<A: Alter + Drop>(
     (status, tables)
 }
 
-// Does the work over the hub in a file, and closes it, together with everything in the log beside it. If closing fails,
-// what was accepted is kept. No file is made: only `init` founds a hub.
+// Does the work over the hub in a file, and closes the file.
 #[inline(never)]
 fn over_file<S: Start>(rt: &HostRuntime, work: Work<'_>, start: S) -> Result<u8, BeginFault> {
-    let db = db_of(&work);
-    if let Some(fault) = fault_at(rt, db) {
-        return Err(BeginFault::Store(fault));
-    }
-    let tables = SqliteStore::at_path(rt, db, start).map_err(|(fault, _left)| fault)?;
+    let tables = opened(rt, db_of(&work), start)?;
     let (status, tables) = over_tables::<FileStore<FileFrom<S>>>(rt, tables, work);
-    let _ = tables.into_connection().close();
+    close(tables);
     status
 }
 

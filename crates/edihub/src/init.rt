@@ -1,5 +1,6 @@
 //! Founds a hub.
 use crate::fault::BeginFault;
+use crate::hub_file::close;
 use crate::register::register_text;
 use crate::tell;
 use crate::unopened::fault_at;
@@ -41,7 +42,7 @@ fn found_file<S: Start>(
         Ok(tables) => tables,
         Err((fault, _left)) => return Err(fault),
     };
-    let _ = tables.into_connection().close();
+    close(tables);
     Ok(())
 }
 

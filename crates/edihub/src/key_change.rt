@@ -1,22 +1,19 @@
 //! Changes the key of one party.
 use crate::fault::BeginFault;
+use crate::hub_file::{close, opened};
 use crate::keys::key_at;
 use crate::tasks::status_if_written;
 use crate::tell;
-use crate::unopened::fault_at;
 use edi_base::OfWrite;
 use edi_base::exit::FAILED;
 use hub_app::RekeyWords;
 use hub_commands::{KeyOutcome, key_change_run};
 use hub_parties::Key;
 use hub_rekey::{KeyOwner, Rekeyed, rekey};
-use hub_sql::SqliteStore;
 use hub_store::StoreFault;
 use sqlite_disk::{Start, Unknown};
-use sqlite_std_file::FileFrom;
-use sqlite_store::FileStore;
 
-// Changes the key in the database file, and closes it, together with everything in the log beside it. No file is made.
+// Changes the key in the database file, and closes the file.
 #[inline(never)]
 fn rekey_file<S: Start>(
     rt: &HostRuntime,
@@ -25,15 +22,9 @@ fn rekey_file<S: Start>(
     key: Key,
     start: S,
 ) -> Result<Rekeyed, StoreFault> {
-    if let Some(fault) = fault_at(rt, path) {
-        return Err(fault);
-    }
-    let mut tables = match SqliteStore::<FileStore<FileFrom<S>>>::at_path(rt, path, start) {
-        Ok(tables) => tables,
-        Err((fault, _left)) => return Err(fault),
-    };
+    let mut tables = opened(rt, path, start)?;
     let told = rekey(&mut tables, owner, key);
-    let _ = tables.into_connection().close();
+    close(tables);
     told
 }
 

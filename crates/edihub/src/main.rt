@@ -5,6 +5,7 @@
 
 mod database;
 mod fault;
+mod hub_file;
 mod init;
 mod journal;
 mod key_change;

@@ -119,7 +119,7 @@ impl<D: Stopping> StoppingFiles<D> {
     // Keeps the files of a store.
     #[inline(never)]
     fn keep_files(&mut self, store: SqliteStore<FileStore<D>>) {
-        self.left = Some(store.into_connection().into_store().close());
+        self.left = Some(returned(Returned::Connection(store.into_connection())));
     }
 }
 

@@ -76,7 +76,9 @@ fn store_of<S: Store>(plain: S, failure: Option<Failure>) -> TrialStore<S>
 
 // Reads a register from these bytes.
 fn register_of(alloc: Global, bytes: &[u8]) -> Result<Register, ScriptFault> {
-    let text = str::from_utf8(bytes).map_err(|_| ScriptFault::Register)?;
+    let Ok(text) = str::from_utf8(bytes) else {
+        return Err(ScriptFault::Register);
+    };
     Ok(Register::from_toml(alloc, text)?)
 }
 
