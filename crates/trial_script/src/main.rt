@@ -55,7 +55,7 @@ use edi_base::{OfRead, OfWrite, read_to_limit};
 use hub_sql::SqliteStore;
 use hub_store::Store;
 use sqlite::Alter;
-use sqlite_disk::{Fuse, Memory, Unknown};
+use sqlite_disk::{Disk, Fuse, Memory, Unknown};
 use sqlite_std_file::FileFrom;
 use sqlite_store::FileStore;
 use sqlite_trees::memory::MemStore;
@@ -83,8 +83,16 @@ fn over_tables<A: Alter + Drop, O: Opener<SqliteStore<A>>>(
     play::<SqliteStore<A>, O>(rt, opener)
 }
 
+// Runs the script on SQL tables that are kept in files.
+fn over_files<D: Disk + Drop, O: Opener<SqliteStore<FileStore<D>>>>(
+    rt: &HostRuntime,
+    opener: O,
+) -> Result<(), ScriptFault> {
+    over_tables::<FileStore<D>, O>(rt, opener)
+}
+
 fn over_file<T: Supposed>(rt: &HostRuntime, path: &str) -> Result<(), ScriptFault> {
-    over_tables::<FileStore<FileFrom<T>>, InFile<'_>>(rt, InFile { path })
+    over_files::<FileFrom<T>, InFile<'_>>(rt, InFile { path })
 }
 
 fn over_stopping<D: Stopping>(
@@ -93,7 +101,7 @@ fn over_stopping<D: Stopping>(
     of_log: u64,
     held: Vec<u8>,
 ) -> Result<(), ScriptFault> {
-    over_tables::<FileStore<D>, StoppingFiles<D>>(
+    over_files::<D, StoppingFiles<D>>(
         rt,
         StoppingFiles {
             of_file,

@@ -82,7 +82,7 @@ impl<'a> LineWords<'a> {
 
     /// Returns the next word as a count of bytes.
     pub fn next_count(&mut self) -> Option<usize> {
-        str::from_utf8(self.next_word()).ok()?.parse().ok()
+        usize::try_from(self.next_number()?).ok()
     }
 
     /// Returns the next word as a GLN.

@@ -8,6 +8,10 @@ use std::io;
 /// The bytes of a response for which there is room.
 const ROOM: usize = 65_536;
 
+fn count_of(number: u64) -> Result<usize, ScriptFault> {
+    usize::try_from(number).ok().ok_or(ScriptFault::Line)
+}
+
 /// How the bytes of a connection are read and written.
 #[derive(Clone, Copy)]
 pub struct Manner {
@@ -34,17 +38,30 @@ impl Manner {
             interrupted: false,
         };
         for _ in 0..5u32 {
-            match words.next_word() {
-                b"" => return Ok(manner),
-                b"piece" => manner.piece = words.next_count().ok_or(ScriptFault::Line)?,
-                b"reads" => manner.reads = words.next_number().ok_or(ScriptFault::Line)?,
-                b"takes" => manner.takes = words.next_count().ok_or(ScriptFault::Line)?,
-                b"writes" => manner.writes = words.next_number().ok_or(ScriptFault::Line)?,
-                b"interrupted" => manner.interrupted = true,
-                _ => return Err(ScriptFault::Line),
+            let word = words.next_word();
+            if word.is_empty() {
+                return Ok(manner);
             }
+            manner.set(word, words)?;
         }
         Ok(manner)
+    }
+
+    // Sets what this word names, from the number after it if there has to be one.
+    fn set(&mut self, word: &[u8], words: &mut LineWords<'_>) -> Result<(), ScriptFault> {
+        if word == b"interrupted".as_slice() {
+            self.interrupted = true;
+            return Ok(());
+        }
+        let number = words.next_number().ok_or(ScriptFault::Line)?;
+        match word {
+            b"piece" => self.piece = count_of(number)?,
+            b"reads" => self.reads = number,
+            b"takes" => self.takes = count_of(number)?,
+            b"writes" => self.writes = number,
+            _ => return Err(ScriptFault::Line),
+        }
+        Ok(())
     }
 
     // Returns the error of a failed read or write.
