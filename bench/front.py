@@ -35,6 +35,8 @@ GUESSERS, GUESSING, LET_THROUGH = 16, 15, 61
 # a client waits at most as many seconds more than the hub needs; how much longer the waits in a crowd may be than its rounds; and the
 # seconds of a restart
 MORE, ROUNDS, RESTART = 1.5, 4, 10
+# how often this program looks whether it runs on time, in seconds
+TICK = 0.05
 # the supplier with the long status, and the one that asks beside the others
 LONG, BESIDE = 0, 1
 
@@ -81,16 +83,32 @@ def read_slowly(front, number):
         return read(secret, request("GET", LONG, "status").replace(b"\r\n", b"\r\nConnection: close\r\n", 1), A_SECOND)
 
 
+async def late_ticks(late):
+    """Appends the moments at which this program itself was kept from running, by its own threads or by the machine, and how long."""
+    while True:
+        due = time.monotonic() + TICK
+        await asyncio.sleep(TICK)
+        if time.monotonic() > due + TICK:
+            late.append((due, time.monotonic() - due))
+
+
 async def beside(door, until):
-    """Asks again and again. Returns how long each answer took, as pairs of a moment and the seconds; and what is wrong, if anything."""
-    begun, waits = time.monotonic(), []
+    """Asks again and again. Returns how long each answer took, without what this program itself was late, as pairs of a moment and the
+    seconds; and what is wrong, if anything."""
+    begun, waits, late = time.monotonic(), [], []
+    ticks = asyncio.create_task(late_ticks(late))
     while not until():
         at = time.monotonic()
         found = await door.ask(request("GET", BESIDE, "mail/after/0"), f"127.5.{len(waits) // 200 % 200}.{len(waits) % 200 + 1}")
-        waits.append((at - begun, time.monotonic() - at))
+        # (a tick that is overdue comes first)
+        await asyncio.sleep(0)
+        waits.append((at - begun, time.monotonic() - at - sum(much for due, much in late if due > at)))
         if found != (200, f"{1:>14} ORDERS {BESIDE:08}\nend\n".encode()):
             return waits, f"a client beside them is answered {found!r:.200}"
         await asyncio.sleep(0.2)
+    ticks.cancel()
+    if late:
+        print(f"meanwhile this program was kept from running {len(late)} times, for up to {max(much for _, much in late):.2f} s", flush=True)
     return waits, None
 
 

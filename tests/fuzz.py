@@ -30,10 +30,10 @@ from tests.harness.register_texts import ALPHA, BETA, HUB, RETAILER
 from tests.harness.servers import Server, exit_of, limit, lines_of
 
 BATCH = 120
-# bytes of address space: a program that asks for more is refused it. The program by itself has the first, with the open store of a
-# batch the second, and to that so many times its largest input: each empty element of a text is a list by itself, so that a text of
-# nothing but separators takes tens of bytes for each of its own
-ROOM, ROOM_OF_STORE, TEXTS = 6 << 20, 14 << 20, 40
+# bytes of address space: a program that asks for more is refused it. The program by itself has the first, with an open store the
+# second and so many times its file, and to that so many times its largest input: each empty element of a text is a list by itself, so
+# that a text of nothing but separators takes tens of bytes for each of its own
+ROOM, ROOM_OF_STORE, FILES, TEXTS = 6 << 20, 14 << 20, 2, 40
 # how long a command may take by the clock, beside other work, and how much processor time a command or a server may take, of small inputs
 # and for each megabyte of its inputs
 SECONDS, PROCESSOR_SECONDS, OF_MEGABYTE = 60, 1, 2
@@ -145,6 +145,12 @@ def largest_of(texts):
     return TEXTS * max(map(len, texts))
 
 
+def size_at(folder):
+    """The bytes of the database file in a folder, if there is one."""
+    path = os.path.join(folder, NAME)
+    return os.path.getsize(path) if os.path.isfile(path) else 0
+
+
 def time_of(texts):
     """The seconds of processor time that are allowed for all of these inputs."""
     return PROCESSOR_SECONDS + (OF_MEGABYTE * sum(map(len, texts)) >> 20)
@@ -170,7 +176,7 @@ class Fuzz:
 
     def ran(self, words, cwd, data=b"", texts=()):
         """What a command prints: its status, and its output and error. The texts are files that it reads."""
-        room = (ROOM_OF_STORE if "--db" in words else ROOM) + largest_of([data, *texts])
+        room = (ROOM_OF_STORE + FILES * size_at(cwd) if "--db" in words else ROOM) + largest_of([data, *texts])
         limits = lambda: limit(room, time_of([data, *texts]))
         try:
             ran = subprocess.run([self.program, *words], input=data, capture_output=True, cwd=cwd, timeout=SECONDS, preexec_fn=limits)

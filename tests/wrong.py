@@ -132,7 +132,9 @@ class Kept:
         return [(it, self.sum_of(it) if it in whole else self.promised(it)) for it in sorted(self.below[judge] | {judge})]
 
     def key(self, wrong):
-        return hashlib.sha256(repr((wrong, self.tried_on(wrong), self.logic())).encode()).hexdigest()
+        # (in which of its crate's two folders an edit is changes no verdict)
+        edit = (wrong.crate, wrong.name, wrong.text, wrong.refused_by)
+        return hashlib.sha256(repr((edit, self.tried_on(wrong), self.logic())).encode()).hexdigest()
 
     def library(self, crate):
         """The file that says of what the crate's library was proved, and what it says where that is the crate as it stands."""
