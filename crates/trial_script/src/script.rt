@@ -82,7 +82,7 @@ impl<'a> LineWords<'a> {
 
     /// Returns the next word as a count of bytes.
     pub fn next_count(&mut self) -> Option<usize> {
-        usize::try_from(self.next_number()?).ok()
+        Some(self.next_number()? as usize)
     }
 
     /// Returns the next word as a GLN.

@@ -8,10 +8,6 @@ use std::io;
 /// The bytes of a response for which there is room.
 const ROOM: usize = 65_536;
 
-fn count_of(number: u64) -> Result<usize, ScriptFault> {
-    usize::try_from(number).ok().ok_or(ScriptFault::Line)
-}
-
 /// How the bytes of a connection are read and written.
 #[derive(Clone, Copy)]
 pub struct Manner {
@@ -55,9 +51,9 @@ impl Manner {
         }
         let number = words.next_number().ok_or(ScriptFault::Line)?;
         match word {
-            b"piece" => self.piece = count_of(number)?,
+            b"piece" => self.piece = number as usize,
             b"reads" => self.reads = number,
-            b"takes" => self.takes = count_of(number)?,
+            b"takes" => self.takes = number as usize,
             b"writes" => self.writes = number,
             _ => return Err(ScriptFault::Line),
         }
