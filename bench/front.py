@@ -96,20 +96,21 @@ async def beside(door, until):
     """Asks again and again. Returns how long each answer took, without what this program itself was late, as pairs of a moment and the
     seconds; and what is wrong, if anything."""
     begun, waits, late = time.monotonic(), [], []
-    ticks = asyncio.create_task(late_ticks(late))
-    while not until():
+    ticks, why = asyncio.create_task(late_ticks(late)), None
+    while not until() and not why:
         at = time.monotonic()
         found = await door.ask(request("GET", BESIDE, "mail/after/0"), f"127.5.{len(waits) // 200 % 200}.{len(waits) % 200 + 1}")
         # (a tick that is overdue comes first)
         await asyncio.sleep(0)
         waits.append((at - begun, time.monotonic() - at - sum(much for due, much in late if due > at)))
         if found != (200, f"{1:>14} ORDERS {BESIDE:08}\nend\n".encode()):
-            return waits, f"a client beside them is answered {found!r:.200}"
+            why = f"a client beside them is answered {found!r:.200}"
         await asyncio.sleep(0.2)
     ticks.cancel()
     if late:
-        print(f"meanwhile this program was kept from running {len(late)} times, for up to {max(much for _, much in late):.2f} s", flush=True)
-    return waits, None
+        longest = max(much for _, much in late)
+        print(f"meanwhile this program was kept from running {len(late)} times, for up to {longest:.2f} s", flush=True)
+    return waits, why
 
 
 def too_long(waits, needed):

@@ -31,8 +31,8 @@ from tests.harness.servers import Server, exit_of, limit, lines_of
 
 BATCH = 120
 # bytes of address space: a program that asks for more is refused it. The program by itself has the first, with an open store the
-# second and so many times its file, and to that so many times its largest input: each empty element of a text is a list by itself, so
-# that a text of nothing but separators takes tens of bytes for each of its own
+# second and so many times the bytes of its file, which opening it reads; to either, so many times its largest input: each empty element of
+# a text is a list by itself, so that a text of nothing but separators takes tens of bytes for each of its own
 ROOM, ROOM_OF_STORE, FILES, TEXTS = 6 << 20, 14 << 20, 2, 40
 # how long a command may take by the clock, beside other work, and how much processor time a command or a server may take, of small inputs
 # and for each megabyte of its inputs
