@@ -20,8 +20,8 @@ import time
 from collections import Counter
 from concurrent.futures import ProcessPoolExecutor
 
+from bench.peak import most_memory
 from bench.trade import Order, request, status_body, supplier_of
-from bench.year import most_memory
 from tests.harness.database_files import NAME, is_whole
 from tests.harness.front_proxy import Door, Front, Supervised, is_there
 from tests.harness.hub_scripts import interchange

@@ -12,6 +12,7 @@ import sys
 import tempfile
 
 from bench.figures import Figures
+from bench.peak import Peak, most_memory
 from tests.harness.hub_scripts import Play, interchange, message, parties
 from tests.harness.register_texts import ALPHA, RETAILER
 
@@ -93,19 +94,19 @@ LOADS = {
 def since_first(words, folder, source=subprocess.DEVNULL):
     """Processor seconds of one run from its first printed line on, most memory in MB before it and in all, and output."""
     child = subprocess.Popen(words, stdin=source, stdout=subprocess.PIPE, cwd=folder)
+    peak = Peak(child.pid)
     first = os.read(child.stdout.fileno(), 1)
     child.send_signal(signal.SIGSTOP)
     with open(f"/proc/{child.pid}/schedstat", encoding="ascii") as file:
         opened = int(file.read().split()[0]) / 1e9
-    with open(f"/proc/{child.pid}/status", encoding="ascii") as file:
-        before = next(int(line.split()[1]) for line in file if line.startswith("VmHWM")) / 1024
+    before = most_memory(child.pid)
     child.send_signal(signal.SIGCONT)
     output = first + child.stdout.read()
     _, state, used = os.wait4(child.pid, 0)
     child.returncode = os.waitstatus_to_exitcode(state)
     if child.returncode:
         sys.exit(f"{words[0]} ended with {child.returncode}")
-    return used.ru_utime + used.ru_stime - opened, before, used.ru_maxrss / 1024, output
+    return used.ru_utime + used.ru_stime - opened, before, peak.end(), output
 
 
 def seconds(program, text):

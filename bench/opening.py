@@ -4,7 +4,6 @@ and instructions if valgrind is there.
     python3 -m bench.opening EDIHUB [MB ..]"""
 import os
 import re
-import resource
 import shutil
 import subprocess
 import sys
@@ -12,6 +11,7 @@ import tempfile
 
 from bench.figures import Figures
 from bench.hub import order
+from bench.sql import timed
 from tests.harness.hub_scripts import MOMENT, interchange
 from tests.harness.register_texts import ALPHA, BETA, RETAILER, register
 
@@ -37,14 +37,6 @@ def file_of(edihub, size, folder):
     subprocess.run([edihub, "import", "--db", "hub.db", "--as", RETAILER, "--key", "retail-key", "--folder", "in"], **told)
 
 
-def taken(words, folder):
-    """Processor time in seconds, and the most memory in MB."""
-    before = resource.getrusage(resource.RUSAGE_CHILDREN)
-    subprocess.run(words, cwd=folder, check=True, stdout=subprocess.DEVNULL)
-    after = resource.getrusage(resource.RUSAGE_CHILDREN)
-    return after.ru_utime + after.ru_stime - before.ru_utime - before.ru_stime, after.ru_maxrss / 1000
-
-
 def instructions(words, folder):
     """Of the whole command, and of the database's own opening within."""
     counted = ["valgrind", "--tool=callgrind", "--callgrind-out-file=counted", *words]
@@ -63,7 +55,7 @@ def main(figures, edihub, *sizes):
             file_of(edihub, size, folder)
             # a list of entries above the last one
             words = [edihub, "mail", "--db", "hub.db", "--as", BETA, "--key", "beta-key-1", "--moment", MOMENT, "--do", "after", "--n", "0"]
-            time, memory = taken(words, folder)
+            time, memory, _ = timed(words, folder)
             size = f"{os.path.getsize(os.path.join(folder, 'hub.db')) / 1e6:.0f} MB"
             print(f"{size}: {time:.2f} s of processor time, {memory:.0f} MB of memory", flush=True)
             if shutil.which("valgrind"):

@@ -13,6 +13,7 @@ import tempfile
 
 from bench.figures import Figures
 from bench.hub import begun, despatch, order, sent, since_first
+from bench.peak import Peak
 from tests.harness.hub_scripts import MOMENT, Play, interchange
 from tests.harness.register_texts import ALPHA, BETA, RETAILER, gln, register
 from tests.harness.shims import STOP, built
@@ -72,12 +73,13 @@ def timed(words, folder, source=subprocess.DEVNULL, **variables):
     """Processor seconds, most memory in MB, and output of one run in a folder."""
     with tempfile.TemporaryFile() as target:
         child = subprocess.Popen(words, stdin=source, stdout=target, cwd=folder, env={**os.environ, **variables})
+        peak = Peak(child.pid)
         _, state, used = os.wait4(child.pid, 0)
         child.returncode = os.waitstatus_to_exitcode(state)
         target.seek(0)
         if child.returncode:
             sys.exit(f"{words[0]} ended with {child.returncode}")
-        return used.ru_utime + used.ru_stime, used.ru_maxrss / 1024, target.read()
+        return used.ru_utime + used.ru_stime, peak.end(), target.read()
 
 
 def run(program, script, folder, **variables):

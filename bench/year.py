@@ -10,6 +10,7 @@ import shutil
 import sys
 import tempfile
 
+from bench.peak import most_memory
 from bench.trade import KINDS, LINES, Order, request, status_body
 from tests.harness.database_files import NAME, is_whole
 from tests.harness.http_texts import response
@@ -26,12 +27,6 @@ CONNECTIONS = 1_000_000
 # the goals: times that a message of the first 10,000 lines takes, and MB while serving
 MOST_GROWTH, MOST_MEMORY = 1.3, 24
 LOOKS = ("status", "list", "entry")
-
-
-def most_memory(pid):
-    """The most memory that a process has had, in MB."""
-    with open(f"/proc/{pid}/status", encoding="ascii") as file:
-        return next(int(line.split()[1]) for line in file if line.startswith("VmHWM")) / 1024
 
 
 class Wrong(Exception):

@@ -31,9 +31,11 @@ from tests.harness.servers import Server, exit_of, limit, lines_of
 
 BATCH = 120
 # bytes of address space: a program that asks for more is refused it. The program by itself has the first, with an open store the
-# second and so many times the bytes of its file, which opening it reads; to either, so many times its largest input: each empty element of
-# a text is a list by itself, so that a text of nothing but separators takes tens of bytes for each of its own
+# second and so many times the bytes of its file, which are read and written; to either, so many times its largest input: each empty element
+# of a text is a list by itself, so that a text of nothing but separators takes tens of bytes for each of its own
 ROOM, ROOM_OF_STORE, FILES, TEXTS = 6 << 20, 14 << 20, 2, 40
+# times that a file keeps an accepted text: to know it again, and as mail
+KEPT = 2
 # how long a command may take by the clock, beside other work, and how much processor time a command or a server may take, of small inputs
 # and for each megabyte of its inputs
 SECONDS, PROCESSOR_SECONDS, OF_MEGABYTE = 60, 1, 2
@@ -151,6 +153,11 @@ def size_at(folder):
     return os.path.getsize(path) if os.path.isfile(path) else 0
 
 
+def room_of_store(size, texts):
+    """The bytes that are allowed for an open store over a file that is this large at first and keeps these inputs."""
+    return ROOM_OF_STORE + FILES * (size + KEPT * sum(map(len, texts)))
+
+
 def time_of(texts):
     """The seconds of processor time that are allowed for all of these inputs."""
     return PROCESSOR_SECONDS + (OF_MEGABYTE * sum(map(len, texts)) >> 20)
@@ -176,7 +183,7 @@ class Fuzz:
 
     def ran(self, words, cwd, data=b"", texts=()):
         """What a command prints: its status, and its output and error. The texts are files that it reads."""
-        room = (ROOM_OF_STORE + FILES * size_at(cwd) if "--db" in words else ROOM) + largest_of([data, *texts])
+        room = (room_of_store(size_at(cwd), texts) if "--db" in words else ROOM) + largest_of([data, *texts])
         limits = lambda: limit(room, time_of([data, *texts]))
         try:
             ran = subprocess.run([self.program, *words], input=data, capture_output=True, cwd=cwd, timeout=SECONDS, preexec_fn=limits)
@@ -311,7 +318,7 @@ class Fuzz:
 
     def served(self, requests):
         """What is answered to each request, one connection after another, and the rows that there are then."""
-        room, seconds = ROOM_OF_STORE + largest_of(requests), time_of(requests)
+        room, seconds = room_of_store(0, requests) + largest_of(requests), time_of(requests)
         with Server(self.program, len(requests), room=room, seconds=seconds) as server:
             answers = []
             for data in requests:
