@@ -24,6 +24,7 @@ from tests.cases import connections, corrections, heads, hub_commands, hub_files
 from tests.cases import without_hub
 from tests.harness import processor_time
 from tests.harness.case import SECONDS
+from tests.harness.sparing import sparing
 from tests.harness.tree import ROOT
 from tests.trials import changed_keys, disturbed_commands, documents, failing_openings, files_brought_over, folder_feeding, held_file
 from tests.trials import journal, kept_orders, lines_of_status_3, random_runs, refused_in_scripts, served_limits, serving, stopped_machine
@@ -102,21 +103,24 @@ class Count:
 
 def gate(words):
     """Runs rt ci and passes its output on. Returns what it counted, and lines that tell the processor time of each crate."""
-    count = Count()
     for program, _ in PROGRAMS:
         if os.path.isfile(program):
             os.remove(program)
     # a kit whose gate never reuses proofs has no such word
     words = [it for it in words if it in subprocess.run(["rt", "help"], stdout=subprocess.PIPE, text=True, errors="replace").stdout]
-    # one job for each check, and one check for each processor, because each job of a check loads the crates below again; and the prover's
-    # allocator keeps what is freed, which halves its page faults
-    sparing = {"RT_JOBS": str(len(os.sched_getaffinity(0))), "MIMALLOC_PURGE_DELAY": "-1", **os.environ}
-    try:
-        child = subprocess.Popen(["rt", "ci", *words], cwd=ROOT, env=sparing, stdout=subprocess.PIPE, text=True, errors="replace")
-    except OSError as why:
-        count.tell(f"rt ci cannot be run: {why}")
-        return count, []
-    taken, failed, told = processor_time.Spent(child.pid), 0, []
+    with sparing() as room:
+        try:
+            child = subprocess.Popen(["rt", "ci", *words], cwd=ROOT, env=room, stdout=subprocess.PIPE, text=True, errors="replace")
+        except OSError as why:
+            count = Count()
+            count.tell(f"rt ci cannot be run: {why}")
+            return count, []
+        return followed(child)
+
+
+def followed(child):
+    """Passes on what rt ci prints, until it ends. Returns what `gate` does."""
+    count, taken, failed, told = Count(), processor_time.Spent(child.pid), 0, []
     for line in child.stdout:
         found = re.fullmatch(r"(\d+) passed, (\d+) failed\n?", line)
         if found:

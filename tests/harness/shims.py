@@ -1,11 +1,11 @@
 """Libraries in C between a program and the system, each with its source: one that ends the program at a change of its file, one that
-meddles with what it reads, one that refuses an allocation, and one that counts the heap."""
+meddles with what it reads, one that refuses an allocation, one that counts the heap, and one that asks for large pages."""
 import os
 import subprocess
 
 from tests.harness.tree import HARNESS
 
-STOP, MEDDLE, REFUSE, HEAP = (os.path.join(HARNESS, f"{it}.c") for it in ("stop", "meddle", "refuse", "heap"))
+STOP, MEDDLE, REFUSE, HEAP, PAGES = (os.path.join(HARNESS, f"{it}.c") for it in ("stop", "meddle", "refuse", "heap", "large_pages"))
 # how a program ends at a change of its file
 WAYS = {"at once": {}, "torn": {"TORN": "1"}, "lost": {"LOST": "1"}}
 

@@ -25,6 +25,10 @@ fn cut_at(stop: u8, text: &[u8]) -> (&[u8], &[u8]) {
     }
 }
 
+fn number_of(word: &[u8]) -> Option<u64> {
+    str::from_utf8(word).ok()?.parse().ok()
+}
+
 /// What is left of a script.
 #[derive(Drop)]
 pub struct Script<'a> {
@@ -77,7 +81,7 @@ impl<'a> LineWords<'a> {
 
     /// Returns the next word as a number.
     pub fn next_number(&mut self) -> Option<u64> {
-        str::from_utf8(self.next_word()).ok()?.parse().ok()
+        number_of(self.next_word())
     }
 
     /// Returns the next word as a count of bytes.

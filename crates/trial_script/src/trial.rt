@@ -115,7 +115,12 @@ fn push_input(
     }
 }
 
-// The calls of a hub are in functions of their own, to keep the contract of each away from the goals of the others.
+// The calls of a hub, and of its paths, are in functions of their own, to keep the contract of each away from the goals
+// of the others.
+fn paths(alloc: Global) -> Result<Paths, ScriptFault> {
+    Ok(Paths::new(alloc)?)
+}
+
 fn replied<S: Store>(hub: &mut Hub<S>, asker: &Asker, request: Request) -> Reply {
     hub.step(asker.moment, &asker.gln, asker.key.as_slice(), request)
 }
@@ -140,7 +145,7 @@ impl<S: Store + Drop, O: Opener<S>> Trial<S, O> {
     pub fn new(alloc: Global, opener: O) -> Result<Self, ScriptFault> {
         Ok(Trial {
             alloc,
-            paths: Paths::new(alloc)?,
+            paths: paths(alloc)?,
             opener,
             hub: None,
             asker: None,

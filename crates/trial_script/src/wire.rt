@@ -49,7 +49,10 @@ impl Manner {
             self.interrupted = true;
             return Ok(());
         }
-        let number = words.next_number().ok_or(ScriptFault::Line)?;
+        self.set_number(word, words.next_number().ok_or(ScriptFault::Line)?)
+    }
+
+    fn set_number(&mut self, word: &[u8], number: u64) -> Result<(), ScriptFault> {
         match word {
             b"piece" => self.piece = number as usize,
             b"reads" => self.reads = number,
