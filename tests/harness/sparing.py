@@ -1,6 +1,6 @@
 """How the gate runs the prover so that it takes less of the processors: one job for each check, and one check for each processor, because
 each job of a check loads the crates below again; an allocator that keeps what is freed, which halves the page faults; and large pages
-(large_pages.c), which spare a twentieth. None of this is asked of the prover, which proves the same without."""
+(large_pages.c), which save some 4 %. The prover proves the same without any of it."""
 import contextlib
 import os
 import subprocess
