@@ -24,7 +24,7 @@ from tests.cases import connections, corrections, heads, hub_commands, hub_files
 from tests.cases import without_hub
 from tests.harness import processor_time
 from tests.harness.case import SECONDS
-from tests.harness.sparing import sparing
+from tests.harness.prover_environment import prover_environment
 from tests.harness.tree import ROOT
 from tests.trials import changed_keys, disturbed_commands, documents, failing_openings, files_brought_over, folder_feeding, held_file
 from tests.trials import journal, kept_orders, lines_of_status_3, random_runs, refused_in_scripts, served_limits, serving, stopped_machine
@@ -108,18 +108,19 @@ def gate(words):
             os.remove(program)
     # a kit whose gate never reuses proofs has no such word
     words = [it for it in words if it in subprocess.run(["rt", "help"], stdout=subprocess.PIPE, text=True, errors="replace").stdout]
-    with sparing() as room:
+    with prover_environment() as environment:
+        how = {"cwd": ROOT, "env": environment, "stdout": subprocess.PIPE, "text": True, "errors": "replace"}
         try:
-            child = subprocess.Popen(["rt", "ci", *words], cwd=ROOT, env=room, stdout=subprocess.PIPE, text=True, errors="replace")
+            child = subprocess.Popen(["rt", "ci", *words], **how)
         except OSError as why:
             count = Count()
             count.tell(f"rt ci cannot be run: {why}")
             return count, []
-        return followed(child)
+        return follow(child)
 
 
-def followed(child):
-    """Passes on what rt ci prints, until it ends. Returns what `gate` does."""
+def follow(child):
+    """Passes on the output of rt ci until it ends. Returns what `gate` returns."""
     count, taken, failed, told = Count(), processor_time.Spent(child.pid), 0, []
     for line in child.stdout:
         found = re.fullmatch(r"(\d+) passed, (\d+) failed\n?", line)

@@ -1,6 +1,6 @@
-/* Loaded before the C library: asks the system for large pages for the first large pieces of memory that the program takes. It changes
-   nothing else. The prover takes its memory in pieces of a gigabyte and looks about in them, which is faster in pages of two megabytes.
-   As large pages are not filled to the end, a program that takes much has them for some of it alone. */
+/* Loaded before the C library. It asks the system for large pages for the first large allocations of a program, and changes nothing else.
+   The prover allocates a gigabyte at a time and reads it in no order, which is faster with pages of two megabytes. Large pages are never
+   quite full, so that MOST bounds the memory that they waste. */
 #define _GNU_SOURCE
 #include <dlfcn.h>
 #include <stdatomic.h>
@@ -8,15 +8,15 @@
 #include <sys/mman.h>
 #include <sys/types.h>
 
-/* in bytes, what is large, and how much has large pages at most */
+/* in bytes: the smallest allocation that gets large pages, and how much of a program's memory gets them */
 static const size_t LARGE = (size_t)64 << 20, MOST = (size_t)3 << 30;
 static atomic_size_t asked;
 
 void *mmap(void *at, size_t length, int protection, int flags, int file, off_t offset) {
     __typeof__(&mmap) system_mmap = (__typeof__(&mmap))dlsym(RTLD_NEXT, "mmap");
-    void *taken = system_mmap(at, length, protection, flags, file, offset);
-    int is_memory = taken != MAP_FAILED && (flags & MAP_ANONYMOUS) && (protection & PROT_WRITE);
-    /* where the system refuses, the pages are small, as ever */
-    if (is_memory && length >= LARGE && atomic_fetch_add(&asked, length) < MOST) madvise(taken, length, MADV_HUGEPAGE);
-    return taken;
+    void *memory = system_mmap(at, length, protection, flags, file, offset);
+    int is_writable = memory != MAP_FAILED && (flags & MAP_ANONYMOUS) && (protection & PROT_WRITE);
+    /* if the system refuses, the pages stay small */
+    if (is_writable && length >= LARGE && atomic_fetch_add(&asked, length) < MOST) madvise(memory, length, MADV_HUGEPAGE);
+    return memory;
 }

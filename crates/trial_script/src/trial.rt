@@ -115,8 +115,7 @@ fn push_input(
     }
 }
 
-// The calls of a hub, and of its paths, are in functions of their own, to keep the contract of each away from the goals
-// of the others.
+// Each of the calls that follow is in a function of its own, to keep its contract out of the goals of the others.
 fn paths(alloc: Global) -> Result<Paths, ScriptFault> {
     Ok(Paths::new(alloc)?)
 }
