@@ -5,7 +5,7 @@ SCRIPT = crates/trial_script/out/trial_script
 
 .PHONY: run runnable day serve free-port page page-test page-pictures try case test wrong split-commit hostile fuzz year crowd front-test worst
 .PHONY: hubs bench
-.PHONY: join-test edihub trial_script tests_of_calls install uninstall deb deb-test boot-test clean
+.PHONY: join-test edihub trial_script install uninstall deb deb-test boot-test clean
 
 # The main job: the example's ORDERS interchange becomes the supplier's mailbox interchange; first from a build without any proof, then
 # proved. The small program that does only this, as `edihub relay` does it, uses six crates.
@@ -70,13 +70,9 @@ edihub:
 	python3 -m tests.prove edihub --help
 	cp $(PROVED) edihub
 
-# Proves and builds the program that plays scripts on a hub, for trials.
+# Proves and builds the program that plays scripts on a hub and tests calls, for trials.
 trial_script:
 	python3 -m tests.prove trial_script
-
-# Proves and runs the tests of calls, and leaves their program for the hostile trials.
-tests_of_calls:
-	mkdir -p crates/call_tests/out && cd crates/call_tests && rt test > out/log 2>&1 || { cat out/log; exit 1; }
 
 # Runs cases on an unproved `edihub` or `trial_script`, of one group or with some words in their names: make case OF=orders WORDS=QTY
 case:
@@ -119,7 +115,7 @@ split-commit:
 	python3 -m tests.split_commit
 
 # Kills, full disks, damaged files and refused memory, for some minutes; not part of the gate.
-hostile: edihub trial_script tests_of_calls
+hostile: edihub trial_script
 	python3 -m tests.hostile $(PROVED) $(SCRIPT)
 
 # Gives the program valid inputs that were then changed: make fuzz SEED=2 NUMBER=10000

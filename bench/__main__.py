@@ -36,8 +36,8 @@ def main(edihub, script):
         store.main(figures)
         hub.main(figures, script, built("hub", folder))
         if has_sqlite(folder):
-            sql.main(figures, script, built("sql", folder), edihub)
-            server.main(figures, script, built("server", folder), edihub)
+            sql.main(figures, built("sql", folder), edihub)
+            server.main(figures, built("server", folder), edihub)
         else:
             print("no SQLite library to compare with")
     figures.end()

@@ -3,7 +3,7 @@ time for each connection: a mail item, a mail list, an upload of one order, a ca
 of 10,000 and 1,000 pallets. Then what a start takes over a file with 1,000 suppliers and no order; and the memory of the server over
 many connections.
 
-    python3 -m bench.server crates/trial_script/out/trial_script PLAIN EDIHUB"""
+    python3 -m bench.server PLAIN EDIHUB"""
 import os
 import socket
 import subprocess
@@ -12,9 +12,9 @@ import tempfile
 
 from bench.figures import Figures
 from bench.hub import despatch
-from bench.sql import base, close, copied, orders_text, run
+from bench.sql import base, close, copied, founded, having, orders_text
 from tests.harness.http_texts import asking
-from tests.harness.hub_scripts import TWO_SUPPLIERS, Play, interchange
+from tests.harness.hub_scripts import TWO_SUPPLIERS, interchange
 from tests.harness.register_texts import ALPHA, RETAILER, crowd
 
 FEW, LINES, MANY = 10, 10_000, 100_000
@@ -31,16 +31,12 @@ def each_the_same(request, count):
 
 
 def despatched(lines):
-    """The script of orders of ten lines each, and of a pallet with a line of each order."""
-    play = Play()
-    play.script = base(lines)
-    for k in range(lines // 10):
-        play.upload(ALPHA, interchange(ALPHA, f"S{k}", despatch(k, f"{k:08}", 1)))
-    return play.script
+    """A pallet with a line of each order."""
+    return [interchange(ALPHA, f"S{k}", despatch(k, f"{k:08}", 1)) for k in range(lines // 10)]
 
 
-# the scripts of the files
-FILES = {"few": lambda: base(FEW), "many": lambda: base(LINES), "despatched": lambda: despatched(LINES)}
+# the lines in the orders of each file, and what its supplier sent
+FILES = {"few": (FEW, []), "many": (LINES, []), "despatched": (LINES, despatched(LINES))}
 STATUS_OF_ALPHA = asking("GET", f"/p/{ALPHA}/status", ALPHA)
 # each load, its file, its requests, and its bounds
 LOADS = {
@@ -117,13 +113,11 @@ def grows(words, folder, top):
     return found
 
 
-def file_of(script, name, top):
+def file_of(edihub, name, top):
     """A hub's file, and its register."""
-    folder = tempfile.mkdtemp(dir=top)
-    run(script, FILES[name](), folder)
+    lines, sent = FILES[name]
+    folder = having(edihub, founded(edihub, TWO_SUPPLIERS, base(lines), top), ALPHA, sent, top)
     close(folder)
-    with open(os.path.join(folder, "register.toml"), "w", encoding="ascii") as file:
-        file.write(TWO_SUPPLIERS)
     return folder
 
 
@@ -138,14 +132,14 @@ def starts(words, edihub, top):
     return [sum(served(it, copied(folder, top), [request])[0] for _ in range(STARTS)) / STARTS for it in words]
 
 
-def main(figures, script, plain, edihub):
-    script, plain, edihub = (os.path.abspath(it) for it in (script, plain, edihub))
+def main(figures, plain, edihub):
+    plain, edihub = os.path.abspath(plain), os.path.abspath(edihub)
     words = (
         lambda port, count: [edihub, "serve", "--db", "hub.db", "--port", str(port), "--count", str(count)],
         lambda port, count: [plain, "register.toml", "hub.db", str(port), str(count)],
     )
     with tempfile.TemporaryDirectory() as top:
-        folders = {name: file_of(script, name, top) for name in FILES}
+        folders = {name: file_of(edihub, name, top) for name in FILES}
         for name, (file, requests, (bound, at_most)) in LOADS.items():
             (time, answer), (plain_time, plain_answer) = (cost(it, folders[file], requests, top) for it in words)
             if answer != plain_answer:

@@ -1,20 +1,20 @@
-"""Plays despatches of ten lines, and 999 orders in one upload and in as many, on the proved hub over a file of SQL (`trial_script file`)
-and on a plain Rust program over the system's SQLite (sql.rs), with few and with many lines of the supplier. Prints ratios of processor
-time for each message, how it grows with the lines, and syncs. Then what opening a file costs, by its size and by its register; and
-`edihub import` of 999 orders in one file and in as many, beside the plain program's uploads of the same.
+"""Imports despatches of ten lines, and 999 orders in one file and in as many, by the proved `edihub`, and plays the same uploads on a
+plain Rust program over the system's SQLite (sql.rs), with few and with many lines of the supplier. Prints ratios of processor time for
+each message, how it grows with the lines, syncs, and memory. Then what opening a file costs, by its size and by its register.
 
-    python3 -m bench.sql crates/trial_script/out/trial_script PLAIN EDIHUB"""
+    python3 -m bench.sql PLAIN EDIHUB"""
 import os
 import shutil
 import sqlite3
 import subprocess
 import sys
 import tempfile
+from dataclasses import dataclass
 
 from bench.figures import Figures
-from bench.hub import begun, despatch, order, sent, since_first
+from bench.hub import begun, despatch, order, since_first
 from bench.peak import Peak
-from tests.harness.hub_scripts import MOMENT, Play, interchange
+from tests.harness.hub_scripts import KEYS, MOMENT, TWO_SUPPLIERS, Play, interchange
 from tests.harness.register_texts import ALPHA, BETA, RETAILER, gln, register
 from tests.harness.shims import STOP, built
 
@@ -30,43 +30,34 @@ OPENED = (45_000, 225_000)
 ROOM = 0.5
 
 
+@dataclass
+class Load:
+    """Files that are imported, and the messages in them. They are as many interchanges for the plain program."""
+
+    name: str
+    who: str
+    texts: list
+    messages: int
+
+
+def orders_text(count, first, lines=1):
+    return interchange(RETAILER, f"U{first}", *(order(k + 1, f"{first + k:08}", lines) for k in range(count)))
+
+
 def base(lines):
-    """Orders of ten lines each."""
-    play = Play().say("quiet")
+    """Orders of ten lines each, in uploads."""
     count = lines // 10
-    for first in range(0, count, 999):
-        sent(play, min(999, count - first), first, 10)
-    return play.script
+    return [orders_text(min(999, count - first), first, 10) for first in range(0, count, 999)]
 
 
-def despatches(lines):
-    play = opened()
-    for k in range(MESSAGES):
-        play.upload(ALPHA, interchange(ALPHA, f"S{k}", despatch(k, f"{4999 * k % (lines // 10):08}", 10)))
-    return play
-
-
-def orders_text(count, first):
-    return interchange(RETAILER, f"U{first}", *(order(k + 1, f"{first + k:08}", 1) for k in range(count)))
-
-
-def orders_in_one(_):
-    return opened().upload(RETAILER, orders_text(999, 50_000))
-
-
-def orders_each(_):
-    play = opened()
-    for k in range(999):
-        play.upload(RETAILER, orders_text(1, 50_000 + k))
-    return play
-
-
-# each load, and its messages
-LOADS = {
-    "a despatch of 10 lines": (despatches, MESSAGES),
-    "an order of one line, 999 in one upload": (orders_in_one, 999),
-    "an order of one line, 999 uploads": (orders_each, 999),
-}
+def loads(lines):
+    """What is measured among so many lines."""
+    despatches = [interchange(ALPHA, f"S{k}", despatch(k, f"{4999 * k % (lines // 10):08}", 10)) for k in range(MESSAGES)]
+    return [
+        Load("a despatch of 10 lines", ALPHA, despatches, MESSAGES),
+        Load("an order of one line, 999 in one file", RETAILER, [orders_text(999, 50_000)], 999),
+        Load("an order of one line, 999 files", RETAILER, [orders_text(1, 50_000 + k) for k in range(999)], 999),
+    ]
 
 
 def timed(words, folder, source=subprocess.DEVNULL, **variables):
@@ -104,14 +95,17 @@ def copied(folder, top):
     return into
 
 
-def cost(program, folder, load, top):
-    """The least processor time of a load, from the reply on that the file is open, and its output."""
+def plain_cost(program, folder, load, top):
+    """The least processor time of a load in the plain program, from the reply on that the file is open, and its output."""
+    play = begun(Play())
+    for text in load.texts:
+        play.upload(load.who, text)
     least, output = None, None
     for _ in range(ROUNDS):
         into = copied(folder, top)
         path = os.path.join(into, "script")
         with open(path, "wb") as file:
-            file.write(load.script)
+            file.write(play.script)
         with open(path, "rb") as source:
             time, _, _, output = since_first([program, "file", "hub.db"], into, source)
         least = time if least is None else min(least, time)
@@ -119,23 +113,14 @@ def cost(program, folder, load, top):
     return least, output
 
 
-def opened():
-    """A script whose first reply says that the file is open."""
-    return begun(Play())
+def status_words(edihub, who, key):
+    return [edihub, "status", "--db", "hub.db", "--as", who, "--key", key, "--moment", MOMENT]
 
 
-def syncs(program, folder, script, top, shim):
-    into = copied(folder, top)
-    count = os.path.join(into, "count")
-    run(program, script, into, LD_PRELOAD=shim, STOP_FILE=os.path.join(into, "hub.db"), COUNT=count)
-    with open(count, encoding="ascii") as file:
-        return int(file.read().split()[1])
-
-
-def opening(program, folder, top):
-    into = copied(folder, top)
-    size = sum(os.path.getsize(os.path.join(into, name)) for name in os.listdir(into) if name.startswith("hub.db"))
-    time, memory, _ = run(program, Play().script, into)
+def opening(edihub, folder):
+    """What a file costs to open, as somebody asks who has no orders in it."""
+    size = sum(os.path.getsize(os.path.join(folder, name)) for name in os.listdir(folder) if name.startswith("hub.db"))
+    time, memory, _ = timed(status_words(edihub, BETA, KEYS[BETA]), folder)
     print(f"opening a file of {size / 1e6:.0f} MB: {1000 * time:.0f} ms of processor time, {memory:.0f} MB of memory", flush=True)
 
 
@@ -147,14 +132,8 @@ def by_register(figures, edihub, top):
     uploads = [orders_text(min(999, 10_000 - first), first) for first in range(0, 10_000, 999)]
 
     def opened_with(name, text, who, key, uploads=()):
-        folder = tempfile.mkdtemp(dir=top)
-        with open(os.path.join(folder, "register.toml"), "w", encoding="ascii") as file:
-            file.write(text)
-        timed([edihub, "init", "--register", "register.toml", "--db", "hub.db"], folder)
-        folder, words = importing(edihub, folder, uploads, top)
-        timed(words, folder)
-        words = [edihub, "status", "--db", "hub.db", "--as", who, "--key", key, "--moment", MOMENT]
-        time = min(timed(words, folder)[0] for _ in range(ROUNDS))
+        folder = founded(edihub, text, uploads, top)
+        time = min(timed(status_words(edihub, who, key), folder)[0] for _ in range(ROUNDS))
         print(f"opening a hub of {name}: {1000 * time:.0f} ms of processor time", flush=True)
         return time
 
@@ -164,85 +143,95 @@ def by_register(figures, edihub, top):
     figures.tell("opening without orders, of what it is with 10,000", alone / among, MOST_OF_REGISTER, digits=3)
 
 
-def importing(edihub, folder, uploads, top):
-    """A copy of the folder with these uploads as files to import, and the words that import them."""
+def founded(edihub, text, uploads, top):
+    """The folder of a hub that was founded with this register and imported these uploads of the retailer."""
+    folder = tempfile.mkdtemp(dir=top)
+    with open(os.path.join(folder, "register.toml"), "w", encoding="ascii") as file:
+        file.write(text)
+    timed([edihub, "init", "--register", "register.toml", "--db", "hub.db"], folder)
+    return having(edihub, folder, RETAILER, uploads, top)
+
+
+def having(edihub, folder, who, uploads, top):
+    """A copy of the hub that imported these uploads."""
+    into, words = importing(edihub, folder, who, uploads, top)
+    timed(words, into)
+    shutil.rmtree(os.path.join(into, "in"))
+    return into
+
+
+def importing(edihub, folder, who, uploads, top):
+    """A copy of the hub with these uploads as files to import, and the words that import them."""
     into = copied(folder, top)
     os.mkdir(os.path.join(into, "in"))
     for k, text in enumerate(uploads):
         with open(os.path.join(into, "in", f"{k:03}.edi"), "w", encoding="ascii") as file:
             file.write(text)
-    words = ["--db", "hub.db", "--as", RETAILER, "--key", "retail-key", "--folder", "in"]
+    words = ["--db", "hub.db", "--as", who, "--key", KEYS[who], "--moment", MOMENT, "--folder", "in"]
     return into, [edihub, "import", *words]
 
 
-def import_syncs(edihub, folder, uploads, top, shim):
-    into, words = importing(edihub, folder, uploads, top)
+def import_syncs(edihub, folder, load, uploads, top, shim):
+    into, words = importing(edihub, folder, load.who, uploads, top)
     count = os.path.join(into, "count")
     timed(words, into, LD_PRELOAD=shim, STOP_FILE=os.path.join(into, "hub.db"), COUNT=count)
     with open(count, encoding="ascii") as file:
         return int(file.read().split()[1])
 
 
-def imported(figures, edihub, plain, folder, plain_folder, lines, top, shim):
-    """An import of 999 orders, in one file and in as many, beside the plain program's uploads of the same. The one file may take as
-    much memory as twice its size beside what the store takes for as many small ones."""
-    memory = {}
-    for name, load in (("one file", orders_in_one), ("999 files", orders_each)):
-        uploads = [orders_text(999, 50_000)] if load is orders_in_one else [orders_text(1, 50_000 + k) for k in range(999)]
-        runs = []
-        for _ in range(ROUNDS):
-            into, words = importing(edihub, folder, uploads, top)
-            runs.append(since_first(words, into)[:3])
-            shutil.rmtree(into)
-        time, before, most = min(runs)
-        plain_time = cost(plain, plain_folder, load(lines), top)[0]
-        each = (import_syncs(edihub, folder, uploads, top, shim) - import_syncs(edihub, folder, [], top, shim)) / 999
-        largest = max(map(len, uploads)) / 1e6
-        what = f"an import of 999 orders in {name}, among {lines:,}"
-        of_these = f"{before:.1f} of them for the open file, the largest file read {largest:.2f} MB"
-        print(f"{what}: {most:.1f} MB of memory, {of_these}", flush=True)
-        figures.tell(f"{what}: times the plain program", time / plain_time, MOST)
-        figures.tell(f"{what}: syncs an order", each, MOST_SYNCS, digits=1)
-        memory[name] = most - 2 * largest
-    more = memory["one file"] - memory["999 files"]
-    figures.tell(f"an import of one file, among {lines:,}: more than of small ones", more, ROOM, unit=" MB", digits=1)
+def replies(output):
+    """The lines of the replies, without what each program prints of a file or of a reply as such."""
+    return [line for line in output.split(b"\n") if line and line.split()[0] not in (b"file", b"done", b"end")]
 
 
-def main(figures, ours, plain, edihub):
-    ours, plain, edihub = (os.path.abspath(it) for it in (ours, plain, edihub))
+def imported(figures, edihub, plain, load, folders, lines, top, shim):
+    """An import beside the plain program's uploads of the same. Returns its time, and its memory beside twice the largest file."""
+    runs = []
+    for _ in range(ROUNDS):
+        into, words = importing(edihub, folders[0], load.who, load.texts, top)
+        runs.append(since_first(words, into))
+        shutil.rmtree(into)
+    time, before, most, output = min(runs)
+    plain_time, plain_output = plain_cost(plain, folders[1], load, top)
+    if replies(output) != replies(plain_output):
+        sys.exit(f"{load.name}, {lines} lines: the two programs print different replies")
+    of_load, of_none = (import_syncs(edihub, folders[0], load, texts, top, shim) for texts in (load.texts, []))
+    largest = max(map(len, load.texts)) / 1e6
+    what, micro = f"{load.name}, among {lines:,}", 1e6 / load.messages
+    print(f"{what}: {micro * time:.0f} microseconds of processor time, {micro * plain_time:.0f} in the plain program")
+    print(f"{what}: {most:.1f} MB of memory, {before:.1f} of them for the open file, the largest file read {largest:.2f} MB", flush=True)
+    figures.tell(f"{what}: times the plain program", time / plain_time, MOST)
+    figures.tell(f"{what}: syncs a message", (of_load - of_none) / load.messages, MOST_SYNCS, digits=1)
+    return time, most - 2 * largest
+
+
+def main(figures, plain, edihub):
+    plain, edihub = os.path.abspath(plain), os.path.abspath(edihub)
     times = {}
     with tempfile.TemporaryDirectory() as top:
         shim = built(STOP, top)
         for lines in LINES:
-            folders = []
-            for program in (ours, plain):
-                folders.append(tempfile.mkdtemp(dir=top))
-                run(program, base(lines), folders[-1])
-                close(folders[-1])
-            for name, (load, count) in LOADS.items():
-                play = load(lines)
-                (time, output), (plain_time, plain_output) = (
-                    cost(program, folder, play, top) for program, folder in zip((ours, plain), folders)
-                )
-                if output != plain_output:
-                    sys.exit(f"{name}, {lines} lines: the two programs print different replies")
-                times[name, lines] = time
-                each = (syncs(ours, folders[0], play.script, top, shim) - syncs(ours, folders[0], opened().script, top, shim)) / count
-                what = f"{name}, among {lines:,}"
-                micro = 1e6 / count
-                print(f"{what}: {micro * time:.0f} microseconds of processor time, {micro * plain_time:.0f} in the plain program")
-                figures.tell(f"{what}: times the plain program", time / plain_time, MOST)
-                figures.tell(f"{what}: syncs a message", each, MOST_SYNCS, digits=1)
-            imported(figures, edihub, plain, *folders, lines, top, shim)
+            folders = [founded(edihub, TWO_SUPPLIERS, base(lines), top), tempfile.mkdtemp(dir=top)]
+            play = Play().say("quiet")
+            for text in base(lines):
+                play.upload(RETAILER, text)
+            run(plain, play.script, folders[1])
+            for folder in folders:
+                close(folder)
+            memory = {}
+            for load in loads(lines):
+                times[load.name, lines], memory[load.name] = imported(figures, edihub, plain, load, folders, lines, top, shim)
+            # one file may take as much memory as twice its size beside what the store takes for as many small ones
+            _, in_one, in_each = memory.values()
+            figures.tell(f"an import of one file, among {lines:,}: more than of small ones", in_one - in_each, ROOM, unit=" MB", digits=1)
         for lines in OPENED:
-            folder = tempfile.mkdtemp(dir=top)
-            run(ours, base(lines), folder)
+            folder = founded(edihub, TWO_SUPPLIERS, base(lines), top)
             close(folder)
-            opening(ours, folder, top)
+            opening(edihub, folder)
         by_register(figures, edihub, top)
-    for name in LOADS:
-        growth = times[name, LINES[-1]] / times[name, LINES[0]]
-        figures.tell(f"{name}: growth from {LINES[0]} to {LINES[-1]:,} lines", growth, MOST_GROWTH)
+    for load in loads(LINES[0]):
+        growth = times[load.name, LINES[-1]] / times[load.name, LINES[0]]
+        figures.tell(f"{load.name}: growth from {LINES[0]} to {LINES[-1]:,} lines", growth, MOST_GROWTH)
 
 
 if __name__ == "__main__":

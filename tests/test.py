@@ -20,15 +20,15 @@ from concurrent.futures import ThreadPoolExecutor
 from dataclasses import dataclass, field
 
 from tests import codes, layout, schema, untried
-from tests.cases import connections, corrections, heads, hub_commands, hub_files, hub_rules, joins, limits, older_files, order_of_rules, verify
-from tests.cases import without_hub
+from tests.cases import calls, connections, corrections, heads, hub_commands, hub_files, hub_rules, joins, limits, older_files
+from tests.cases import order_of_rules, verify, without_hub
 from tests.harness import processor_time
 from tests.harness.case import SECONDS
 from tests.harness.prover_environment import prover_environment
 from tests.harness.tree import ROOT
-from tests.trials import changed_keys, disturbed_commands, documents, failing_openings, files_brought_over, folder_feeding, held_file
-from tests.trials import journal, kept_orders, lines_of_status_3, random_runs, refused_in_scripts, served_limits, serving, stopped_machine
-from tests.trials import stopped_program, units, verified_files
+from tests.trials import changed_keys, disturbed_commands, documents, failing_openings, files_brought_over, folder_feeding
+from tests.trials import journal, kept_orders, lines_of_status_3, random_runs, refused_in_scripts, served_limits, serving, stopped_commands
+from tests.trials import stopped_machine, units, verified_files
 
 
 def built(crate):
@@ -39,17 +39,21 @@ def built(crate):
 # each program, and its cases
 PROGRAMS = [
     (built("edirelay"), without_hub.RELAY_ALONE),
-    (built("edihub"), without_hub.CASES + hub_commands.COMMANDS + older_files.MIGRATIONS + verify.VERIFIED + limits.LIMITS),
+    (
+        built("edihub"),
+        without_hub.CASES + hub_commands.COMMANDS + hub_files.OPENED + older_files.MIGRATIONS + verify.VERIFIED + limits.LIMITS,
+    ),
     (
         built("trial_script"),
         hub_rules.HUBS + hub_rules.OVER_SQL + order_of_rules.ORDER + hub_files.FILES + connections.CONNECTIONS + heads.CASES
-        + joins.JOINS + corrections.CORRECTIONS,
+        + joins.JOINS + corrections.CORRECTIONS + calls.CALLS,
     ),
 ]
 
 OF_EDIHUB = (
     changed_keys,
     disturbed_commands,
+    stopped_commands,
     failing_openings,
     files_brought_over,
     verified_files,
@@ -68,10 +72,8 @@ TRIALS = [
         for of_file in OF_EDIHUB
         for trial in of_file.TRIALS
     ),
-    (built("trial_script"), "a file that another program holds open", held_file.held_open),
     (built("trial_script"), "made runs", random_runs.made_runs),
     (built("trial_script"), "messages together and alone", kept_orders.kept_orders),
-    (built("trial_script"), "changes of files stopped in turn", stopped_program.stops),
     (built("trial_script"), "a machine that stops", stopped_machine.machine),
     (built("trial_script"), "a machine that stops while a file of schema 1 is brought over", stopped_machine.migrations),
     (built("trial_script"), "allocations refused in turn", refused_in_scripts.refusals),

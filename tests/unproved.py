@@ -7,7 +7,7 @@ out, because the build checks each access and takes more memory and time. The la
 import sys
 
 from tests import test
-from tests.cases import connections, corrections, fault_places, goods, heads, hub_commands, hub_files, hub_rules, joins, limits
+from tests.cases import calls, connections, corrections, fault_places, goods, heads, hub_commands, hub_files, hub_rules, joins, limits
 from tests.cases import older_files, order_of_rules, orders, without_hub
 from tests.unproved_build import EDIHUB, SCRIPTS, built
 
@@ -19,7 +19,7 @@ GROUPS = {
     "places": (EDIHUB, fault_places.CASES),
     "registers": (EDIHUB, without_hub.REGISTER_CASES),
     "cases": (EDIHUB, without_hub.CASES),
-    "commands": (EDIHUB, hub_commands.COMMANDS),
+    "commands": (EDIHUB, hub_commands.COMMANDS + hub_files.OPENED),
     "migrations": (EDIHUB, older_files.MIGRATIONS),
     "limits": (EDIHUB, limits.LIMITS),
     "rules": (SCRIPTS, hub_rules.HUBS + hub_rules.OVER_SQL + order_of_rules.ORDER),
@@ -27,6 +27,7 @@ GROUPS = {
     "connections": (SCRIPTS, connections.CONNECTIONS + heads.CASES),
     "joins": (SCRIPTS, joins.JOINS),
     "corrections": (SCRIPTS, corrections.CORRECTIONS),
+    "calls": (SCRIPTS, calls.CALLS),
 }
 
 

@@ -1,5 +1,5 @@
 """Cases of a hub over a file of SQL: scripts for `trial_script file hub.db`, files as SQLite itself writes them, and what is told of
-a file that is none of a hub."""
+a file that is none of a hub, by scripts and by the commands of `edihub`."""
 import re
 from dataclasses import replace
 
@@ -9,6 +9,7 @@ from tests.harness.database_files import NAME, OLD_ROWS, OLD_TABLES, REGISTERED,
 from tests.harness.database_files import has_rows, is_still, is_whole
 from tests.harness.first_order import ORDERS
 from tests.harness.hub_scripts import DESPATCH, FIRST_MAIL, PALLET, RESPONSE, Play, accepted, line_status
+from tests.harness.hub_steps import over, step, steps
 from tests.harness.register_texts import ALPHA, BETA, DELTA, GAMMA, RETAILER, gln
 
 
@@ -201,5 +202,24 @@ FILES = [
     *(spoiled(*row) for row in SPOILED),
     of_file("an entry that is none beside what a list shows", half_shown(), file_of(TABLES, ROWS, "UPDATE mail SET decimal = 45")),
     of_file("a row that is none stops whom it belongs to, and then all", of_another(), file_of(TABLES, ROWS, SPOILED[0][1])),
-    Case("a folder that is not there", ["file", "none/hub.db"], told("disk").script, told("disk").printed),
+]
+
+# the command of each line of a script
+COMMANDS = {
+    "status": over("status", ALPHA),
+    "after 0": over("mail", ALPHA, "--do", "after", "--n", "0"),
+    "item 1": over("mail", ALPHA, "--do", "item", "--n", "1"),
+}
+
+
+def by_command(name, data, line, output, error):
+    return steps(f"{line} over a file with {name}", step(COMMANDS[line], output, 3, error, {NAME: data}, is_still(data)))
+
+
+# the same files, opened by `edihub`
+OPENED = [
+    *(by_command(name, data, "status", "", "store version\n") for name, data in OTHERS),
+    *(by_command(name, data, "status", "", "store unclean\n") for name, data in UNCLEAN),
+    by_command("a half of itself", file_of()[: len(file_of()) // 2], "status", "", "store disk\n"),
+    *(by_command(f"a row that is none: {name}", file_of(TABLES, ROWS, change), line, "stopped\n", "") for name, change, line in SPOILED),
 ]

@@ -4,11 +4,22 @@ from tests.harness.hub_scripts import KEYS, MOMENT, Play, despatch, interchange,
 from tests.harness.register_texts import ALPHA, GAMMA, RETAILER
 
 
+# how the bytes of a connection are read and written, in the order in which a line has it
+MANNERS = "piece", "reads", "takes", "writes", "interrupted"
+
+
+def in_order(manner):
+    """The words of a line for `piece`, `reads`, `takes` and `writes`, each with its number, and `interrupted`."""
+    named = dict(zip(*[iter(manner.replace("interrupted", "interrupted 1").split())] * 2))
+    assert set(named) <= set(MANNERS), manner
+    return " ".join(named.get(it, "-") for it in MANNERS) if named else ""
+
+
 class Wire(Play):
     """A script of connections, and what it prints."""
 
     def connection(self, request, printed, went_out, manner=""):
-        self.say("connection", request, manner)
+        self.say("connection", request, in_order(manner))
         self.printed += f"{printed} {len(went_out)}\n".encode() + went_out
         return self
 

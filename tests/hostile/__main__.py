@@ -28,7 +28,7 @@ TRIALS = (
     copied_files.servers_copied,
     *failing_backups.TRIALS,
 )
-# and on the program that plays scripts and on the tests of calls
+# and on the program that plays scripts and tests calls
 OF_SCRIPTS = (refused_memory.script_refused, calls_refused)
 
 

@@ -1,6 +1,10 @@
 //! Defines why a script could not be run to its end.
 use edi_base::{ReadFault, WriteFault};
+use edi_envelope::EnvelopeFault;
+use edi_relay::RelayFault;
+use edi_tokens::TokenFault;
 use hub_register::RegisterFault;
+use hub_store::StoreFault;
 use std::alloc::AllocError;
 use std::fmt;
 
@@ -15,6 +19,17 @@ pub enum ScriptFault {
     File,
     /// Memory ran out, for the script or for what is printed.
     Memory,
+    /// A call that is tested answered something else.
+    Wrong,
+}
+
+/// Answers whether what a test of a call compares holds.
+pub fn right(holds: bool) -> Result<(), ScriptFault> {
+    if holds {
+        Ok(())
+    } else {
+        Err(ScriptFault::Wrong)
+    }
 }
 
 impl fmt::Display for ScriptFault {
@@ -24,6 +39,7 @@ impl fmt::Display for ScriptFault {
             ScriptFault::Register => f.write_str("register"),
             ScriptFault::File => f.write_str("file"),
             ScriptFault::Memory => f.write_str("memory"),
+            ScriptFault::Wrong => f.write_str("wrong"),
         }
     }
 }
@@ -56,5 +72,42 @@ impl From<RegisterFault> for ScriptFault {
 impl From<WriteFault> for ScriptFault {
     fn from(_fault: WriteFault) -> ScriptFault {
         ScriptFault::File
+    }
+}
+
+// The faults that follow answer calls that are tested.
+impl From<TokenFault> for ScriptFault {
+    fn from(fault: TokenFault) -> ScriptFault {
+        match fault {
+            TokenFault::Memory => ScriptFault::Memory,
+            _ => ScriptFault::Wrong,
+        }
+    }
+}
+
+impl From<EnvelopeFault> for ScriptFault {
+    fn from(fault: EnvelopeFault) -> ScriptFault {
+        match fault {
+            EnvelopeFault::Memory => ScriptFault::Memory,
+            _ => ScriptFault::Wrong,
+        }
+    }
+}
+
+impl From<RelayFault> for ScriptFault {
+    fn from(fault: RelayFault) -> ScriptFault {
+        match fault {
+            RelayFault::Memory => ScriptFault::Memory,
+            _ => ScriptFault::Wrong,
+        }
+    }
+}
+
+impl From<StoreFault> for ScriptFault {
+    fn from(fault: StoreFault) -> ScriptFault {
+        match fault {
+            StoreFault::Memory => ScriptFault::Memory,
+            _ => ScriptFault::Wrong,
+        }
     }
 }

@@ -1,9 +1,9 @@
 //! Runs a script on a hub, and prints each reply: `trial_script < script` keeps the rows in lists in memory,
-//! `trial_script sql < script` in SQL tables in memory, and `trial_script file PATH < script` in SQL tables in a file.
-//! `trial_script stop-file C` and `trial_script stop-log C` use a database file and its log in memory; each call of the
-//! file, or of the log, fails after the first C, as if the machine had stopped, and what was kept is there again once
-//! it is reopened. `stop-file C PATH` and `stop-log C PATH` do this with a copy of the database file at PATH, such as
-//! one of schema 1.
+//! `trial_script sql < script` in SQL tables in memory, and `trial_script file PATH < script` in a database file and its
+//! log in memory: the file begins with what is at PATH, if anything, and at the end both are written to PATH.
+//! `trial_script stop-file C` and `trial_script stop-log C` use such files too; each call of the file, or of the log,
+//! fails after the first C, as if the machine had stopped, and what was kept is there again once it is reopened.
+//! `stop-file C PATH` and `stop-log C PATH` do this with a copy of the database file at PATH, such as one of schema 1.
 //!
 //! What takes a store or its files is `inline(never)`, which spares LLVM minutes.
 //!
@@ -23,20 +23,26 @@
 //! - `join GLN KEY PREFIX[,PREFIX..]` asks to register a supplier with this key and these company prefixes. A line that
 //!   is not a valid join, such as one with nine prefixes, is a fault of the script.
 //! - `run` and `end` combine the requests between them into one run.
-//! - `connection N`, then any of `piece P`, `reads R`, `takes T`, `writes W` and `interrupted`, serves an HTTP
-//!   connection whose N bytes follow, at the moment of the last `as`. A read returns at most P bytes, and fails after R
-//!   others; a write accepts at most T bytes, and fails after W others; with `interrupted`, they fail with an
-//!   interruption. Prints `served` with the status or `fault` with its kind, the length of what was sent, a line end,
-//!   and what was sent.
+//! - `connection N P R T W I` serves an HTTP connection whose N bytes follow, at the moment of the last `as`. A read
+//!   returns at most P bytes, and fails after R others; a write accepts at most T bytes, and fails after W others. If I
+//!   is a number, they fail with an interruption. What is missing, or no number, is no bound. Prints `served` with the
+//!   status or `fault` with its kind, the length of what was sent, a line end, and what was sent.
 //! - `mend` reopens the store with its rows, or with what a crash leaves of a file that stopped; from then on no call
 //!   fails. If it cannot be opened, prints `store` and the fault.
 //! - `counts` prints how many look-ups and commits there were since the hub was made or its store was reopened.
 //! - `quiet` stops printing replies, and `loud` starts again.
 //!
 //! For each reply it prints the outcome, `refused` if something was refused, the length of the body, a line end, and
-//! the body. The exit status is 0; 1 if the script has a fault; or 3 if memory ran out, or a read or write failed.
+//! the body.
+//!
+//! `trial_script calls` reads no script: it tests calls, and prints the name of each test that passes; `calls NAME` makes
+//! only that one.
+//!
+//! The exit status is 0; 1 if the script has a fault, or a call that is tested answers wrongly; or 3 if memory ran out,
+//! or a read or write failed.
 #![tactic(auto)]
 
+mod calls;
 mod command;
 mod fault;
 mod opening;
@@ -47,16 +53,16 @@ mod stopping;
 mod trial;
 mod wire;
 
+use crate::calls::test_calls;
 use crate::fault::ScriptFault;
-use crate::opening::{InFile, InMemory, Opener, Supposed};
+use crate::opening::{InMemory, Opener};
 use crate::stopping::{Stopping, StoppingFiles};
 use crate::trial::Trial;
-use edi_base::{OfRead, OfWrite, read_to_limit};
+use edi_base::{OfRead, OfWrite, read_to_limit, write_bytes};
 use hub_sql::SqliteStore;
 use hub_store::Store;
 use sqlite::Alter;
-use sqlite_disk::{Disk, Fuse, Memory, Unknown};
-use sqlite_std_file::FileFrom;
+use sqlite_disk::{Disk, Files, Fuse, Memory};
 use sqlite_store::FileStore;
 use sqlite_trees::memory::MemStore;
 use std::env;
@@ -67,19 +73,30 @@ use trial_lists::VecStore;
 /// The longest script, in bytes.
 const SCRIPT_LIMIT: usize = 64 << 20;
 
-// Runs the script on standard input.
+// Runs the script on standard input. Returns the opener, with what it keeps of the store.
 #[inline(never)]
-fn play<S: Store + Drop, O: Opener<S>>(rt: &HostRuntime, opener: O) -> Result<(), ScriptFault> {
+fn play<S: Store + Drop, O: Opener<S>>(rt: &HostRuntime, opener: O) -> Result<O, ScriptFault> {
     let text = read_to_limit(rt.alloc(), &mut OfRead::new(rt.stdin()), SCRIPT_LIMIT)?;
     let mut trial = Trial::<S, O>::new(rt.alloc(), opener)?;
-    trial.play(rt, text.as_slice(), &mut OfWrite::new(rt.stdout()))
+    trial.play(rt, text.as_slice(), &mut OfWrite::new(rt.stdout()))?;
+    Ok(trial.into_opener())
+}
+
+fn over_lists(rt: &HostRuntime) -> Result<(), ScriptFault> {
+    play::<VecStore, InMemory>(rt, InMemory)?;
+    Ok(())
+}
+
+fn over_sql(rt: &HostRuntime) -> Result<(), ScriptFault> {
+    over_tables::<MemStore, InMemory>(rt, InMemory)?;
+    Ok(())
 }
 
 // Runs the script on SQL tables, wherever they are kept.
 fn over_tables<A: Alter + Drop, O: Opener<SqliteStore<A>>>(
     rt: &HostRuntime,
     opener: O,
-) -> Result<(), ScriptFault> {
+) -> Result<O, ScriptFault> {
     play::<SqliteStore<A>, O>(rt, opener)
 }
 
@@ -87,20 +104,18 @@ fn over_tables<A: Alter + Drop, O: Opener<SqliteStore<A>>>(
 fn over_files<D: Disk + Drop, O: Opener<SqliteStore<FileStore<D>>>>(
     rt: &HostRuntime,
     opener: O,
-) -> Result<(), ScriptFault> {
+) -> Result<O, ScriptFault> {
     over_tables::<FileStore<D>, O>(rt, opener)
 }
 
-fn over_file<T: Supposed>(rt: &HostRuntime, path: &str) -> Result<(), ScriptFault> {
-    over_files::<FileFrom<T>, InFile<'_>>(rt, InFile { path })
-}
-
+// Runs the script on files in memory, of which each stops after so many calls. The database file holds these bytes at
+// first.
 fn over_stopping<D: Stopping>(
     rt: &HostRuntime,
     of_file: u64,
     of_log: u64,
     held: Vec<u8>,
-) -> Result<(), ScriptFault> {
+) -> Result<StoppingFiles<D>, ScriptFault> {
     over_files::<D, StoppingFiles<D>>(
         rt,
         StoppingFiles {
@@ -112,7 +127,7 @@ fn over_stopping<D: Stopping>(
     )
 }
 
-// Runs the script on files of which one stops after this many calls. The database file holds these bytes at first.
+// Runs the script on files of which one stops after this many calls.
 fn over_stopped(
     rt: &HostRuntime,
     word: &str,
@@ -120,11 +135,43 @@ fn over_stopped(
     held: Vec<u8>,
 ) -> Result<(), ScriptFault> {
     let calls = calls.parse::<u64>().map_err(|_| ScriptFault::Line)?;
-    match word {
-        "stop-file" => over_stopping::<Fuse<Memory>>(rt, calls, u64::MAX, held),
-        "stop-log" => over_stopping::<Fuse<Memory>>(rt, u64::MAX, calls, held),
-        _ => Err(ScriptFault::Line),
+    let (of_file, of_log) = match word {
+        "stop-file" => (calls, u64::MAX),
+        "stop-log" => (u64::MAX, calls),
+        _ => return Err(ScriptFault::Line),
+    };
+    over_stopping::<Fuse<Memory>>(rt, of_file, of_log, held)?;
+    Ok(())
+}
+
+// Runs the script on files that begin with what the database file at this path holds, and then writes there what they
+// hold.
+fn over_file(rt: &HostRuntime, path: &str) -> Result<(), ScriptFault> {
+    let held = if File::open(rt, path).is_ok() {
+        bytes_of(rt, path)?
+    } else {
+        Vec::new(rt.alloc())
+    };
+    let files = over_stopping::<Fuse<Memory>>(rt, u64::MAX, u64::MAX, held)?;
+    let StoppingFiles { left, .. } = files;
+    match left {
+        Some(left) => save(rt, path, left),
+        None => Ok(()),
     }
+}
+
+// Writes a database file to this path, and its log beside it.
+fn save<D: Stopping>(rt: &HostRuntime, path: &str, files: Files<D>) -> Result<(), ScriptFault> {
+    let Files { mut log, mut db } = files;
+    write_file(rt, path, &mut db)?;
+    let log_path = format!(in rt.alloc(); "{path}-wal")?;
+    write_file(rt, log_path.as_str(), &mut log)
+}
+
+fn write_file<D: Stopping>(rt: &HostRuntime, path: &str, file: &mut D) -> Result<(), ScriptFault> {
+    let bytes = file.held(rt.alloc()).map_err(|_| ScriptFault::File)?;
+    let made = File::create(rt, path).map_err(|_| ScriptFault::File)?;
+    Ok(write_bytes(bytes.as_slice(), &mut OfWrite::new(made))?)
 }
 
 // Returns the bytes of a file.
@@ -136,9 +183,11 @@ fn bytes_of(rt: &HostRuntime, path: &str) -> Result<Vec<u8>, ScriptFault> {
 // Runs the script on the store that the arguments name.
 fn over_named(rt: &HostRuntime, words: &[String]) -> Result<(), ScriptFault> {
     match words {
-        [] | [_] => play::<VecStore, InMemory>(rt, InMemory),
-        [_, word] if word.as_str() == "sql" => over_tables::<MemStore, InMemory>(rt, InMemory),
-        [_, word, path] if word.as_str() == "file" => over_file::<Unknown>(rt, path.as_str()),
+        [] | [_] => over_lists(rt),
+        [_, word] if word.as_str() == "sql" => over_sql(rt),
+        [_, word] if word.as_str() == "calls" => tested(rt, None),
+        [_, word, name] if word.as_str() == "calls" => tested(rt, Some(name.as_str())),
+        [_, word, path] if word.as_str() == "file" => over_file(rt, path.as_str()),
         [_, word, calls] => over_stopped(rt, word.as_str(), calls.as_str(), Vec::new(rt.alloc())),
         [_, word, calls, path] => {
             let held = bytes_of(rt, path.as_str())?;
@@ -146,6 +195,11 @@ fn over_named(rt: &HostRuntime, words: &[String]) -> Result<(), ScriptFault> {
         }
         _ => Err(ScriptFault::Line),
     }
+}
+
+// Makes the tests of calls with this name, or all.
+fn tested(rt: &HostRuntime, name: Option<&str>) -> Result<(), ScriptFault> {
+    test_calls(rt.alloc(), name, &mut OfWrite::new(rt.stdout()))
 }
 
 fn run(rt: &HostRuntime) -> Result<(), ScriptFault> {
@@ -162,7 +216,7 @@ fn main(rt: HostRuntime) -> ExitCode {
     };
     let _ = rt.eprintln(fault);
     match fault {
-        ScriptFault::Line | ScriptFault::Register => ExitCode::from(1),
+        ScriptFault::Line | ScriptFault::Register | ScriptFault::Wrong => ExitCode::from(1),
         ScriptFault::File | ScriptFault::Memory => ExitCode::from(3),
     }
 }

@@ -16,6 +16,9 @@ use std::io;
 pub trait Stopping: Crash + Drop {
     /// Makes a file that holds these bytes.
     fn stopping(alloc: Global, bytes: &[u8], calls: u64) -> io::Result<Self>;
+
+    /// Returns the bytes that it holds.
+    fn held(&mut self, alloc: Global) -> io::Result<Vec<u8>>;
 }
 
 impl Stopping for Fuse<Memory> {
@@ -24,6 +27,17 @@ impl Stopping for Fuse<Memory> {
         memory.write_at(0, bytes)?;
         memory.sync()?;
         Ok(Fuse::new(memory, calls))
+    }
+
+    fn held(&mut self, alloc: Global) -> io::Result<Vec<u8>> {
+        if !self.may_be_used() {
+            return Err(io::Error::from(io::ErrorKind::Other));
+        }
+        let length = self.len()?;
+        let mut bytes = Vec::new(alloc);
+        bytes.resize(length, 0)?;
+        self.read_at(0, bytes.as_mut_slice())?;
+        Ok(bytes)
     }
 }
 

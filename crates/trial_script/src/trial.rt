@@ -220,12 +220,25 @@ impl<S: Store + Drop, O: Opener<S>> Trial<S, O> {
     ) -> Result<(), ScriptFault> {
         let register = register_of(self.alloc, payload(words, script)?)?;
         let failure = failure_of(words)?;
-        // a file can be open only once at a time
-        self.hub = None;
+        self.close();
         match self.opener.open(rt, &register) {
             Ok(plain) => self.set_hub(plain, failure, out),
             Err(fault) => write_fault(self.alloc, fault, out),
         }
+    }
+
+    // Gives the hub's store back.
+    fn close(&mut self) {
+        if let Some(hub) = self.hub.take() {
+            let (_, store) = hub.into_store();
+            let _ = self.opener.take_back(store.into_store());
+        }
+    }
+
+    /// Gives back the opener, with what it keeps of the hub's store.
+    pub fn into_opener(mut self) -> O {
+        self.close();
+        self.opener
     }
 
     // Makes the hub of a store that was opened and fails in this way.
@@ -309,7 +322,7 @@ impl<S: Store + Drop, O: Opener<S>> Trial<S, O> {
         out: &mut W,
     ) -> Result<(), ScriptFault> {
         let bytes = payload(words, script)?;
-        let manner = Manner::of(words)?;
+        let manner = Manner::of(words);
         let moment = self.asker.as_ref().ok_or(ScriptFault::Line)?.moment;
         let hub = self.hub.as_mut().ok_or(ScriptFault::Line)?;
         let mut writer = Outgoing::new(self.alloc, manner)?;

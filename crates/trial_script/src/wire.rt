@@ -1,5 +1,4 @@
 //! Simulates connections whose bytes a script gives, and whose reads and writes fail as it says.
-use crate::fault::ScriptFault;
 use crate::script::LineWords;
 use edi_base::{Sink, Source};
 use std::alloc::{AllocError, Global};
@@ -23,44 +22,22 @@ pub struct Manner {
     interrupted: bool,
 }
 
+// Returns the next word as a number; without one there is no bound.
+fn bound(words: &mut LineWords<'_>) -> u64 {
+    words.next_number().unwrap_or(u64::MAX)
+}
+
 impl Manner {
-    /// Reads the words of a line: `piece`, `reads`, `takes` and `writes`, each with a number, and `interrupted`.
-    pub fn of(words: &mut LineWords<'_>) -> Result<Manner, ScriptFault> {
-        let mut manner = Manner {
-            piece: usize::MAX,
-            reads: u64::MAX,
-            takes: usize::MAX,
-            writes: u64::MAX,
-            interrupted: false,
-        };
-        for _ in 0..5u32 {
-            let word = words.next_word();
-            if word.is_empty() {
-                return Ok(manner);
-            }
-            manner.set(word, words)?;
+    /// Reads the words of a line: the four bounds, and a number if the failures are interruptions. What is no number
+    /// is no bound.
+    pub fn of(words: &mut LineWords<'_>) -> Manner {
+        Manner {
+            piece: bound(words) as usize,
+            reads: bound(words),
+            takes: bound(words) as usize,
+            writes: bound(words),
+            interrupted: words.next_number().is_some(),
         }
-        Ok(manner)
-    }
-
-    // Sets what this word names, from the number after it if there has to be one.
-    fn set(&mut self, word: &[u8], words: &mut LineWords<'_>) -> Result<(), ScriptFault> {
-        if word == b"interrupted".as_slice() {
-            self.interrupted = true;
-            return Ok(());
-        }
-        self.set_number(word, words.next_number().ok_or(ScriptFault::Line)?)
-    }
-
-    fn set_number(&mut self, word: &[u8], number: u64) -> Result<(), ScriptFault> {
-        match word {
-            b"piece" => self.piece = number as usize,
-            b"reads" => self.reads = number,
-            b"takes" => self.takes = number as usize,
-            b"writes" => self.writes = number,
-            _ => return Err(ScriptFault::Line),
-        }
-        Ok(())
     }
 
     // Returns the error of a failed read or write.

@@ -1,7 +1,7 @@
 //! Tests interchanges that are opened while their bytes arrive.
-
-use crate::doubles::Pieces;
-use crate::tokens::ORDERS;
+use crate::calls::doubles::Pieces;
+use crate::calls::tokens::ORDERS;
+use crate::fault::{ScriptFault, right};
 use edi_base::OfRead;
 use edi_envelope::open_feed;
 use edi_tokens::Feeder;
@@ -80,15 +80,11 @@ static TEXTS: [Row; 9] = [
 
 static SIZES: [usize; 4] = [1, 2, 7, 8192];
 
-#[test]
-fn pieces_of_any_size_are_opened_alike(rt: HostRuntime) -> Result<(), AllocError> {
+/// Pieces of any size are opened alike.
+pub fn pieces(alloc: Global) -> Result<(), ScriptFault> {
     for row in &TEXTS {
         for size in &SIZES {
-            assert!(rt;
-                is_fed(rt.alloc(), row, *size, usize::MAX)?,
-                "{:?} in {size} bytes at a time",
-                row.0
-            );
+            right(is_fed(alloc, row, *size, usize::MAX)?)?;
         }
     }
     Ok(())
@@ -97,14 +93,10 @@ fn pieces_of_any_size_are_opened_alike(rt: HostRuntime) -> Result<(), AllocError
 // 37 calls read 255 bytes, and one more reads their end.
 const ENOUGH_CALLS: usize = 38;
 
-#[test]
-fn each_failed_read_is_answered(rt: HostRuntime) -> Result<(), AllocError> {
+/// Each failed read is answered.
+pub fn failed_reads(alloc: Global) -> Result<(), ScriptFault> {
     for calls in 0..ENOUGH_CALLS {
-        assert!(rt;
-            is_fed(rt.alloc(), &(ORDERS, 0, "read"), 7, calls)?,
-            "after {calls} calls"
-        );
+        right(is_fed(alloc, &(ORDERS, 0, "read"), 7, calls)?)?;
     }
-    assert!(rt; is_fed(rt.alloc(), &TEXTS[0], 7, ENOUGH_CALLS)?);
-    Ok(())
+    right(is_fed(alloc, &TEXTS[0], 7, ENOUGH_CALLS)?)
 }

@@ -8,15 +8,14 @@ ghost use Rattle.hub_store.specs.Clean.{are_clean};
 ghost use Rattle.hub_store.specs.declared.fault.LastingFault.TheVariants as lasting;
 ghost use Rattle.hub_store.specs.declared.fault.StoreFault.TheVariants.{Memory, Disk, Unclean, Version};
 
-use crate::lists::lists;
+use crate::calls::lists::lists;
+use crate::fault::{ScriptFault, right};
 use edi_base::copy_bytes;
 use gs1_ids::Gln;
 use hub_store::{LastingFault, Store, StoreFault};
 use hub_tables::{Change, OrderRow};
 use std::alloc::Global;
-use std::process::Abort;
 use std::slice;
-use std::test::Fail;
 use trial_lists::VecStore;
 use trial_store::TrialStore;
 
@@ -131,42 +130,17 @@ fn is_broken(trial: &mut TrialStore<VecStore>, supplier: &Gln) -> bool {
     first == disk && second == disk && fault == Some(LastingFault::Disk)
 }
 
-fn assert_list(
-    rt: &impl Abort,
-    alloc: Global,
-    list: &mut VecStore,
-    supplier: &Gln,
-) -> Result<(), StoreFault> {
+// Lists keep what is committed, and have no lasting fault.
+fn lists_keep(alloc: Global, list: &mut VecStore, supplier: &Gln) -> Result<(), ScriptFault> {
     commit_order(alloc, list, *supplier)?;
-    assert!(*rt; is_listed(list, supplier)?, "lists");
-    assert!(*rt; fault_of_list(list).is_none(), "no fault for good");
-    Ok(())
+    right(is_listed(list, supplier)? && fault_of_list(list).is_none())
 }
 
-fn assert_trial(
-    rt: &impl Abort,
-    trial: &mut TrialStore<VecStore>,
-    supplier: &Gln,
-) -> Result<(), StoreFault> {
-    assert!(*rt; is_clean(trial, supplier)?, "before the fault");
-    assert!(*rt; is_broken(trial, supplier), "a disk that fails");
-    Ok(())
-}
-
-fn assert_faults(
-    rt: &impl Abort,
-    alloc: Global,
-    mut list: VecStore,
-    supplier: &Gln,
-) -> Result<(), StoreFault> {
-    assert_list(rt, alloc, &mut list, supplier)?;
+/// A lasting fault is told, and answered again.
+pub fn lasting(alloc: Global) -> Result<(), ScriptFault> {
+    let supplier = Gln::parse(b"4012345500004").ok_or(ScriptFault::Wrong)?;
+    let mut list = lists(alloc)?;
+    lists_keep(alloc, &mut list, &supplier)?;
     let mut trial = TrialStore::failing(list, 1, StoreFault::Disk);
-    assert_trial(rt, &mut trial, supplier)
-}
-
-#[test]
-fn a_fault_for_good_is_told_and_answered_again(rt: HostRuntime) -> Result<(), Fail> {
-    let supplier = Gln::parse(b"4012345500004").ok_or("a GLN")?;
-    let list = lists(rt.alloc())?;
-    Ok(assert_faults(&rt, rt.alloc(), list, &supplier)?)
+    right(is_clean(&mut trial, &supplier)? && is_broken(&mut trial, &supplier))
 }

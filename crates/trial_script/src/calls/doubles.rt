@@ -7,10 +7,10 @@ use std::io::{Error, ErrorKind, Read, Write};
 
 /// A reader that returns at most `size` bytes at a time, and is interrupted after `calls` calls.
 #[derive(Drop)]
-pub(crate) struct Pieces<'a> {
-    pub(crate) left: &'a [u8],
-    pub(crate) size: usize,
-    pub(crate) calls: usize,
+pub struct Pieces<'a> {
+    pub left: &'a [u8],
+    pub size: usize,
+    pub calls: usize,
 }
 
 impl<'a> Read for Pieces<'a> {
@@ -29,7 +29,7 @@ impl<'a> Read for Pieces<'a> {
 
 /// A writer that accepts one byte at a time, and then fails, or accepts nothing.
 #[derive(Drop)]
-pub(crate) struct Dribble {
+pub struct Dribble {
     written: Vec<u8>,
     room: usize,
     fails: bool,
@@ -57,7 +57,7 @@ impl Write for Dribble {
 }
 
 /// Makes a writer with room for this many bytes, which then fails, or accepts nothing.
-pub(crate) fn sink_with_room(alloc: Global, room: usize, fails: bool) -> OfWrite<Dribble> {
+pub fn sink_with_room(alloc: Global, room: usize, fails: bool) -> OfWrite<Dribble> {
     OfWrite::new(Dribble {
         written: Vec::new(alloc),
         room,
@@ -67,7 +67,7 @@ pub(crate) fn sink_with_room(alloc: Global, room: usize, fails: bool) -> OfWrite
 
 /// Whether a sink accepted as much of a text as it has room for, and failed, like the write, exactly if that is not the
 /// whole text.
-pub(crate) fn took_front(
+pub fn took_front(
     wrote: Result<(), WriteFault>,
     sink: OfWrite<Dribble>,
     text: &[u8],

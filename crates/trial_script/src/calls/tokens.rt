@@ -1,11 +1,12 @@
-use crate::doubles::{Dribble, sink_with_room, took_front};
+//! Tests segments that are read and written.
+use crate::calls::doubles::{Dribble, sink_with_room, took_front};
+use crate::fault::{ScriptFault, right};
 use edi_base::{OfWrite, WriteFault};
 use edi_tokens::{Segment, Tokens, body_text, read_all, write_text};
 use std::alloc::{AllocError, Global};
-use std::test::Fail;
 
 /// An order in an interchange of 255 bytes.
-pub(crate) const ORDERS: &[u8] =
+pub const ORDERS: &[u8] =
     b"UNA:+.? 'UNB+UNOC:3+5412345000013:14+5412345000006:14+250603:0915+1001'UNH+1+ORDERS:D:01B:UN:EAN010'\
         BGM+220+128576+9'DTM+137:20250603:102'NAD+BY+5412345000013::9'NAD+SU+4012345500004::9'\
         LIN+1++4000862141404:SRV'QTY+21:48'UNS+S'CNT+2:1'UNT+10+1'UNZ+1+1001'";
@@ -45,24 +46,24 @@ static CANONICAL: [(&[u8], &[u8]); 14] = [
 ];
 
 // A function of its own, as for each call, to keep its contract out of the tests.
-pub(crate) fn tokens(alloc: Global, text: &[u8]) -> Result<Tokens, Fail> {
+pub fn tokens(alloc: Global, text: &[u8]) -> Result<Tokens, ScriptFault> {
     Ok(read_all(alloc, text)?)
 }
 
-pub(crate) fn has_body(alloc: Global, segments: &[Segment], body: &[u8]) -> Result<bool, Fail> {
+pub fn has_body(alloc: Global, segments: &[Segment], body: &[u8]) -> Result<bool, ScriptFault> {
     Ok(body_text(alloc, segments)?.as_slice() == body)
 }
 
 /// Whether a text is read as segments that have this canonical text.
-fn is_read_as(alloc: Global, text: &[u8], canonical: &[u8]) -> Result<bool, Fail> {
+fn is_read_as(alloc: Global, text: &[u8], canonical: &[u8]) -> Result<bool, ScriptFault> {
     let tokens = tokens(alloc, text)?;
     has_body(alloc, tokens.segments.as_slice(), canonical)
 }
 
-#[test]
-fn each_text_gives_its_canonical_text(rt: HostRuntime) -> Result<(), Fail> {
+/// Each text gives its canonical text.
+pub fn canonical(alloc: Global) -> Result<(), ScriptFault> {
     for (text, canonical) in &CANONICAL {
-        assert!(rt; is_read_as(rt.alloc(), text, canonical)?);
+        right(is_read_as(alloc, text, canonical)?)?;
     }
     Ok(())
 }
@@ -89,17 +90,13 @@ fn is_front_written(
 
 static ROOMS: [usize; 9] = [0, 1, 8, 9, 10, 100, 254, 255, 256];
 
-#[test]
-fn a_failed_write_leaves_a_front_of_the_text(rt: HostRuntime) -> Result<(), Fail> {
-    let tokens = tokens(rt.alloc(), ORDERS)?;
+/// A failed write leaves a front of the text.
+pub fn failed_writes(alloc: Global) -> Result<(), ScriptFault> {
+    let tokens = tokens(alloc, ORDERS)?;
+    let segments = tokens.segments.as_slice();
     for room in &ROOMS {
-        for fails in [true, false] {
-            let segments = tokens.segments.as_slice();
-            assert!(rt;
-                is_front_written(rt.alloc(), segments, b'.', ORDERS, *room, fails),
-                "room {room}"
-            );
-        }
+        right(is_front_written(alloc, segments, b'.', ORDERS, *room, true))?;
+        right(is_front_written(alloc, segments, b'.', ORDERS, *room, false))?;
     }
     Ok(())
 }
@@ -119,12 +116,11 @@ fn long_text(alloc: Global, front: &[u8]) -> Result<Vec<u8>, AllocError> {
     Ok(text)
 }
 
-#[test]
-fn a_text_longer_than_what_waits_is_written_whole(rt: HostRuntime) -> Result<(), Fail> {
-    let want = long_text(rt.alloc(), WITH_COMMA)?;
-    let text = long_text(rt.alloc(), b"\r\n")?;
-    let tokens = tokens(rt.alloc(), &text)?;
+/// A text that is longer than what waits is written whole.
+pub fn long(alloc: Global) -> Result<(), ScriptFault> {
+    let want = long_text(alloc, WITH_COMMA)?;
+    let text = long_text(alloc, b"\r\n")?;
+    let tokens = tokens(alloc, &text)?;
     let segments = tokens.segments.as_slice();
-    assert!(rt; is_front_written(rt.alloc(), segments, b',', &want, usize::MAX, false));
-    Ok(())
+    right(is_front_written(alloc, segments, b',', &want, usize::MAX, false))
 }

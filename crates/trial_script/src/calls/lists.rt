@@ -1,8 +1,8 @@
 //! Makes lists with the rows of a register of one supplier.
+use crate::fault::ScriptFault;
 use edi_base::MemoryFault;
 use hub_register::{Register, RegisterFault};
 use std::alloc::Global;
-use std::test::Fail;
 use trial_lists::VecStore;
 
 const OF_ONE: &str = "hub = \"5412345000006\"
@@ -27,7 +27,7 @@ fn founded(alloc: Global, register: &Register) -> Result<VecStore, MemoryFault> 
 }
 
 /// Makes lists that have only the rows of the register.
-pub(crate) fn lists(alloc: Global) -> Result<VecStore, Fail> {
+pub fn lists(alloc: Global) -> Result<VecStore, ScriptFault> {
     let register = register(alloc)?;
     Ok(founded(alloc, &register)?)
 }

@@ -1,15 +1,15 @@
-//! Makes mails by calls that no program makes.
+//! Tests mails that are made by calls that no program makes.
 ghost use Rattle.std.specs.Prelude.{◌≤◌, IfSome};
 ghost use Rattle.edi_envelope.specs.Mail.{last_number};
 ghost use Rattle.edi_relay.specs.Relay.{AreRelayWords};
 
-use crate::tokens::{ORDERS, has_body, tokens};
+use crate::calls::tokens::{ORDERS, has_body, tokens};
+use crate::fault::{ScriptFault, right};
 use edi_base::{Items, MemoryFault};
 use edi_envelope::{Interchange, Moment, RawMessage, open, wrap};
 use edi_relay::{RelayWords, relay_text};
 use edi_tokens::Segment;
 use std::alloc::Global;
-use std::test::Fail;
 
 const MAIL: &[u8] =
     b"UNA:+.? 'UNB+UNOC:3+5412345000006:14+4012345500004:14+250603:0920+1'UNH+1+ORDERS:D:01B:UN:EAN010'\
@@ -27,12 +27,11 @@ fn words() -> Option<RelayWords>
     )
 }
 
-#[test]
-fn an_order_becomes_its_mail(rt: HostRuntime) -> Result<(), Fail> {
-    let words = words().ok_or("words")?;
-    let mail = relay_text(rt.alloc(), ORDERS, &words)?;
-    assert!(rt; mail.as_slice() == MAIL);
-    Ok(())
+/// An order becomes its mail.
+pub fn relayed(alloc: Global) -> Result<(), ScriptFault> {
+    let words = words().ok_or(ScriptFault::Wrong)?;
+    let mail = relay_text(alloc, ORDERS, &words)?;
+    right(mail.as_slice() == MAIL)
 }
 
 // A message to relay, and what it becomes.
@@ -45,15 +44,15 @@ const LAST_MAIL: &[u8] =
 
 const LAST_NUMBER: u64 = 99_999_999_999_999;
 
-fn opened(alloc: Global, text: &[u8]) -> Result<Interchange, Fail> {
+fn opened(alloc: Global, text: &[u8]) -> Result<Interchange, ScriptFault> {
     let tokens = tokens(alloc, text)?;
     Ok(open(alloc, tokens)?)
 }
 
 // Returns the last message of a text's interchange.
-fn last_message(alloc: Global, text: &[u8]) -> Result<RawMessage, Fail> {
+fn last_message(alloc: Global, text: &[u8]) -> Result<RawMessage, ScriptFault> {
     let mut messages = opened(alloc, text)?.messages.into_vec();
-    Ok(messages.pop().ok_or("a message")?)
+    messages.pop().ok_or(ScriptFault::Wrong)
 }
 
 // Makes the mail with this number from a message, at a moment.
@@ -69,11 +68,10 @@ fn mail(
     wrap(alloc, hub, owner, moment, number, message)
 }
 
-#[test]
-fn the_last_mail_is_made_of_a_message(rt: HostRuntime) -> Result<(), Fail> {
-    let message = last_message(rt.alloc(), RELAYED)?;
-    let moment = Moment::new(1_748_942_400).ok_or("a moment")?;
-    let mail = mail(rt.alloc(), moment, LAST_NUMBER, &message)?;
-    assert!(rt; has_body(rt.alloc(), mail.as_slice(), LAST_MAIL)?);
-    Ok(())
+/// The last mail that a supplier can have is made of a message.
+pub fn last_mail(alloc: Global) -> Result<(), ScriptFault> {
+    let message = last_message(alloc, RELAYED)?;
+    let moment = Moment::new(1_748_942_400).ok_or(ScriptFault::Wrong)?;
+    let mail = mail(alloc, moment, LAST_NUMBER, &message)?;
+    right(has_body(alloc, mail.as_slice(), LAST_MAIL)?)
 }

@@ -1,5 +1,9 @@
-use crate::doubles::{Dribble, Pieces, sink_with_room, took_front};
-use edi_base::*;
+//! Tests bytes that are read and written.
+use crate::calls::doubles::{Dribble, Pieces, sink_with_room, took_front};
+use crate::fault::{ScriptFault, right};
+use edi_base::{
+    Buffer, OfRead, OfWrite, ReadFault, Source, WriteFault, read_to_limit, write_bytes,
+};
 use std::alloc::{AllocError, Global};
 
 /// Returns `size` bytes, of which no two neighbours are equal.
@@ -52,15 +56,12 @@ static ROOMS: [usize; 8] = [0, 1, 1023, 1024, 1025, 4999, 5000, 5001];
 // Whether the writer fails, or accepts nothing; and whether it gets pieces.
 static WAYS: [(bool, bool); 4] = [(true, false), (false, false), (true, true), (false, true)];
 
-#[test]
-fn a_failed_write_leaves_a_front_of_the_bytes(rt: HostRuntime) -> Result<(), AllocError> {
-    let bytes = bytes_of(rt.alloc(), 5000)?;
+/// A failed write leaves a front of the bytes.
+pub fn failed_writes(alloc: Global) -> Result<(), ScriptFault> {
+    let bytes = bytes_of(alloc, 5000)?;
     for room in &ROOMS {
         for (fails, pieces) in &WAYS {
-            assert!(rt;
-                is_front_written(rt.alloc(), &bytes, *room, *fails, *pieces),
-                "room {room}"
-            );
+            right(is_front_written(alloc, &bytes, *room, *fails, *pieces))?;
         }
     }
     Ok(())
@@ -75,12 +76,12 @@ fn read_front(
     read_to_limit(alloc, source, limit)
 }
 
-// A name, how many bytes there are, the limit, and how many are read.
-type Limit = (&'static str, usize, usize, usize);
+// How many bytes there are, the limit, and how many are read.
+type Limit = (usize, usize, usize);
 
 // Whether the bytes up to the limit are read, and the rest is left.
 fn is_front_read(alloc: Global, long: &[u8], row: &Limit) -> Result<bool, ReadFault> {
-    let (_, given, limit, size) = *row;
+    let (given, limit, size) = *row;
     let known = long.get(..given).unwrap_or_default();
     let mut source = OfRead::new(Pieces {
         left: known,
@@ -93,38 +94,35 @@ fn is_front_read(alloc: Global, long: &[u8], row: &Limit) -> Result<bool, ReadFa
 }
 
 static LIMITS: [Limit; 7] = [
-    ("nothing", 255, 0, 0),
-    ("one byte", 255, 1, 1),
-    ("all but one", 255, 254, 254),
-    ("all, which the limit is", 255, 255, 255),
-    ("one less than the limit", 255, 256, 255),
-    ("a short text", 255, 1_048_577, 255),
-    ("the front of a long text", 200_000, 150_000, 150_000),
+    (255, 0, 0),
+    (255, 1, 1),
+    (255, 254, 254),
+    (255, 255, 255),
+    (255, 256, 255),
+    (255, 1_048_577, 255),
+    (200_000, 150_000, 150_000),
 ];
 
-#[test]
-fn a_source_is_read_to_its_end_or_the_limit(rt: HostRuntime) -> Result<(), ReadFault> {
-    let long = bytes_of(rt.alloc(), 200_000)?;
+/// A source is read to its end or to the limit.
+pub fn limits(alloc: Global) -> Result<(), ScriptFault> {
+    let long = bytes_of(alloc, 200_000)?;
     for row in &LIMITS {
-        assert!(rt; is_front_read(rt.alloc(), &long, row)?, "{}", row.0);
+        right(is_front_read(alloc, &long, row)?)?;
     }
     Ok(())
 }
 
-#[test]
-fn a_failed_read_is_answered(rt: HostRuntime) -> Result<(), ReadFault> {
+/// A failed read is answered.
+pub fn failed_read(alloc: Global) -> Result<(), ScriptFault> {
     let mut source = OfRead::new(Pieces {
         left: b"aaaa",
         size: 1,
         calls: 3,
     });
-    let read = read_front(rt.alloc(), &mut source, 2)?;
-    assert!(rt; read.as_slice() == b"aa".as_slice() && !source.has_failed());
-    // The fault may be that memory ran out, so the comparison prints it.
-    assert_eq!(rt;
-        read_front(rt.alloc(), &mut source, 2).err(),
-        Some(ReadFault::Read)
-    );
-    assert!(rt; source.has_failed());
-    Ok(())
+    let read = read_front(alloc, &mut source, 2)?;
+    right(read.as_slice() == b"aa".as_slice() && !source.has_failed())?;
+    match read_front(alloc, &mut source, 2) {
+        Err(ReadFault::Memory) => Err(ScriptFault::Memory),
+        again => right(again == Err(ReadFault::Read) && source.has_failed()),
+    }
 }
