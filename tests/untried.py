@@ -15,7 +15,7 @@ def libraries():
     """Returns the crates with public functions."""
     for crate in sorted(os.listdir(os.path.join(tree.ROOT, "crates"))):
         texts = crate_functions.sources(crate)
-        if "src/lib.rt" in texts and not crate.endswith("_tests"):
+        if "src/lib.rt" in texts:
             yield crate, texts
 
 
