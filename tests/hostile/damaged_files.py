@@ -8,11 +8,11 @@ import random
 import shutil
 from collections import Counter
 
+from tests.harness import commands_in_turn
 from tests.harness.database_files import NAME, file_of
 from tests.harness.hub_steps import over
 from tests.harness.older_files import older_file
 from tests.harness.register_texts import RETAILER
-from tests.hostile import commands_in_turn
 from tests.hostile.shared import IMPORT, LOOKS, PAGE, folder_with_file, folder_with_orders, in_words, on_all_processors, put, run
 
 # how many bytes of a page are changed, each in a file of its own

@@ -9,6 +9,7 @@ import socket
 import subprocess
 from collections import Counter
 
+from tests.harness import commands_in_turn
 from tests.harness.database_files import NAME, OLD_ROWS, OLD_TABLES, file_of
 from tests.harness.first_order import ORDERS
 from tests.harness.http_texts import response
@@ -17,7 +18,6 @@ from tests.harness.hub_steps import init, over, told
 from tests.harness.register_texts import BETA, RETAILER
 from tests.harness.servers import all_of, free_port, send, upload
 from tests.harness.shims import REFUSE, built
-from tests.hostile import commands_in_turn
 from tests.hostile.shared import FOUNDED, KNOWN, folder_with_file, folder_with_hub, folder_without_hub, in_words, on_all_processors, put
 from tests.hostile.shared import rows_of, run
 from tests.trials.refused_in_scripts import refusals

@@ -12,12 +12,12 @@ from collections import Counter
 from concurrent.futures import ThreadPoolExecutor
 
 from tests.harness.case import SECONDS
+from tests.harness.commands_in_turn import changes, imports, questions
 from tests.harness.database_files import NAME, rows_in
 from tests.harness.hub_scripts import interchange, order
 from tests.harness.hub_steps import found
 from tests.harness.register_texts import BETA, RETAILER
 from tests.harness.shims import STOP, WAYS, built
-from tests.hostile.commands_in_turn import changes, imports, questions
 
 # how many changes there are at least
 FEWEST = 200
