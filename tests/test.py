@@ -20,15 +20,15 @@ from concurrent.futures import ThreadPoolExecutor
 from dataclasses import dataclass, field
 
 from tests import codes, layout, schema, untried
-from tests.cases import calls, connections, corrections, heads, hub_commands, hub_files, hub_rules, joins, limits, older_files
+from tests.cases import calls, corrections, hub_commands, hub_files, hub_rules, joins, limits, older_files
 from tests.cases import order_of_rules, verify, without_hub
 from tests.harness import processor_time
 from tests.harness.case import SECONDS
 from tests.harness.prover_environment import prover_environment
 from tests.harness.tree import ROOT
-from tests.trials import changed_keys, disturbed_commands, documents, failing_openings, files_brought_over, folder_feeding
-from tests.trials import journal, kept_orders, lines_of_status_3, random_runs, refused_in_scripts, served_limits, serving, stopped_commands
-from tests.trials import stopped_machine, units, verified_files
+from tests.trials import changed_keys, connections, disturbed_commands, documents, failing_openings, files_brought_over, folder_feeding
+from tests.trials import heads, journal, kept_orders, lines_of_status_3, random_runs, refused_in_scripts, served_limits, serving
+from tests.trials import stopped_commands, stopped_machine, units, verified_files
 
 
 def built(crate):
@@ -45,8 +45,7 @@ PROGRAMS = [
     ),
     (
         built("trial_script"),
-        hub_rules.HUBS + hub_rules.OVER_SQL + order_of_rules.ORDER + hub_files.FILES + connections.CONNECTIONS + heads.CASES
-        + joins.JOINS + corrections.CORRECTIONS + calls.CALLS,
+        hub_rules.HUBS + hub_rules.OVER_SQL + order_of_rules.ORDER + hub_files.FILES + joins.JOINS + corrections.CORRECTIONS + calls.CALLS,
     ),
 ]
 
@@ -60,6 +59,8 @@ OF_EDIHUB = (
     lines_of_status_3,
     documents,
     serving,
+    connections,
+    heads,
     served_limits,
     journal,
     folder_feeding,

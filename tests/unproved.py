@@ -7,7 +7,7 @@ out, because the build checks each access and takes more memory and time. The la
 import sys
 
 from tests import test
-from tests.cases import calls, connections, corrections, fault_places, goods, heads, hub_commands, hub_files, hub_rules, joins, limits
+from tests.cases import calls, corrections, fault_places, goods, hub_commands, hub_files, hub_rules, joins, limits
 from tests.cases import older_files, order_of_rules, orders, without_hub
 from tests.unproved_build import EDIHUB, SCRIPTS, built
 
@@ -24,7 +24,6 @@ GROUPS = {
     "limits": (EDIHUB, limits.LIMITS),
     "rules": (SCRIPTS, hub_rules.HUBS + hub_rules.OVER_SQL + order_of_rules.ORDER),
     "files": (SCRIPTS, hub_files.FILES),
-    "connections": (SCRIPTS, connections.CONNECTIONS + heads.CASES),
     "joins": (SCRIPTS, joins.JOINS),
     "corrections": (SCRIPTS, corrections.CORRECTIONS),
     "calls": (SCRIPTS, calls.CALLS),

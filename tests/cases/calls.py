@@ -1,4 +1,4 @@
-"""Tests of calls: `trial_script calls` makes them, and prints the name of each that passes."""
+"""Tests of calls: `trial_script calls` makes them, and prints the name of each."""
 from tests.harness.case import Case
 
 NAMES = [

@@ -2,34 +2,27 @@
 from dataclasses import replace
 
 from tests.harness.case import Case
-from tests.harness.connection_scripts import KEY_OF_GAMMA, ORDER_OF_GAMMA, PALLET_OF_GAMMA, Joining
 from tests.harness.first_order import ORDERS
-from tests.harness.http_texts import asking
 from tests.harness.hub_scripts import KEYS, MOMENT, accepted, line_status, order
+from tests.harness.joining_scripts import KEY_OF_GAMMA, ORDER_OF_GAMMA, PALLET_OF_GAMMA, Joining
 from tests.harness.register_texts import ALPHA, BETA, DELTA, EIGHT, GAMMA, HUB, RETAILER, crowd, gln
 
 MAIL_OF_GAMMA = f"UNA:+.? 'UNB+UNOC:3+{HUB}:14+{GAMMA}:14+250603:0920+1'{order(supplier=GAMMA)}UNZ+1+1'"
 WAITING = line_status("128576", "W", 48, 48, 0, 0, 0)
 
 
-def status_asked(key):
-    """The request of a supplier's own status."""
-    return asking("GET", f"/p/{GAMMA}/status", None, None, f"X-Hub-Key: {key}")
-
-
 def one_that_joins():
     """Before it joins a supplier is nobody, and what comes for it is not remembered; then it is one."""
     play = accepted(Joining(), RETAILER, "1001", "ORDERS", ORDERS)
     play.order_of_gamma("refused B02").is_unknown(GAMMA)
-    play.served(status_asked(KEY_OF_GAMMA), 403, "denied\n")
     play.as_gamma("status", "denied", "denied\n")
     play.gamma_joins().status(who=RETAILER, line=f"status-of {GAMMA}")
     play.order_of_gamma("accepted").as_gamma("item 1", "done", MAIL_OF_GAMMA)
     play.gamma_despatches().gamma_joins("refused B18")
     sent = line_status("128576", "W", 48, 36, 0, 0, 12)
     announced = f"P {PALLET_OF_GAMMA} 04000862141404 A {12:>14} {0:>14} {0:>14} {0:>14} {'+0':>15}"
-    play.served(status_asked(KEY_OF_GAMMA), 200, f"{sent}\n{announced}\nend\n")
-    play.served(status_asked(KEYS[ALPHA]), 403, "denied\n")
+    play.as_gamma("status", "done", f"{sent}\n{announced}\nend\n")
+    play.ask(GAMMA, "status", "denied", "denied\n", key=KEYS[ALPHA])
     return play.status(WAITING).order_of_gamma("repeated")
 
 

@@ -2,10 +2,10 @@
 looks at all that there is then."""
 from dataclasses import dataclass
 
-from tests.harness.connection_scripts import Joining
 from tests.harness.first_order import ORDERS
 from tests.harness.hub_scripts import DESPATCH, OTHER_PALLET, RECEIPT, RESPONSE, SECOND, despatch, interchange, order
 from tests.harness.hub_scripts import response
+from tests.harness.joining_scripts import Joining
 from tests.harness.register_texts import ALPHA, BETA, GAMMA, RETAILER
 
 # how many entries a mailbox has, and one more, and how much is looked at behind the inputs

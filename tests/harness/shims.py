@@ -1,11 +1,14 @@
 """Libraries in C between a program and the system, each with its source: one that ends the program at a change of its file, one that
-meddles with what it reads, one that refuses an allocation, one that counts the heap, and one that asks for large pages."""
+meddles with what it reads, one that cuts what connections read and write, one that refuses an allocation, one that counts the heap, and
+one that asks for large pages."""
 import os
 import subprocess
 
 from tests.harness.tree import HARNESS
 
-STOP, MEDDLE, REFUSE, HEAP, PAGES = (os.path.join(HARNESS, f"{it}.c") for it in ("stop", "meddle", "refuse", "heap", "large_pages"))
+STOP, MEDDLE, WIRE, REFUSE, HEAP, PAGES = (
+    os.path.join(HARNESS, f"{it}.c") for it in ("stop", "meddle", "wire", "refuse", "heap", "large_pages")
+)
 # how a program ends at a change of its file
 WAYS = {"at once": {}, "torn": {"TORN": "1"}, "lost": {"LOST": "1"}}
 

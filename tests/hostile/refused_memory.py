@@ -1,4 +1,4 @@
-"""Refuses each allocation of the program in turn, command by command, foundings and `serve` with an upload among them.
+"""Refuses each allocation of the program in turn, command by command, foundings and `serve` with a connection of each kind among them.
 
 The program reports `memory`, stops, or does without. The same command with ample memory then leaves the rows that it would have left, and
 reports `repeated` for what was done. A script over tables of SQL is played in the same way, and so are the tests of calls
@@ -8,15 +8,16 @@ import shutil
 import socket
 import subprocess
 from collections import Counter
+from dataclasses import dataclass
 
 from tests.harness import commands_in_turn
 from tests.harness.database_files import NAME, OLD_ROWS, OLD_TABLES, file_of
 from tests.harness.first_order import ORDERS
 from tests.harness.http_texts import response
-from tests.harness.hub_scripts import MOMENT
+from tests.harness.hub_scripts import FIRST_MAIL, MOMENT, line_status
 from tests.harness.hub_steps import init, over, told
-from tests.harness.register_texts import BETA, RETAILER
-from tests.harness.servers import all_of, free_port, send, upload
+from tests.harness.register_texts import ALPHA, BETA, RETAILER
+from tests.harness.servers import all_of, free_port, get, listed, post, send, upload
 from tests.harness.shims import REFUSE, built
 from tests.hostile.shared import FOUNDED, KNOWN, folder_with_file, folder_with_hub, folder_without_hub, in_words, on_all_processors, put
 from tests.hostile.shared import rows_of, run
@@ -180,31 +181,90 @@ def served_once(program, folder, request, variables):
     return child.returncode, (first + printed).replace(str(port).encode(), b"PORT"), error, found
 
 
+@dataclass
+class Served:
+    """A request, the status and body of its answer, the body when it is asked again, and the bodies that its answer of 503 may have."""
+
+    name: str
+    request: bytes
+    status: int
+    body: str
+    again: str
+    stops: tuple
+
+    def ended(self, body):
+        return (0 if self.status == 200 else 1, LINES % self.status, b"", response(self.status, body))
+
+    def kinds(self):
+        """What came of it, by how `serve` ended."""
+        stops = [(3, LINES % 503, b"", response(503, text)) for text in self.stops]
+        faults = {(*fault, b""): kind for fault, kind in FAULTS.items()}
+        return {self.ended(self.body): "as ever", **dict.fromkeys(stops, "503"), **faults}
+
+
+LINES = b"listening PORT\nconnection 1 %d\n"
+UPLOADED = "interchange 1001 messages 1"
+# a body of `stopped`, or none where there is no memory even for it
+STOPS = ("", "stopped\n")
+
+
+def uploading():
+    _, request, status, body = upload(RETAILER, ORDERS, UPLOADED, "1 ORDERS accepted")
+    return Served("an upload", request, status, body, told(UPLOADED, "1 ORDERS repeated"), (*STOPS, told(UPLOADED, "stopped")))
+
+
+def of_uploaded():
+    """What is asked once the order is there. The last three are refused, which takes no memory."""
+    lines = line_status("128576", "W", 48, 48, 0, 0, 0)
+    cancel = post(RETAILER, "cancellations", f"{ALPHA}\nC5\n128576\n1\n7\n", 200, "accepted\n")
+    for name, request, status, body in (
+        get(ALPHA, "mail/item/1", 200, FIRST_MAIL),
+        get(ALPHA, "mail/after/0", 200, listed((1, "ORDERS", "128576"))),
+        post(ALPHA, "mail/item/1/taken", "", 200, "taken\n"),
+        get(RETAILER, f"status/{ALPHA}", 200, told(lines, "end")),
+    ):
+        yield Served(name, request, status, body, body, STOPS)
+    yield Served(*cancel, "repeated\n", STOPS)
+    for name, request, status, body in (
+        get(ALPHA, "mail/item/x", 404, "unknown\n"),
+        ("no request", b"GET /\r\n\r\n", 400, "bad request\n"),
+        get(ALPHA, "status", 400, "bad request\n", "X-Hub-Key: alpha-key-1"),
+    ):
+        yield Served(name, request, status, body, body, ())
+
+
 def serving_refused(program, top):
-    shim, head = Shim(top), "interchange 1001 messages 1"
-    _, request, _, body = upload(RETAILER, ORDERS, head, "1 ORDERS accepted")
-    lines = b"listening PORT\nconnection 1 %d\n"
-    whole, again = ((0, lines % 200, b"", response(200, it)) for it in (body, told(head, "1 ORDERS repeated")))
-    stops = [(3, lines % 503, b"", response(503, text)) for text in (b"", b"stopped\n", told(head, "stopped"))]
-    kinds = {whole: "as ever", **dict.fromkeys(stops, "503"), **{(*fault, b""): kind for fault, kind in FAULTS.items()}}
-    end = folder_with_hub(program, top)
-    if served_once(program, end, request, shim.counting()) != whole:
-        return "an upload that is served with ample memory"
+    """Refuses each allocation of `serve` in turn, for one connection of each request."""
+    shim, base = Shim(top), folder_with_hub(program, top)
+    why = request_refused(program, shim, uploading(), base)
+    if not why:
+        served_once(program, base, uploading().request, {})
+        why = next(filter(None, (request_refused(program, shim, it, base) for it in of_uploaded())), None)
+    return why
+
+
+def request_refused(program, shim, served, base):
+    """Refuses each allocation in turn of a connection over a copy of the folder `base`, and asks again."""
+    end = shutil.copytree(base, f"{base}end")
+    whole, again, kinds = served.ended(served.body), served.ended(served.again), served.kinds()
+    if served_once(program, end, served.request, shim.counting()) != whole:
+        return f"{served.name}, with ample memory"
     wanted, allocations = rows_of(end), shim.counted()
+    shutil.rmtree(end)
 
     def tried(number):
-        folder = folder_with_hub(program, top)
-        found = served_once(program, folder, request, shim.refusing(number))
+        folder = shutil.copytree(base, f"{base}{number}")
+        found = served_once(program, folder, served.request, shim.refusing(number))
         kind = kinds.get(found)
         if not kind:
-            return kind, f"allocation {number} refused: {found!r:.300}"
-        later = served_once(program, folder, request, {})
+            return kind, f"{served.name}: allocation {number} refused: {found!r:.300}"
+        later = served_once(program, folder, served.request, {})
         if later != again and (found == whole or later != whole) or rows_of(folder) != wanted:
-            return kind, f"allocation {number} refused, {kind}, then: {later!r:.300}"
+            return kind, f"{served.name}: allocation {number} refused, {kind}, then: {later!r:.300}"
         shutil.rmtree(folder)
         return kind, None
 
-    return each_told(tried, allocations, f"serve: {allocations} of {allocations} allocations refused in turn")
+    return each_told(tried, allocations, f"serve, {served.name}: {allocations} of {allocations} allocations refused in turn")
 
 
 def script_refused(scripts, _):

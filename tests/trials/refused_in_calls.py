@@ -28,8 +28,8 @@ def ran(program, *name, **variables):
 
 def outcome(program, name, shim, number):
     """What becomes of a test where the allocation of this number is refused: nothing where that is wrong."""
-    ended, _ = ran(program, name, LD_PRELOAD=shim, REFUSE=str(number))
-    if ended == WRONG and name in OF_THEIR_OWN:
+    ended, printed = ran(program, name, LD_PRELOAD=shim, REFUSE=str(number))
+    if (ended, printed) == (WRONG, [name, "wrong"]) and name in OF_THEIR_OWN:
         return "of the test's own"
     return {PASSES: "as ever", OUT_OF_MEMORY: "out of memory"}.get(ended)
 

@@ -10,18 +10,17 @@ from collections import Counter
 from concurrent.futures import ThreadPoolExecutor
 from dataclasses import dataclass, field
 
-from tests.harness import http_texts
 from tests.harness.case import SECONDS
-from tests.harness.connection_scripts import Joining
 from tests.harness.first_order import ORDERS
 from tests.harness.hub_scripts import DESPATCH, FIRST_MAIL, OTHER_PALLET, RECEIPT, RESPONSE, SECOND, SECOND_MAIL
 from tests.harness.hub_scripts import SPELLED, STATUS, despatch, interchange, line_status, order, response
+from tests.harness.joining_scripts import Joining
 from tests.harness.register_texts import ALPHA, BETA, GAMMA, RETAILER
 from tests.harness.shims import REFUSE, built
 
 # the forms of a stop in which nothing was done: the word, and where there is no memory even for it, nothing
 STOPPED = {b"stopped 8\nstopped\n", b"stopped 0\n"}
-# how many allocations there are at least, and how many of them are the script's own at most, the routes of its connections among them
+# how many allocations there are at least, and how many of them are the script's own at most
 FEWEST, MOST_OF_SCRIPT = 1000, 400
 
 
@@ -79,17 +78,6 @@ class Twice:
         stops = STOPPED | {stopped(), stopped(f"1 {kind} repeated")}
         self.asked.append(Asked(told("accepted", "accepted"), told("repeated", "repeated"), stops, between))
 
-    def wired(self, request, body, again=None, status=200, stops=(b"", b"stopped\n")):
-        """A connection of HTTP, served twice, and the bodies that a response of 503 may have."""
-
-        def printed(status, text):
-            data = http_texts.response(status, text)
-            return b"served %d %d\n%s" % (status, len(data), data)
-
-        self.play.say("connection", request)
-        self.play.say("connection", request)
-        self.asked.append(Asked(printed(status, body), printed(status, again or body), {printed(503, text) for text in stops}))
-
 
 def messages_sent(run):
     """Messages, a cancellation, a mark and a join."""
@@ -128,29 +116,10 @@ def seen(run):
     run.looks(lambda: play.item(2, SECOND_MAIL))
 
 
-def over_connections(run):
-    """The same over HTTP."""
-    path, asking = f"/p/{ALPHA}", http_texts.asking
-    head = "interchange 1011 messages 1\n"
-    upload = asking("POST", f"/p/{RETAILER}/interchanges", RETAILER, interchange(RETAILER, "1011", order("128579")))
-    run.wired(upload, head + "1 ORDERS accepted\n", head + "1 ORDERS repeated\n", stops=(b"", b"stopped\n", f"{head}stopped\n".encode()))
-    run.wired(asking("GET", f"{path}/mail/item/1", ALPHA), FIRST_MAIL)
-    run.wired(asking("GET", f"{path}/mail/after/3", ALPHA), "             4 ORDERS 128579\nend\n")
-    run.wired(asking("POST", f"{path}/mail/item/4/taken", ALPHA, ""), "taken\n")
-    lines = "".join(line_status(number, "W", 48, 48, 0, 0, 0) + "\n" for number in ("128578", "128579", "128580"))
-    run.wired(asking("GET", f"/p/{RETAILER}/status/{BETA}", RETAILER), lines + "end\n")
-    cancel = f"{ALPHA}\nC5\n128579\n1\n7\n"
-    run.wired(asking("POST", f"/p/{RETAILER}/cancellations", RETAILER, cancel), "accepted\n", "repeated\n")
-    # a refusal asks for no memory
-    run.wired(asking("GET", f"{path}/mail/item/x", ALPHA), "unknown\n", status=404, stops=())
-    run.wired(b"GET /\r\n\r\n", "bad request\n", status=400, stops=())
-    run.wired(asking("GET", f"{path}/status", ALPHA, None, "X-Hub-Key: alpha-key-1"), "bad request\n", status=400, stops=())
-
-
 def sent_twice():
     """A script, and what is asked in it."""
     run = Twice()
-    for scene in (messages_sent, seen, over_connections):
+    for scene in (messages_sent, seen):
         scene(run)
     return run.play.script, run.asked
 

@@ -605,7 +605,9 @@ def unsound(program):
         list_of_other,
         get(ALPHA, "status", 503, "stopped\n"),
         get(BETA, "mail/after/0", 503, "stopped\n"),
+        upload(RETAILER, ORDERS, "interchange 1001 messages 1", "stopped", status=503),
         get(ALPHA, "nothing", 404, "unknown\n"),
+        get(ALPHA, "mail/item/x", 404, "unknown\n"),
     ]
     return served(program, asked, data=data) or served(program, [list_of_other], data=data)
 

@@ -12,8 +12,6 @@ pub enum Command {
     Run,
     /// `end`
     End,
-    /// `connection`
-    Connection,
     /// `mend`
     Mend,
     /// `counts`
@@ -30,7 +28,6 @@ impl Command {
             b"as" => Ok(Command::As),
             b"run" => Ok(Command::Run),
             b"end" => Ok(Command::End),
-            b"connection" => Ok(Command::Connection),
             b"mend" => Ok(Command::Mend),
             b"counts" => Ok(Command::Counts),
             b"quiet" => Ok(Command::Quiet(true)),

@@ -1,12 +1,9 @@
 //! Defines why a script could not be run to its end.
 use edi_base::{ReadFault, WriteFault};
-use edi_envelope::EnvelopeFault;
-use edi_relay::RelayFault;
-use edi_tokens::TokenFault;
 use hub_register::RegisterFault;
-use hub_store::StoreFault;
 use std::alloc::AllocError;
 use std::fmt;
+use trial_calls::CallFault;
 
 /// Why a script could not be run to its end.
 #[derive(Clone, Copy)]
@@ -21,15 +18,6 @@ pub enum ScriptFault {
     Memory,
     /// A call that is tested answered something else.
     Wrong,
-}
-
-/// Answers whether what a test of a call compares holds.
-pub fn right(holds: bool) -> Result<(), ScriptFault> {
-    if holds {
-        Ok(())
-    } else {
-        Err(ScriptFault::Wrong)
-    }
 }
 
 impl fmt::Display for ScriptFault {
@@ -75,39 +63,13 @@ impl From<WriteFault> for ScriptFault {
     }
 }
 
-// The faults that follow answer calls that are tested.
-impl From<TokenFault> for ScriptFault {
-    fn from(fault: TokenFault) -> ScriptFault {
+impl From<CallFault> for ScriptFault {
+    fn from(fault: CallFault) -> ScriptFault {
         match fault {
-            TokenFault::Memory => ScriptFault::Memory,
-            _ => ScriptFault::Wrong,
-        }
-    }
-}
-
-impl From<EnvelopeFault> for ScriptFault {
-    fn from(fault: EnvelopeFault) -> ScriptFault {
-        match fault {
-            EnvelopeFault::Memory => ScriptFault::Memory,
-            _ => ScriptFault::Wrong,
-        }
-    }
-}
-
-impl From<RelayFault> for ScriptFault {
-    fn from(fault: RelayFault) -> ScriptFault {
-        match fault {
-            RelayFault::Memory => ScriptFault::Memory,
-            _ => ScriptFault::Wrong,
-        }
-    }
-}
-
-impl From<StoreFault> for ScriptFault {
-    fn from(fault: StoreFault) -> ScriptFault {
-        match fault {
-            StoreFault::Memory => ScriptFault::Memory,
-            _ => ScriptFault::Wrong,
+            CallFault::Name => ScriptFault::Line,
+            CallFault::Wrong => ScriptFault::Wrong,
+            CallFault::Memory => ScriptFault::Memory,
+            CallFault::Write => ScriptFault::File,
         }
     }
 }

@@ -23,10 +23,6 @@
 //! - `join GLN KEY PREFIX[,PREFIX..]` asks to register a supplier with this key and these company prefixes. A line that
 //!   is not a valid join, such as one with nine prefixes, is a fault of the script.
 //! - `run` and `end` combine the requests between them into one run.
-//! - `connection N P R T W I` serves an HTTP connection whose N bytes follow, at the moment of the last `as`. A read
-//!   returns at most P bytes, and fails after R others; a write accepts at most T bytes, and fails after W others. If I
-//!   is a number, they fail with an interruption. What is missing, or no number, is no bound. Prints `served` with the
-//!   status or `fault` with its kind, the length of what was sent, a line end, and what was sent.
 //! - `mend` reopens the store with its rows, or with what a crash leaves of a file that stopped; from then on no call
 //!   fails. If it cannot be opened, prints `store` and the fault.
 //! - `counts` prints how many look-ups and commits there were since the hub was made or its store was reopened.
@@ -35,14 +31,13 @@
 //! For each reply it prints the outcome, `refused` if something was refused, the length of the body, a line end, and
 //! the body.
 //!
-//! `trial_script calls` reads no script: it tests calls, and prints the name of each test that passes; `calls NAME` makes
-//! only that one.
+//! `trial_script calls` reads no script: it makes the tests of calls (`trial_calls`), and prints the name of each;
+//! `calls NAME` makes only that one.
 //!
 //! The exit status is 0; 1 if the script has a fault, or a call that is tested answers wrongly; or 3 if memory ran out,
 //! or a read or write failed.
 #![tactic(auto)]
 
-mod calls;
 mod command;
 mod fault;
 mod opening;
@@ -51,9 +46,7 @@ mod request;
 mod script;
 mod stopping;
 mod trial;
-mod wire;
 
-use crate::calls::test_calls;
 use crate::fault::ScriptFault;
 use crate::opening::{InMemory, Opener};
 use crate::stopping::{Stopping, StoppingFiles};
@@ -68,6 +61,7 @@ use sqlite_trees::memory::MemStore;
 use std::env;
 use std::fs::File;
 use std::process::ExitCode;
+use trial_calls::test_calls;
 use trial_lists::VecStore;
 
 /// The longest script, in bytes.
@@ -77,7 +71,7 @@ const SCRIPT_LIMIT: usize = 64 << 20;
 #[inline(never)]
 fn play<S: Store + Drop, O: Opener<S>>(rt: &HostRuntime, opener: O) -> Result<O, ScriptFault> {
     let text = read_to_limit(rt.alloc(), &mut OfRead::new(rt.stdin()), SCRIPT_LIMIT)?;
-    let mut trial = Trial::<S, O>::new(rt.alloc(), opener)?;
+    let mut trial = Trial::<S, O>::new(rt.alloc(), opener);
     trial.play(rt, text.as_slice(), &mut OfWrite::new(rt.stdout()))?;
     Ok(trial.into_opener())
 }
@@ -199,7 +193,7 @@ fn over_named(rt: &HostRuntime, words: &[String]) -> Result<(), ScriptFault> {
 
 // Makes the tests of calls with this name, or all.
 fn tested(rt: &HostRuntime, name: Option<&str>) -> Result<(), ScriptFault> {
-    test_calls(rt.alloc(), name, &mut OfWrite::new(rt.stdout()))
+    Ok(test_calls(rt.alloc(), name, &mut OfWrite::new(rt.stdout()))?)
 }
 
 fn run(rt: &HostRuntime) -> Result<(), ScriptFault> {

@@ -1,7 +1,7 @@
 //! Prints the results of a script.
 use crate::fault::ScriptFault;
 use edi_base::{Sink, WriteFault, write_bytes};
-use hub_http::{IoFault, Outcome, Reply, Served};
+use hub_core::{Outcome, Reply};
 use hub_sql::FoundFault;
 use hub_store::StoreFault;
 use std::alloc::{AllocError, Global};
@@ -36,21 +36,6 @@ fn reply_line(alloc: Global, reply: &Reply) -> Result<String, AllocError> {
     format!(in alloc; "{outcome}{refused} {length}\n")
 }
 
-// Returns the line of a connection that was served, or was not; `length` bytes were sent on it.
-fn served_line(
-    alloc: Global,
-    served: Result<Served, IoFault>,
-    length: usize,
-) -> Result<String, AllocError> {
-    match served {
-        Ok(served) => {
-            let status = served.status;
-            format!(in alloc; "served {status} {length}\n")
-        }
-        Err(fault) => format!(in alloc; "fault {fault} {length}\n"),
-    }
-}
-
 fn write_both<W: Sink>(line: &[u8], bytes: &[u8], out: &mut W) -> Result<(), WriteFault> {
     write_bytes(line, out)?;
     write_bytes(bytes, out)
@@ -83,17 +68,6 @@ pub fn write_replies<W: Sink>(
         write_reply(alloc, reply, out)?;
     }
     Ok(())
-}
-
-/// Prints the status that was written, or the fault, and what was sent.
-pub fn write_served<W: Sink>(
-    alloc: Global,
-    served: Result<Served, IoFault>,
-    bytes: &[u8],
-    out: &mut W,
-) -> Result<(), ScriptFault> {
-    let line = served_line(alloc, served, bytes.len())?;
-    Ok(write_both(line.as_bytes(), bytes, out)?)
 }
 
 /// Prints how many look-ups and commits there were.

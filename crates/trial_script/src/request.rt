@@ -3,7 +3,7 @@ use crate::fault::ScriptFault;
 use crate::script::{LineWords, Script};
 use edi_base::copy_bytes;
 use gs1_ids::Prefix;
-use hub_http::{Join, Request, read_cancel};
+use hub_core::{Join, Request, read_cancel};
 use std::alloc::Global;
 
 // Reads the number of a mailbox entry.

@@ -4,14 +4,13 @@ ghost use Rattle.std.specs.Prelude.{◌≡◌};
 use crate::command::Command;
 use crate::fault::ScriptFault;
 use crate::opening::Opener;
-use crate::print::{write_counts, write_fault, write_replies, write_served};
+use crate::print::{write_counts, write_fault, write_replies};
 use crate::request::{payload, request_of};
 use crate::script::{LineWords, Script};
-use crate::wire::{Incoming, Manner, Outgoing};
 use edi_base::{Items, Sink, copy_bytes};
 use edi_envelope::Moment;
 use gs1_ids::Gln;
-use hub_http::{Hub, Input, IoFault, Paths, Reply, Request, Served, serve_one};
+use hub_core::{Hub, Input, Reply, Request};
 use hub_register::Register;
 use hub_sql::FoundFault;
 use hub_store::{Store, StoreFault};
@@ -31,7 +30,6 @@ struct Asker {
 #[derive(Drop)]
 pub struct Trial<S: Store + Drop, O: Opener<S>> {
     alloc: Global,
-    paths: Paths,
     opener: O,
     hub: Option<Hub<TrialStore<S>>>,
     asker: Option<Asker>,
@@ -115,11 +113,7 @@ fn push_input(
     }
 }
 
-// Each of the calls that follow is in a function of its own, to keep its contract out of the goals of the others.
-fn paths(alloc: Global) -> Result<Paths, ScriptFault> {
-    Ok(Paths::new(alloc)?)
-}
-
+// A function of its own, as for the next call, to keep its contract out of the goals of the others.
 fn replied<S: Store>(hub: &mut Hub<S>, asker: &Asker, request: Request) -> Reply {
     hub.step(asker.moment, &asker.gln, asker.key.as_slice(), request)
 }
@@ -128,29 +122,17 @@ fn ran<S: Store>(hub: &mut Hub<S>, inputs: &[Input]) -> Result<Items<Reply>, Scr
     Ok(hub.run(inputs)?)
 }
 
-fn served<S: Store>(
-    alloc: Global,
-    paths: &Paths,
-    hub: &mut Hub<S>,
-    moment: Moment,
-    mut reader: Incoming<'_>,
-    writer: &mut Outgoing,
-) -> Result<Served, IoFault> {
-    serve_one(alloc, paths, hub, moment, &mut reader, writer)
-}
-
 impl<S: Store + Drop, O: Opener<S>> Trial<S, O> {
     /// Begins without a hub.
-    pub fn new(alloc: Global, opener: O) -> Result<Self, ScriptFault> {
-        Ok(Trial {
+    pub fn new(alloc: Global, opener: O) -> Self {
+        Trial {
             alloc,
-            paths: paths(alloc)?,
             opener,
             hub: None,
             asker: None,
             run: None,
             quiet: false,
-        })
+        }
     }
 
     /// Runs a script, and prints the replies.
@@ -200,7 +182,6 @@ impl<S: Store + Drop, O: Opener<S>> Trial<S, O> {
             Command::As => self.set_asker(words),
             Command::Run => self.begin_run(),
             Command::End => self.make_run(out),
-            Command::Connection => self.serve(words, script, out),
             Command::Mend => self.mend(rt, out),
             Command::Counts => self.tell_counts(out),
             Command::Quiet(quiet) => {
@@ -312,23 +293,6 @@ impl<S: Store + Drop, O: Opener<S>> Trial<S, O> {
             return Ok(());
         }
         write_replies(self.alloc, replies, out)
-    }
-
-    // Serves a connection whose bytes follow, and prints the status that was written, or the fault, and what was sent.
-    fn serve<W: Sink>(
-        &mut self,
-        words: &mut LineWords<'_>,
-        script: &mut Script<'_>,
-        out: &mut W,
-    ) -> Result<(), ScriptFault> {
-        let bytes = payload(words, script)?;
-        let manner = Manner::of(words);
-        let moment = self.asker.as_ref().ok_or(ScriptFault::Line)?.moment;
-        let hub = self.hub.as_mut().ok_or(ScriptFault::Line)?;
-        let mut writer = Outgoing::new(self.alloc, manner)?;
-        let reader = Incoming::new(bytes, manner);
-        let served = served(self.alloc, &self.paths, hub, moment, reader, &mut writer);
-        write_served(self.alloc, served, writer.bytes(), out)
     }
 
     // Reopens the store with what it keeps; from then on no call of it fails. The register is read from it again.

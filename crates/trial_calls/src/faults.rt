@@ -8,8 +8,8 @@ ghost use Rattle.hub_store.specs.Clean.{are_clean};
 ghost use Rattle.hub_store.specs.declared.fault.LastingFault.TheVariants as lasting;
 ghost use Rattle.hub_store.specs.declared.fault.StoreFault.TheVariants.{Memory, Disk, Unclean, Version};
 
-use crate::calls::lists::lists;
-use crate::fault::{ScriptFault, right};
+use crate::call_fault::{CallFault, right};
+use crate::lists::lists;
 use edi_base::copy_bytes;
 use gs1_ids::Gln;
 use hub_store::{LastingFault, Store, StoreFault};
@@ -131,14 +131,14 @@ fn is_broken(trial: &mut TrialStore<VecStore>, supplier: &Gln) -> bool {
 }
 
 // Lists keep what is committed, and have no lasting fault.
-fn lists_keep(alloc: Global, list: &mut VecStore, supplier: &Gln) -> Result<(), ScriptFault> {
+fn lists_keep(alloc: Global, list: &mut VecStore, supplier: &Gln) -> Result<(), CallFault> {
     commit_order(alloc, list, *supplier)?;
     right(is_listed(list, supplier)? && fault_of_list(list).is_none())
 }
 
-/// A lasting fault is told, and answered again.
-pub fn lasting(alloc: Global) -> Result<(), ScriptFault> {
-    let supplier = Gln::parse(b"4012345500004").ok_or(ScriptFault::Wrong)?;
+/// A lasting fault stays, and is answered at each call.
+pub fn lasting(alloc: Global) -> Result<(), CallFault> {
+    let supplier = Gln::parse(b"4012345500004").ok_or(CallFault::Wrong)?;
     let mut list = lists(alloc)?;
     lists_keep(alloc, &mut list, &supplier)?;
     let mut trial = TrialStore::failing(list, 1, StoreFault::Disk);

@@ -1,15 +1,6 @@
-//! Tests what no clause says of public calls and no script shows: reads and writes that fail midway, stores that fail,
-//! keys that are not printed, and calls that no program makes.
-mod base;
-mod doubles;
-mod faults;
-mod feeding;
-mod keys;
-mod lists;
-mod mails;
-mod tokens;
-
-use crate::fault::ScriptFault;
+//! Makes the tests of calls by their names.
+use crate::call_fault::CallFault;
+use crate::{base, faults, feeding, keys, mails, tokens};
 use edi_base::{Sink, write_bytes};
 use std::alloc::Global;
 
@@ -68,7 +59,7 @@ impl CallTest {
     }
 
     // Makes the calls, and compares what they answer.
-    fn passes(self, alloc: Global) -> Result<(), ScriptFault> {
+    fn passes(self, alloc: Global) -> Result<(), CallFault> {
         match self {
             CallTest::FailedWrites => base::failed_writes(alloc),
             CallTest::Limits => base::limits(alloc),
@@ -87,24 +78,40 @@ impl CallTest {
     }
 }
 
-/// Makes the tests with this name, or all, and prints the name of each that passes. Stops at the first that does not.
+// Makes a test, and prints its name, behind which stands `wrong` if it does not pass.
+fn tell<W: Sink>(alloc: Global, test: CallTest, out: &mut W) -> Result<(), CallFault> {
+    let passed = test.passes(alloc);
+    if let Err(CallFault::Memory) = passed {
+        return passed;
+    }
+    write_bytes(test.name().as_bytes(), out)?;
+    let end: &[u8] = if passed.is_ok() { b"\n" } else { b" wrong\n" };
+    write_bytes(end, out)?;
+    passed
+}
+
+/// Makes the tests with this name, or all, and prints the name of each on a line of its own. Stops at the first that does
+/// not pass, and prints `wrong` behind its name.
+///
+/// # Errors
+///
+/// `Name` if no test has this name, `Wrong` if a call answers something else, `Memory` if memory ran out, and `Write` if
+/// a name could not be printed.
 pub fn test_calls<W: Sink>(
     alloc: Global,
     name: Option<&str>,
     out: &mut W,
-) -> Result<(), ScriptFault> {
+) -> Result<(), CallFault> {
     let mut is_there = name.is_none();
     for test in &ALL {
         if name.is_none_or(|it| it == test.name()) {
             is_there = true;
-            test.passes(alloc)?;
-            write_bytes(test.name().as_bytes(), out)?;
-            write_bytes(b"\n", out)?;
+            tell(alloc, *test, out)?;
         }
     }
     if is_there {
         Ok(())
     } else {
-        Err(ScriptFault::Line)
+        Err(CallFault::Name)
     }
 }

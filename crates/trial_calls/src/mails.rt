@@ -3,8 +3,8 @@ ghost use Rattle.std.specs.Prelude.{◌≤◌, IfSome};
 ghost use Rattle.edi_envelope.specs.Mail.{last_number};
 ghost use Rattle.edi_relay.specs.Relay.{AreRelayWords};
 
-use crate::calls::tokens::{ORDERS, has_body, tokens};
-use crate::fault::{ScriptFault, right};
+use crate::call_fault::{CallFault, right};
+use crate::tokens::{ORDERS, has_body, tokens};
 use edi_base::{Items, MemoryFault};
 use edi_envelope::{Interchange, Moment, RawMessage, open, wrap};
 use edi_relay::{RelayWords, relay_text};
@@ -28,8 +28,8 @@ fn words() -> Option<RelayWords>
 }
 
 /// An order becomes its mail.
-pub fn relayed(alloc: Global) -> Result<(), ScriptFault> {
-    let words = words().ok_or(ScriptFault::Wrong)?;
+pub fn relayed(alloc: Global) -> Result<(), CallFault> {
+    let words = words().ok_or(CallFault::Wrong)?;
     let mail = relay_text(alloc, ORDERS, &words)?;
     right(mail.as_slice() == MAIL)
 }
@@ -44,15 +44,15 @@ const LAST_MAIL: &[u8] =
 
 const LAST_NUMBER: u64 = 99_999_999_999_999;
 
-fn opened(alloc: Global, text: &[u8]) -> Result<Interchange, ScriptFault> {
+fn opened(alloc: Global, text: &[u8]) -> Result<Interchange, CallFault> {
     let tokens = tokens(alloc, text)?;
     Ok(open(alloc, tokens)?)
 }
 
 // Returns the last message of a text's interchange.
-fn last_message(alloc: Global, text: &[u8]) -> Result<RawMessage, ScriptFault> {
+fn last_message(alloc: Global, text: &[u8]) -> Result<RawMessage, CallFault> {
     let mut messages = opened(alloc, text)?.messages.into_vec();
-    messages.pop().ok_or(ScriptFault::Wrong)
+    messages.pop().ok_or(CallFault::Wrong)
 }
 
 // Makes the mail with this number from a message, at a moment.
@@ -69,9 +69,9 @@ fn mail(
 }
 
 /// The last mail that a supplier can have is made of a message.
-pub fn last_mail(alloc: Global) -> Result<(), ScriptFault> {
+pub fn last_mail(alloc: Global) -> Result<(), CallFault> {
     let message = last_message(alloc, RELAYED)?;
-    let moment = Moment::new(1_748_942_400).ok_or(ScriptFault::Wrong)?;
+    let moment = Moment::new(1_748_942_400).ok_or(CallFault::Wrong)?;
     let mail = mail(alloc, moment, LAST_NUMBER, &message)?;
     right(has_body(alloc, mail.as_slice(), LAST_MAIL)?)
 }

@@ -1,7 +1,7 @@
 //! Tests interchanges that are opened while their bytes arrive.
-use crate::calls::doubles::Pieces;
-use crate::calls::tokens::ORDERS;
-use crate::fault::{ScriptFault, right};
+use crate::call_fault::{CallFault, right};
+use crate::doubles::Pieces;
+use crate::tokens::ORDERS;
 use edi_base::OfRead;
 use edi_envelope::open_feed;
 use edi_tokens::Feeder;
@@ -81,7 +81,7 @@ static TEXTS: [Row; 9] = [
 static SIZES: [usize; 4] = [1, 2, 7, 8192];
 
 /// Pieces of any size are opened alike.
-pub fn pieces(alloc: Global) -> Result<(), ScriptFault> {
+pub fn pieces(alloc: Global) -> Result<(), CallFault> {
     for row in &TEXTS {
         for size in &SIZES {
             right(is_fed(alloc, row, *size, usize::MAX)?)?;
@@ -94,7 +94,7 @@ pub fn pieces(alloc: Global) -> Result<(), ScriptFault> {
 const ENOUGH_CALLS: usize = 38;
 
 /// Each failed read is answered.
-pub fn failed_reads(alloc: Global) -> Result<(), ScriptFault> {
+pub fn failed_reads(alloc: Global) -> Result<(), CallFault> {
     for calls in 0..ENOUGH_CALLS {
         right(is_fed(alloc, &(ORDERS, 0, "read"), 7, calls)?)?;
     }

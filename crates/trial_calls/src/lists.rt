@@ -1,5 +1,5 @@
 //! Makes lists with the rows of a register of one supplier.
-use crate::fault::ScriptFault;
+use crate::call_fault::CallFault;
 use edi_base::MemoryFault;
 use hub_register::{Register, RegisterFault};
 use std::alloc::Global;
@@ -27,7 +27,7 @@ fn founded(alloc: Global, register: &Register) -> Result<VecStore, MemoryFault> 
 }
 
 /// Makes lists that have only the rows of the register.
-pub fn lists(alloc: Global) -> Result<VecStore, ScriptFault> {
+pub fn lists(alloc: Global) -> Result<VecStore, CallFault> {
     let register = register(alloc)?;
     Ok(founded(alloc, &register)?)
 }

@@ -1,6 +1,6 @@
 //! Tests segments that are read and written.
-use crate::calls::doubles::{Dribble, sink_with_room, took_front};
-use crate::fault::{ScriptFault, right};
+use crate::call_fault::{CallFault, right};
+use crate::doubles::{Dribble, sink_with_room, took_front};
 use edi_base::{OfWrite, WriteFault};
 use edi_tokens::{Segment, Tokens, body_text, read_all, write_text};
 use std::alloc::{AllocError, Global};
@@ -46,22 +46,22 @@ static CANONICAL: [(&[u8], &[u8]); 14] = [
 ];
 
 // A function of its own, as for each call, to keep its contract out of the tests.
-pub fn tokens(alloc: Global, text: &[u8]) -> Result<Tokens, ScriptFault> {
+pub fn tokens(alloc: Global, text: &[u8]) -> Result<Tokens, CallFault> {
     Ok(read_all(alloc, text)?)
 }
 
-pub fn has_body(alloc: Global, segments: &[Segment], body: &[u8]) -> Result<bool, ScriptFault> {
+pub fn has_body(alloc: Global, segments: &[Segment], body: &[u8]) -> Result<bool, CallFault> {
     Ok(body_text(alloc, segments)?.as_slice() == body)
 }
 
 /// Whether a text is read as segments that have this canonical text.
-fn is_read_as(alloc: Global, text: &[u8], canonical: &[u8]) -> Result<bool, ScriptFault> {
+fn is_read_as(alloc: Global, text: &[u8], canonical: &[u8]) -> Result<bool, CallFault> {
     let tokens = tokens(alloc, text)?;
     has_body(alloc, tokens.segments.as_slice(), canonical)
 }
 
 /// Each text gives its canonical text.
-pub fn canonical(alloc: Global) -> Result<(), ScriptFault> {
+pub fn canonical(alloc: Global) -> Result<(), CallFault> {
     for (text, canonical) in &CANONICAL {
         right(is_read_as(alloc, text, canonical)?)?;
     }
@@ -91,7 +91,7 @@ fn is_front_written(
 static ROOMS: [usize; 9] = [0, 1, 8, 9, 10, 100, 254, 255, 256];
 
 /// A failed write leaves a front of the text.
-pub fn failed_writes(alloc: Global) -> Result<(), ScriptFault> {
+pub fn failed_writes(alloc: Global) -> Result<(), CallFault> {
     let tokens = tokens(alloc, ORDERS)?;
     let segments = tokens.segments.as_slice();
     for room in &ROOMS {
@@ -117,7 +117,7 @@ fn long_text(alloc: Global, front: &[u8]) -> Result<Vec<u8>, AllocError> {
 }
 
 /// A text that is longer than what waits is written whole.
-pub fn long(alloc: Global) -> Result<(), ScriptFault> {
+pub fn long(alloc: Global) -> Result<(), CallFault> {
     let want = long_text(alloc, WITH_COMMA)?;
     let text = long_text(alloc, b"\r\n")?;
     let tokens = tokens(alloc, &text)?;

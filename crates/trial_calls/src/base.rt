@@ -1,6 +1,6 @@
 //! Tests bytes that are read and written.
-use crate::calls::doubles::{Dribble, Pieces, sink_with_room, took_front};
-use crate::fault::{ScriptFault, right};
+use crate::call_fault::{CallFault, right};
+use crate::doubles::{Dribble, Pieces, sink_with_room, took_front};
 use edi_base::{
     Buffer, OfRead, OfWrite, ReadFault, Source, WriteFault, read_to_limit, write_bytes,
 };
@@ -57,7 +57,7 @@ static ROOMS: [usize; 8] = [0, 1, 1023, 1024, 1025, 4999, 5000, 5001];
 static WAYS: [(bool, bool); 4] = [(true, false), (false, false), (true, true), (false, true)];
 
 /// A failed write leaves a front of the bytes.
-pub fn failed_writes(alloc: Global) -> Result<(), ScriptFault> {
+pub fn failed_writes(alloc: Global) -> Result<(), CallFault> {
     let bytes = bytes_of(alloc, 5000)?;
     for room in &ROOMS {
         for (fails, pieces) in &WAYS {
@@ -104,7 +104,7 @@ static LIMITS: [Limit; 7] = [
 ];
 
 /// A source is read to its end or to the limit.
-pub fn limits(alloc: Global) -> Result<(), ScriptFault> {
+pub fn limits(alloc: Global) -> Result<(), CallFault> {
     let long = bytes_of(alloc, 200_000)?;
     for row in &LIMITS {
         right(is_front_read(alloc, &long, row)?)?;
@@ -113,7 +113,7 @@ pub fn limits(alloc: Global) -> Result<(), ScriptFault> {
 }
 
 /// A failed read is answered.
-pub fn failed_read(alloc: Global) -> Result<(), ScriptFault> {
+pub fn failed_read(alloc: Global) -> Result<(), CallFault> {
     let mut source = OfRead::new(Pieces {
         left: b"aaaa",
         size: 1,
@@ -122,7 +122,7 @@ pub fn failed_read(alloc: Global) -> Result<(), ScriptFault> {
     let read = read_front(alloc, &mut source, 2)?;
     right(read.as_slice() == b"aa".as_slice() && !source.has_failed())?;
     match read_front(alloc, &mut source, 2) {
-        Err(ReadFault::Memory) => Err(ScriptFault::Memory),
+        Err(ReadFault::Memory) => Err(CallFault::Memory),
         again => right(again == Err(ReadFault::Read) && source.has_failed()),
     }
 }

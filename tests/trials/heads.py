@@ -1,7 +1,8 @@
-"""Heads of requests, for the program `trial_script`: what is a head and what is none, in reads of 1 to 10,000 bytes."""
-from tests.harness.connection_scripts import Wire
+"""Heads of requests: what is a head and what is none, on the built program that serves them, in reads of 1 to 10,000 bytes."""
+from tests.harness.connections import Wire
 from tests.harness.hub_scripts import KEYS
 from tests.harness.register_texts import ALPHA
+from tests.trials.serving import tried_side_by_side
 
 TARGET = f"/p/{ALPHA}/mail/after/0"
 KEY = KEYS[ALPHA]
@@ -53,10 +54,15 @@ HEADS = [
 
 
 def in_steps(step):
-    play = Wire().now()
+    play = Wire()
     for _, head, (status, body) in HEADS:
         play.served(head.encode("latin-1") + BEHIND, status, body, f"piece {step}")
-    return play.case(f"heads of requests, {step} bytes a read")
+    return play
 
 
-CASES = [in_steps(step) for step in (1, 5, 4096, 10_000)]
+TRIALS = [
+    (
+        "heads of requests",
+        lambda program: tried_side_by_side("heads", program, {f"{it} bytes a read": in_steps(it).wrong for it in (1, 5, 4096, 10_000)}),
+    )
+]
