@@ -27,8 +27,8 @@ from tests.harness.case import SECONDS
 from tests.harness.prover_environment import prover_environment
 from tests.harness.tree import ROOT
 from tests.trials import changed_keys, connections, disturbed_commands, documents, failing_openings, files_brought_over, folder_feeding
-from tests.trials import heads, journal, kept_orders, lines_of_status_3, random_runs, refused_in_scripts, served_limits, serving
-from tests.trials import stopped_commands, stopped_machine, units, verified_files
+from tests.trials import heads, journal, kept_orders, lines_of_status_3, random_runs, refused_in_scripts, scripts_on_files
+from tests.trials import served_limits, serving, stopped_commands, units, verified_files
 
 
 def built(crate):
@@ -45,7 +45,7 @@ PROGRAMS = [
     ),
     (
         built("trial_script"),
-        hub_rules.HUBS + hub_rules.OVER_SQL + order_of_rules.ORDER + hub_files.FILES + joins.JOINS + corrections.CORRECTIONS + calls.CALLS,
+        hub_rules.HUBS + hub_rules.OVER_SQL + order_of_rules.ORDER + joins.JOINS + corrections.CORRECTIONS + calls.CALLS,
     ),
 ]
 
@@ -62,6 +62,7 @@ OF_EDIHUB = (
     connections,
     heads,
     served_limits,
+    scripts_on_files,
     journal,
     folder_feeding,
     units,
@@ -75,8 +76,8 @@ TRIALS = [
     ),
     (built("trial_script"), "made runs", random_runs.made_runs),
     (built("trial_script"), "messages together and alone", kept_orders.kept_orders),
-    (built("trial_script"), "a machine that stops", stopped_machine.machine),
-    (built("trial_script"), "a machine that stops while a file of schema 1 is brought over", stopped_machine.migrations),
+    (built("edihub"), "made runs on files", lambda program: random_runs.runs_on_files(program, built("trial_script"))),
+    (built("edihub"), "messages together on files", lambda program: kept_orders.kept_on_files(program, built("trial_script"))),
     (built("trial_script"), "allocations refused in turn", refused_in_scripts.refusals),
 ]
 

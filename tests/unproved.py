@@ -23,7 +23,6 @@ GROUPS = {
     "migrations": (EDIHUB, older_files.MIGRATIONS),
     "limits": (EDIHUB, limits.LIMITS),
     "rules": (SCRIPTS, hub_rules.HUBS + hub_rules.OVER_SQL + order_of_rules.ORDER),
-    "files": (SCRIPTS, hub_files.FILES),
     "joins": (SCRIPTS, joins.JOINS),
     "corrections": (SCRIPTS, corrections.CORRECTIONS),
     "calls": (SCRIPTS, calls.CALLS),

@@ -2,7 +2,7 @@
 and over a file, what it prints, and which rows the file then has."""
 from dataclasses import replace
 
-from tests.harness.database_files import WORDS, has_rows
+from tests.harness.database_files import has_rows
 from tests.harness.hub_scripts import OTHER_PALLET, PALLET, PALLET_OF_BETA, RECEIPT, STATUS, accepted, article
 from tests.harness.hub_scripts import despatch, goods_in_turn, interchange, message, order, ordered, parties, receipt
 from tests.harness.register_texts import ALPHA, BETA, RETAILER
@@ -140,6 +140,7 @@ PLAYS = [
     ("corrections of what was not despatched", before_any_despatch(), rows()),
 ]
 CORRECTIONS = [play.case(name) for name, play, _ in PLAYS]
-# the same over tables of SQL, in memory and in a file
+# the same over tables of SQL
 CORRECTIONS += [replace(it, name=f"{it.name}, over SQL", words=["sql"]) for it in CORRECTIONS]
-CORRECTIONS += [replace(play.case(f"{name}, over a file"), words=WORDS, after=has_rows(left)) for name, play, left in PLAYS]
+# what is played on a file, and what is wrong with it then
+ON_FILES = [(name, play, {}, has_rows(left)) for name, play, left in PLAYS]

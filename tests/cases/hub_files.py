@@ -1,11 +1,7 @@
-"""Cases of a hub over a file of SQL: scripts for `trial_script file hub.db`, files as SQLite itself writes them, and what is told of
-a file that is none of a hub, by scripts and by the commands of `edihub`."""
-import re
-from dataclasses import replace
-
-from tests.cases.hub_rules import HUBS, all_taken, some_taken
-from tests.harness.case import Case
-from tests.harness.database_files import NAME, OLD_ROWS, OLD_TABLES, REGISTERED, ROWS, TABLES, WORDS, file_of
+"""A hub over a file of SQL: scripts that are played on `edihub`, files as SQLite itself writes them, and what is told of a file that is
+none of a hub."""
+from tests.cases.hub_rules import all_taken, some_taken
+from tests.harness.database_files import NAME, OLD_ROWS, OLD_TABLES, REGISTERED, ROWS, TABLES, file_of
 from tests.harness.database_files import has_rows, is_still, is_whole
 from tests.harness.first_order import ORDERS
 from tests.harness.hub_scripts import DESPATCH, FIRST_MAIL, PALLET, RESPONSE, Play, accepted, line_status
@@ -13,19 +9,11 @@ from tests.harness.hub_steps import over, step, steps
 from tests.harness.register_texts import ALPHA, BETA, DELTA, GAMMA, RETAILER, gln
 
 
-def over_file(case):
-    return replace(case, name=f"over a file: {case.name}", words=WORDS, after=is_whole)
-
-
 def despatched():
     """The first order, its answer and its despatch."""
     play = accepted(Play(), RETAILER, "1001", "ORDERS", ORDERS)
     accepted(play, ALPHA, "S1", "ORDRSP", RESPONSE)
     return accepted(play, ALPHA, "S2", "DESADV", DESPATCH)
-
-
-def of_file(name, play, data, after=is_whole):
-    return Case(name, WORDS, play.script, play.printed, files={NAME: data}, after=after)
 
 
 def looked_at(play):
@@ -52,17 +40,6 @@ def taken_anew():
     play.script += Play().script
     play.who = None
     return all_taken(play.list(0, (3, "ORDERS", "1003"), (5, "ORDERS", "1005")))
-
-
-def told(fault):
-    """A file that is not opened."""
-    play = Play()
-    play.printed = f"store {fault}\n".encode()
-    return play
-
-
-def not_opened(name, fault, data):
-    return of_file(name, told(fault), data, is_still(data))
 
 
 def without(word, tables=TABLES):
@@ -163,7 +140,7 @@ def spoiled(name, change, line):
     data = file_of(TABLES, ROWS, change)
     play = Play().ask(ALPHA, line, "stopped", "stopped\n").ask(ALPHA, "taken 1", "stopped", "stopped\n")
     play.ask(ALPHA, "upload", "stopped", "interchange S1 messages 1\nstopped\n", RESPONSE)
-    return of_file(f"a stored row that is none: {name}", play, data, is_still(data))
+    return f"a stored row that is none: {name}", play, {NAME: data}, is_still(data)
 
 
 def half_shown():
@@ -179,29 +156,21 @@ def of_another():
     return play.ask("8712345000004", "status", "stopped", "stopped\n")
 
 
-FILES = [
-    # a script with one hub makes one file of it
-    *(over_file(case) for case in HUBS if len(re.findall(rb"^hub \d", case.input, re.MULTILINE)) == 1),
-    Case(
-        "what a file has after an order, its answer and its despatch",
-        WORDS,
-        despatched().script,
-        despatched().printed,
-        after=has_rows(ROWS),
-    ),
-    Case("a file that is opened again", WORDS, opened_anew().script, opened_anew().printed, after=has_rows(ROWS)),
-    Case("a mailbox of a file that is opened again", WORDS, taken_anew().script, taken_anew().printed, after=is_whole),
-    of_file("a file that SQLite wrote", looked_at(Play()), file_of(), has_rows(ROWS)),
-    of_file("a file that SQLite wrote with a log", looked_at(Play()), file_of(TABLES, ROWS, "PRAGMA journal_mode = WAL"), has_rows(ROWS)),
-    of_file("a file without tables", Play().status(), file_of("", {}), has_rows({**REGISTERED, "line": []})),
-    of_file("an empty file", Play().status(), b"", has_rows({**REGISTERED, "line": []})),
-    *(not_opened(f"a file with {name}", "version", data) for name, data in OTHERS),
-    *(not_opened(f"a file with {name}", "unclean", data) for name, data in UNCLEAN),
-    not_opened("a file that is no database", "disk", b"no database\n" * 1000),
-    not_opened("half of a file", "disk", file_of()[: len(file_of()) // 2]),
+# scripts that are played on a file: its first content, and what is wrong with it then
+ON_FILES = [
+    ("what a file has after an order, its answer and its despatch", despatched(), {}, has_rows(ROWS)),
+    ("a file that is opened again", opened_anew(), {}, has_rows(ROWS)),
+    ("a mailbox of a file that is opened again", taken_anew(), {}, is_whole),
+    ("a file that SQLite wrote", looked_at(Play()), {NAME: file_of()}, has_rows(ROWS)),
+    ("a file that SQLite wrote with a log", looked_at(Play()), {NAME: file_of(TABLES, ROWS, "PRAGMA journal_mode = WAL")}, has_rows(ROWS)),
     *(spoiled(*row) for row in SPOILED),
-    of_file("an entry that is none beside what a list shows", half_shown(), file_of(TABLES, ROWS, "UPDATE mail SET decimal = 45")),
-    of_file("a row that is none stops whom it belongs to, and then all", of_another(), file_of(TABLES, ROWS, SPOILED[0][1])),
+    (
+        "an entry that is none beside what a list shows",
+        half_shown(),
+        {NAME: file_of(TABLES, ROWS, "UPDATE mail SET decimal = 45")},
+        is_whole,
+    ),
+    ("a row that is none stops whom it belongs to, and then all", of_another(), {NAME: file_of(TABLES, ROWS, SPOILED[0][1])}, is_whole),
 ]
 
 # the command of each line of a script
@@ -216,10 +185,11 @@ def by_command(name, data, line, output, error):
     return steps(f"{line} over a file with {name}", step(COMMANDS[line], output, 3, error, {NAME: data}, is_still(data)))
 
 
-# the same files, opened by `edihub`
+# files that are none of a hub, or have a row that is none
 OPENED = [
     *(by_command(name, data, "status", "", "store version\n") for name, data in OTHERS),
     *(by_command(name, data, "status", "", "store unclean\n") for name, data in UNCLEAN),
+    by_command("no database", b"no database\n" * 1000, "status", "", "store disk\n"),
     by_command("a half of itself", file_of()[: len(file_of()) // 2], "status", "", "store disk\n"),
     *(by_command(f"a row that is none: {name}", file_of(TABLES, ROWS, change), line, "stopped\n", "") for name, change, line in SPOILED),
 ]

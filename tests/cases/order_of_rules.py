@@ -1,13 +1,12 @@
 """Which rule refuses a message that breaks several, at each edge; and what the lines, the pallets and the rows of a file are after messages
-that break none. Scripts for the program `trial_script`, over lists, over SQL in memory and over a file.
+that break none. Scripts for the program `trial_script`, over lists and over SQL in memory, and for `edihub`, over a file.
 
 Each refusal is also one of the branches in which a false 'out of memory' would meet the contracts."""
 from dataclasses import replace
 
 from tests.cases.limits import LAST, last_mail
-from tests.harness.case import Case
 from tests.harness.database_files import ITEM as OF_ITEM
-from tests.harness.database_files import NAME, NUMBER, ROWS, SUPPLIER, TABLES, WORDS, file_of, has_rows, is_still, is_whole
+from tests.harness.database_files import NAME, NUMBER, ROWS, SUPPLIER, TABLES, file_of, has_rows, is_still, is_whole
 from tests.harness.doors import mail_text
 from tests.harness.hub_scripts import Play, article, interchange, line_status, message
 from tests.harness.random_inputs import ITEM, SECOND_ITEM, sscc
@@ -477,7 +476,7 @@ def unusable():
         plays.append(("a cancellation", Play().ask(RETAILER, "cancel", "stopped", "stopped\n", f"{ALPHA}\nC1\n128576\n1\n1\n")))
         for name, play in plays:
             named = f"48 ordered, of which {'+'.join(map(str, quantities))} are open, refused and cancelled: {name}"
-            yield Case(named, WORDS, play.script, play.printed, files={NAME: data}, after=is_still(data))
+            yield named, play, {NAME: data}, is_still(data)
 
 
 BEGUN = [(SUPPLIER, NUMBER, 1, OF_ITEM, 48, 30, 4, 2, ord("W"))]
@@ -499,7 +498,10 @@ PLAYS = [
 ]
 ORDER = [play.case(name) for name, play, _ in PLAYS]
 ORDER += [replace(it, name=f"{it.name}, over SQL", words=["sql"]) for it in ORDER]
-ORDER += [replace(play.case(f"{name}, over a file"), words=WORDS, after=has_rows(left)) for name, play, left in PLAYS]
-ORDER += [Case(name, WORDS, play.script, play.printed, files=files, after=is_whole) for name, play, files in BY_FILES]
-ORDER += unusable()
-ORDER.append(replace(most_kept().case("orders of 400,000 lines in one upload, and of one more, over a file"), words=WORDS, large=True))
+# what is played on a file: its first content, and what is wrong with it then
+ON_FILES = [
+    *((name, play, {}, has_rows(left)) for name, play, left in PLAYS),
+    *((name, play, files, is_whole) for name, play, files in BY_FILES),
+    *unusable(),
+    ("orders of 400,000 lines in one upload, and of one more", most_kept(), {}, is_whole),
+]

@@ -8,7 +8,6 @@ from tests.harness.hub_scripts import DESPATCH, FIRST_MAIL, KEYS, PALLET, RESPON
 from tests.harness.register_texts import ALPHA, BETA, HUB, RETAILER
 
 NAME = "hub.db"
-WORDS = ["file", NAME]
 
 # The tables of schema 1, which knew no register.
 OLD_TABLES = """

@@ -1,21 +1,24 @@
 """Orders that are kept from one message of an upload to the next: what a supplier sends together in one upload, and what it sends alone
 under the same references, each message in an upload of its own, comes to the same replies, lines and pallets. Scripts drawn by chance,
-the same each time, in which messages touch the same orders again and again, over lists, over SQL in memory and over a file; none stops."""
+the same each time, in which messages touch the same orders again and again, over lists, over SQL in memory and, some of them, by
+`edihub` on a file; none stops."""
 import os
 import random
 import re
 import subprocess
-import tempfile
 from collections import Counter
 from concurrent.futures import ThreadPoolExecutor
 
 from tests.harness.case import SECONDS
-from tests.harness.database_files import WORDS, is_whole
+from tests.harness.database_files import is_whole
 from tests.harness.hub_scripts import Play, interchange, message, parties
+from tests.harness.played_scripts import over_lists, wrong
 from tests.harness.random_inputs import ITEM, SECOND_ITEM, sscc
 from tests.harness.register_texts import ALPHA, BETA, RETAILER
 
 RUNS, UPLOADS = 120, 4
+# how many of the runs are played on a file too
+ON_FILES = 30
 # orders that the supplier has, one that only another has, and one that nobody has
 ORDERS, OTHERS, NOBODYS = ("A", "B", "C"), "D", "E"
 NAMED = (*ORDERS * 4, OTHERS, NOBODYS)
@@ -90,31 +93,30 @@ def scripts_of(seed):
 
 
 def played(program, script, words):
-    """What a script prints, and what is wrong with the file that it leaves."""
-    with tempfile.TemporaryDirectory() as folder:
-        ran = subprocess.run([program, *words], input=script, capture_output=True, cwd=folder, timeout=SECONDS)
-        wrong = ran.returncode or (words == WORDS and is_whole(folder)) or (b"stopped" in ran.stdout and "stopped")
-        return [it for it in ran.stdout.splitlines() if not PASSED_OVER.match(it)], TOLD.findall(ran.stdout), wrong
+    """What a script prints, and what is wrong with that."""
+    ran = subprocess.run([program, *words], input=script, capture_output=True, timeout=SECONDS)
+    fault = ran.returncode or (b"stopped" in ran.stdout and "stopped")
+    return [it for it in ran.stdout.splitlines() if not PASSED_OVER.match(it)], TOLD.findall(ran.stdout), fault
 
 
 def differences(program, seed):
     """Where a run differs, if anywhere, and what its messages are told."""
     together, apart = scripts_of(seed)
-    lines, told, wrong = played(program, apart, [])
-    for words in ([], ["sql"], WORDS):
-        others, _, also_wrong = played(program, together, words)
-        if wrong or also_wrong or others != lines:
+    lines, told, fault = played(program, apart, [])
+    for words in ([], ["sql"]):
+        others, _, other_fault = played(program, together, words)
+        if fault or other_fault or others != lines:
             at = next((pair for pair in zip(lines, others) if pair[0] != pair[1]), (len(lines), len(others)))
-            return f"run {seed}, {words}: {wrong or also_wrong or at}", told
+            return f"run {seed}, {words}: {fault or other_fault or at}", told
     return None, told
 
 
 def compared(program):
     with ThreadPoolExecutor(len(os.sched_getaffinity(0))) as pool:
         found = list(pool.map(lambda seed: differences(program, seed), range(RUNS)))
-    wrong = next((why for why, _ in found if why), None)
-    if wrong:
-        return wrong
+    different = next((why for why, _ in found if why), None)
+    if different:
+        return different
     told = Counter(it for _, all_told in found for it in all_told)
     accepted = {kind: told[kind, b"accepted"] for kind in (b"ORDRSP", b"DESADV")}
     print(
@@ -133,3 +135,19 @@ def kept_orders(program):
         return compared(program)
     except (OSError, subprocess.SubprocessError) as why:
         return f"not tried: {why}"
+
+
+def kept_on_files(program, scripts):
+    """Where the program `edihub` on a file does not answer messages together as the program `scripts` over lists, if anywhere."""
+
+    def tried(seed):
+        together, _ = scripts_of(seed)
+        return wrong(program, together, over_lists(scripts, together), after=is_whole)
+
+    try:
+        with ThreadPoolExecutor(len(os.sched_getaffinity(0))) as pool:
+            found = [(seed, why) for seed, why in enumerate(pool.map(tried, range(ON_FILES))) if why]
+    except (OSError, subprocess.SubprocessError) as why:
+        return f"not tried: {why}"
+    print(f"{ON_FILES} runs of messages together on files")
+    return f"{len(found)} runs, first run {found[0]}" if found else None

@@ -1,21 +1,23 @@
-"""Made runs: some hundred scripts of inputs drawn by chance, the same each time, played over lists, over SQL in memory and over a
-file. The three answer alike, and none stops or says that memory gave out."""
+"""Made runs: some hundred scripts of inputs drawn by chance, the same each time, played over lists and over SQL in memory, and some of
+them by `edihub` on a file. All answer alike, and none stops or says that memory gave out."""
 import os
 import random
 import re
 import subprocess
-import tempfile
 from collections import Counter
 from concurrent.futures import ThreadPoolExecutor
 
 from tests.harness.case import SECONDS
-from tests.harness.database_files import WORDS, is_whole
+from tests.harness.database_files import is_whole
 from tests.harness.hub_scripts import Play
+from tests.harness.played_scripts import over_lists, wrong
 from tests.harness.random_inputs import KEYS_OF_ALL, NUMBERS, PREFIXES, SUPPLIERS, upload_of
 from tests.harness.register_texts import BETA, DELTA, GAMMA, RETAILER
 
 # inputs of all kinds, and then receipts, which come when there is something to be received
 RUNS, INPUTS, RECEIPTS = 300, 30, 10
+# how many of the runs are played on a file too
+ON_FILES = 60
 # what says that memory gave out or that the store failed
 STOPPED = re.compile(rb"^(stopped|memory|store )", re.MULTILINE)
 
@@ -57,30 +59,25 @@ def script_of(seed):
 
 
 def answers(program, seed):
-    """What the three answer."""
-    script = script_of(seed)
-    with tempfile.TemporaryDirectory() as folder:
-        found = [
-            subprocess.run([program, *words], input=script, capture_output=True, cwd=folder, timeout=SECONDS)
-            for words in ([], ["sql"], WORDS)
-        ]
-        return found, is_whole(folder)
+    """What the two answer."""
+    return [subprocess.run([program, *words], input=script_of(seed), capture_output=True, timeout=SECONDS) for words in ([], ["sql"])]
 
 
 def compared(program):
     with ThreadPoolExecutor(len(os.sched_getaffinity(0))) as pool:
         found = list(pool.map(lambda seed: answers(program, seed), range(RUNS)))
     told, alone, corrected = Counter(), Counter(), 0
-    for seed, (three, unsound) in enumerate(found):
-        if any(it.returncode or it.stdout != three[0].stdout for it in three) or unsound:
-            return f"run {seed}: {unsound or [it.stdout[:200] for it in three]}"
-        if STOPPED.search(three[0].stdout + three[0].stderr):
-            return f"run {seed} stops with ample memory: {STOPPED.search(three[0].stdout + three[0].stderr)!r}"
-        told.update(re.findall(rb"^\d \w+ (accepted|refused \w+|repeated)$", three[0].stdout, re.MULTILINE))
-        alone.update(re.findall(rb"^(accepted|refused B\w+|repeated)$", three[0].stdout, re.MULTILINE))
-        corrected += re.search(rb"^P \d{18} \d{14} C ", three[0].stdout, re.MULTILINE) is not None
+    for seed, both in enumerate(found):
+        printed = both[0].stdout
+        if any(it.returncode or it.stdout != printed for it in both):
+            return f"run {seed}: {[it.stdout[:200] for it in both]}"
+        if STOPPED.search(printed + both[0].stderr):
+            return f"run {seed} stops with ample memory: {STOPPED.search(printed + both[0].stderr)!r}"
+        told.update(re.findall(rb"^\d \w+ (accepted|refused \w+|repeated)$", printed, re.MULTILINE))
+        alone.update(re.findall(rb"^(accepted|refused B\w+|repeated)$", printed, re.MULTILINE))
+        corrected += re.search(rb"^P \d{18} \d{14} C ", printed, re.MULTILINE) is not None
     print(
-        f"{RUNS} made runs alike over lists, SQL and files: "
+        f"{RUNS} made runs alike over lists and SQL: "
         + ", ".join(f"{count} {word.decode()}" for word, count in told.most_common())
         + f"; {corrected} of them show a pallet that was counted again"
     )
@@ -99,3 +96,19 @@ def made_runs(program):
         return compared(program)
     except (OSError, subprocess.SubprocessError) as why:
         return f"not tried: {why}"
+
+
+def runs_on_files(program, scripts):
+    """Where the program `edihub` on a file does not answer as the program `scripts` over lists, if anywhere."""
+
+    def tried(seed):
+        script = script_of(seed)
+        return wrong(program, script, over_lists(scripts, script), after=is_whole)
+
+    try:
+        with ThreadPoolExecutor(len(os.sched_getaffinity(0))) as pool:
+            found = [(seed, why) for seed, why in enumerate(pool.map(tried, range(ON_FILES))) if why]
+    except (OSError, subprocess.SubprocessError) as why:
+        return f"not tried: {why}"
+    print(f"{ON_FILES} made runs on files")
+    return f"{len(found)} runs, first run {found[0]}" if found else None

@@ -2,7 +2,6 @@
 use crate::fault::ScriptFault;
 use edi_base::{Sink, WriteFault, write_bytes};
 use hub_core::{Outcome, Reply};
-use hub_sql::FoundFault;
 use hub_store::StoreFault;
 use std::alloc::{AllocError, Global};
 
@@ -17,14 +16,13 @@ fn word_of(outcome: Outcome) -> &'static str {
     }
 }
 
-// Returns the word that is printed for a fault of opening.
-fn word_of_fault(fault: FoundFault) -> &'static str {
+// Returns the word that is printed for a fault of the store.
+fn word_of_fault(fault: StoreFault) -> &'static str {
     match fault {
-        FoundFault::Rows => "rows",
-        FoundFault::Store(StoreFault::Memory) => "memory",
-        FoundFault::Store(StoreFault::Disk) => "disk",
-        FoundFault::Store(StoreFault::Unclean) => "unclean",
-        FoundFault::Store(StoreFault::Version) => "version",
+        StoreFault::Memory => "memory",
+        StoreFault::Disk => "disk",
+        StoreFault::Unclean => "unclean",
+        StoreFault::Version => "version",
     }
 }
 
@@ -41,10 +39,10 @@ fn write_both<W: Sink>(line: &[u8], bytes: &[u8], out: &mut W) -> Result<(), Wri
     write_bytes(bytes, out)
 }
 
-/// Prints that the store could not be opened, and why.
+/// Prints that the store cannot be used, and why.
 pub fn write_fault<W: Sink>(
     alloc: Global,
-    fault: FoundFault,
+    fault: StoreFault,
     out: &mut W,
 ) -> Result<(), ScriptFault> {
     let word = word_of_fault(fault);

@@ -1,0 +1,147 @@
+"""Plays a script of `trial_script` on the built `edihub`, whose hub is in a file: requests over HTTP; joins, and uploads that are longer
+than HTTP takes, by commands, between which the program is begun anew."""
+import os
+import re
+import subprocess
+import tempfile
+
+from tests.harness.case import SECONDS
+from tests.harness.database_files import NAME
+from tests.harness.hub_steps import found, over
+from tests.harness.servers import Server
+
+# the words of a script for the statuses of HTTP
+OUTCOMES = {200: "done", 400: "bad", 403: "denied", 404: "unknown", 503: "stopped"}
+# the method and the path of each request, after its caller's, by the word of its line
+REQUESTS = {
+    "upload": "POST interchanges",
+    "cancel": "POST cancellations",
+    "after": "GET mail/after/{}",
+    "item": "GET mail/item/{}",
+    "taken": "POST mail/item/{}/taken",
+    "status": "GET status",
+    "status-of": "GET status/{}",
+}
+# the words that change no reply: what a file holds is there when it is opened again, a run is its requests, and look-ups are not counted
+PASSED_OVER = ("mend", "run", "end", "counts")
+# the longest body that HTTP takes, in bytes
+LONGEST = 1 << 20
+
+
+def is_played(script):
+    """Whether a script has one hub, whose store does not fail, and only lines that are played on a file."""
+    lines = [words for words, _ in lines_of(script)]
+    known = {"hub", "as", "join", *REQUESTS, *PASSED_OVER}
+    return [len(words) for words in lines if words[0] == "hub"] == [2] and all(words[0] in known for words in lines)
+
+
+def lines_of(script):
+    """The words of each line, and the bytes behind it, if it names their number."""
+    while script:
+        line, _, script = script.partition(b"\n")
+        words, payload = line.decode("latin-1").split(" "), None
+        if words[0] in ("hub", "upload", "cancel"):
+            count = int(words[1])
+            payload, script = script[:count], script[count + 1 :]
+        yield words, payload
+
+
+def replies_of(printed):
+    """The replies that a script prints, each with its outcome and its body."""
+    replies = []
+    while printed:
+        line, _, printed = printed.partition(b"\n")
+        if line.startswith(b"look-ups "):
+            continue
+        outcome, length = re.fullmatch(r"(\w+)(?: refused)? (\d+)", line.decode()).groups()
+        replies.append((outcome, printed[: int(length)]))
+        printed = printed[int(length) :]
+    return replies
+
+
+class Player:
+    """A hub in a folder, its caller and the moment, the requests that are not made yet, and the replies so far."""
+
+    def __init__(self, program, folder):
+        self.program, self.folder = program, folder
+        self.moment, self.caller, self.key = None, None, None
+        self.waiting, self.replies = [], []
+
+    def play(self, script):
+        """Plays a script, and returns the replies."""
+        for words, payload in lines_of(script):
+            self.obey(words, payload)
+        self.ask()
+        return self.replies
+
+    def obey(self, words, payload):
+        word = words[0]
+        if word == "hub":
+            self.ask()
+            if not os.path.exists(os.path.join(self.folder, NAME)):
+                found(self.program, self.folder, payload.decode())
+        elif word == "as":
+            if words[1] != self.moment:
+                self.ask()
+            _, self.moment, self.caller, self.key = words
+        elif word == "join":
+            self.command("join", "--supplier", words[1], "--supplier-key", words[2], "--prefixes", words[3])
+        elif word == "upload" and len(payload) > LONGEST:
+            self.imported(payload)
+        elif word in REQUESTS:
+            method, path = REQUESTS[word].format(*words[1:2]).split(" ")
+            head = f"{method} /p/{self.caller}/{path} HTTP/1.1\r\nX-Hub-Key: {self.key}\r\nContent-Length: {len(payload or b'')}\r\n\r\n"
+            self.waiting.append(head.encode("latin-1") + (payload or b""))
+        elif word not in PASSED_OVER:
+            raise OSError(f"{word} is not played on a file")
+
+    def ask(self):
+        """Makes the requests that wait."""
+        if self.waiting:
+            server = Server(self.program, len(self.waiting), self.moment, folder=self.folder)
+            for request in self.waiting:
+                head, _, body = server.ask(request).partition(b"\r\n\r\n")
+                self.replies.append((OUTCOMES[int(head.split()[1])], body))
+            _, _, error = server.end()
+            if error:
+                raise OSError(f"serve: {error!r:.200}")
+        self.waiting = []
+
+    def command(self, *words):
+        """Gives a command, whose reply is what it prints."""
+        self.ask()
+        asked = over(words[0], self.caller, *words[1:], key=self.key, moment=self.moment)
+        ran = subprocess.run([self.program, *asked], cwd=self.folder, capture_output=True, timeout=SECONDS)
+        if ran.stderr:
+            raise OSError(f"{words[0]}: {ran.stderr!r:.200}")
+        word = ran.stdout.split(b"\n")[-2].decode()
+        self.replies.append((word if word in OUTCOMES.values() else "done", ran.stdout))
+
+    def imported(self, text):
+        """Uploads a text as the one file of a folder."""
+        with tempfile.TemporaryDirectory(dir=self.folder) as inbox:
+            with open(os.path.join(inbox, "one.edi"), "wb") as file:
+                file.write(text)
+            self.command("import", "--folder", inbox)
+        outcome, printed = self.replies[-1]
+        reply = printed.partition(b"\n")[2]
+        self.replies[-1] = ("bad" if reply.startswith(b"refused ") else outcome, reply)
+
+
+def over_lists(scripts, script):
+    """What the program `trial_script` prints of a script, over lists."""
+    return subprocess.run([scripts], input=script, capture_output=True, timeout=SECONDS, check=True).stdout
+
+
+def wrong(program, script, printed, files=(), after=None):
+    """What is wrong where the program plays a script on a hub in a file, or begins with these files; `after` looks at the folder then."""
+    with tempfile.TemporaryDirectory() as folder:
+        for name, data in dict(files).items():
+            with open(os.path.join(folder, name), "wb") as file:
+                file.write(data)
+        told, wanted = Player(program, folder).play(script), replies_of(printed)
+        pairs = zip(told, wanted)
+        other = next((f"reply {at}: {one!r:.300}, not {two!r:.300}" for at, (one, two) in enumerate(pairs, 1) if one != two), None)
+        if not other and len(told) != len(wanted):
+            other = f"{len(told)} replies, not {len(wanted)}"
+        return other or (after(folder) if after else None)
