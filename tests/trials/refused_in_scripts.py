@@ -21,7 +21,7 @@ from tests.harness.shims import REFUSE, built
 # the forms of a stop in which nothing was done: the word, and where there is no memory even for it, nothing
 STOPPED = {b"stopped 8\nstopped\n", b"stopped 0\n"}
 # how many allocations there are at least, and how many of them are the script's own at most
-FEWEST, MOST_OF_SCRIPT = 1000, 400
+FEWEST, MOST_OF_SCRIPT = 1000, 200
 
 
 @dataclass
