@@ -110,7 +110,7 @@ test:
 wrong:
 	python3 -m tests.wrong $(CRATE)
 
-# Checks that the trial of stopped commands finds a commit in two transactions, which the contracts refuse: some minutes.
+# Checks that the trial of a machine that stops finds a commit in two transactions, which the contracts refuse: some minutes.
 split-commit:
 	python3 -m tests.split_commit
 

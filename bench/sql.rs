@@ -1,5 +1,5 @@
 //! The yardstick of the store of SQL: orders and despatch advices over the system's SQLite, as a plain Rust program with
-//! its statements prepared once. It plays the scripts of sql.py as `trial_script` does, over a file: it reads and checks the messages,
+//! its statements prepared once. It plays the scripts of sql.py over a file: it reads and checks the messages,
 //! keeps the same rows in the same tables, commits each message alone, and writes the same replies. The log is SQLite's
 //! own (WAL), and each commit is synced (synchronous FULL). What is refused ends it, as none of these loads has it.
 #[allow(dead_code)]

@@ -28,7 +28,7 @@ from tests.harness.prover_environment import prover_environment
 from tests.harness.tree import ROOT
 from tests.trials import changed_keys, connections, disturbed_commands, documents, failing_openings, files_brought_over, folder_feeding
 from tests.trials import heads, journal, kept_orders, lines_of_status_3, random_runs, refused_in_scripts, scripts_on_files
-from tests.trials import served_limits, serving, stopped_commands, units, verified_files
+from tests.trials import served_limits, serving, stopped_commands, stopped_machine, units, verified_files
 
 
 def built(crate):
@@ -76,6 +76,8 @@ TRIALS = [
     ),
     (built("trial_script"), "made runs", random_runs.made_runs),
     (built("trial_script"), "messages together and alone", kept_orders.kept_orders),
+    (built("trial_script"), "a machine that stops", stopped_machine.machine),
+    (built("trial_script"), "a machine that stops while a file of schema 1 is brought over", stopped_machine.migrations),
     (built("edihub"), "made runs on files", lambda program: random_runs.runs_on_files(program, built("trial_script"))),
     (built("edihub"), "messages together on files", lambda program: kept_orders.kept_on_files(program, built("trial_script"))),
     (built("trial_script"), "allocations refused in turn", refused_in_scripts.refusals),

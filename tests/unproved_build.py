@@ -32,14 +32,9 @@ class Build:
     words: list
     script: object = bytes
     data: list = field(default_factory=list)
-    # the tree with its crate
-    root: str = ROOT
-
-    def folder(self):
-        return os.path.join(self.root, "crates", self.crate)
 
     def program(self):
-        return os.path.join(self.folder(), "out", "try", self.crate)
+        return os.path.join(ROOT, "crates", self.crate, "out", "try", self.crate)
 
 
 # a hub that is served, and a script that asks for one list again and again
@@ -86,7 +81,8 @@ def make(build):
         script.write(build.script())
         script.seek(0)
         command = ["rt", "try", *build.data, "--", *build.words]
-        child = subprocess.Popen(command, cwd=build.folder(), env={**os.environ, "TMPDIR": folder}, stdin=script, stdout=log, stderr=log)
+        where, variables = os.path.join(ROOT, "crates", build.crate), {**os.environ, "TMPDIR": folder}
+        child = subprocess.Popen(command, cwd=where, env=variables, stdin=script, stdout=log, stderr=log)
         while child.poll() is None:
             if is_copied(build, folder):
                 child.terminate()

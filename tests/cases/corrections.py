@@ -1,5 +1,5 @@
-"""Receiving advices that take the place of those before (BGM 1225 5): scripts for the program `trial_script`, over lists over SQL in memory
-and over a file, what it prints, and which rows the file then has."""
+"""Receiving advices that take the place of those before (BGM 1225 5): scripts for the program `trial_script`, over lists and over SQL in
+memory, and for `edihub`, over a file, what is printed, and which rows the file then has."""
 from dataclasses import replace
 
 from tests.harness.database_files import has_rows

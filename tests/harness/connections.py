@@ -23,7 +23,7 @@ def in_order(manner):
 
 @dataclass
 class Connection:
-    """The bytes of a client, the manner in which they are read and answered, what is sent, and the status, or the word for why it failed."""
+    """The bytes of a client, the manner in which they are read and answered, what is sent, and the status or why it failed."""
 
     request: bytes
     manner: str
@@ -66,9 +66,10 @@ class Wire:
             return f"the program: {found!r:.400}, not {wanted!r:.400}"
         with open(journal, encoding="ascii") as file:
             lines = file.read().splitlines()
-        of_faults = [(number, it.ending) for number, it in enumerate(self.connections) if isinstance(it.ending, str)]
-        other = [lines[number] for number, why in of_faults if why not in lines[number].split()]
-        return f"the journal: {other[:3]}" if other or len(lines) != len(self.connections) else None
+        if len(lines) != len(self.connections):
+            return f"the journal has {len(lines)} lines"
+        other = [line for line, it in zip(lines, self.connections) if isinstance(it.ending, str) and it.ending not in line.split()]
+        return f"the journal: {other[:3]}" if other else None
 
 
 def asked(server, connection, manner):

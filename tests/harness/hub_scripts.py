@@ -15,6 +15,10 @@ def bytes_of(text):
     return text if isinstance(text, bytes) else text.encode("latin-1")
 
 
+# the words with which `trial_script` keeps a hub in a file and its log, in memory, neither of which stops
+IN_FILES = ["stop-log", str(1 << 40)]
+
+
 class Play:
     """A script, and what it prints."""
 

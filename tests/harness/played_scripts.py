@@ -8,10 +8,12 @@ import tempfile
 from tests.harness.case import SECONDS
 from tests.harness.database_files import NAME
 from tests.harness.hub_steps import found, over
-from tests.harness.servers import Server
+from tests.harness.servers import Server, exit_of, lines_of
 
 # the words of a script for the statuses of HTTP
 OUTCOMES = {200: "done", 400: "bad", 403: "denied", 404: "unknown", 503: "stopped"}
+# the exit status of a command by the last line that it prints, where that is one of these
+STATUSES = {"denied": 1, "unknown": 1, "stopped": 3}
 # the method and the path of each request, after its caller's, by the word of its line
 REQUESTS = {
     "upload": "POST interchanges",
@@ -30,12 +32,12 @@ LONGEST = 1 << 20
 
 def is_played(script):
     """Whether a script has one hub, whose store does not fail, and only lines that are played on a file."""
-    lines = [words for words, _ in lines_of(script)]
+    lines = [words for words, _ in script_lines(script)]
     known = {"hub", "as", "join", *REQUESTS, *PASSED_OVER}
     return [len(words) for words in lines if words[0] == "hub"] == [2] and all(words[0] in known for words in lines)
 
 
-def lines_of(script):
+def script_lines(script):
     """The words of each line, and the bytes behind it, if it names their number."""
     while script:
         line, _, script = script.partition(b"\n")
@@ -53,9 +55,12 @@ def replies_of(printed):
         line, _, printed = printed.partition(b"\n")
         if line.startswith(b"look-ups "):
             continue
-        outcome, length = re.fullmatch(r"(\w+)(?: refused)? (\d+)", line.decode()).groups()
-        replies.append((outcome, printed[: int(length)]))
-        printed = printed[int(length) :]
+        reply = re.fullmatch(r"(\w+)(?: refused)? (\d+)", line.decode("latin-1"))
+        if not reply:
+            raise OSError(f"no reply: {line!r:.200}")
+        outcome, length = reply[1], int(reply[2])
+        replies.append((outcome, printed[:length]))
+        printed = printed[length:]
     return replies
 
 
@@ -69,7 +74,7 @@ class Player:
 
     def play(self, script):
         """Plays a script, and returns the replies."""
-        for words, payload in lines_of(script):
+        for words, payload in script_lines(script):
             self.obey(words, payload)
         self.ask()
         return self.replies
@@ -97,25 +102,35 @@ class Player:
 
     def ask(self):
         """Makes the requests that wait."""
-        if self.waiting:
-            server = Server(self.program, len(self.waiting), self.moment, folder=self.folder)
-            for request in self.waiting:
-                head, _, body = server.ask(request).partition(b"\r\n\r\n")
-                self.replies.append((OUTCOMES[int(head.split()[1])], body))
-            _, _, error = server.end()
-            if error:
-                raise OSError(f"serve: {error!r:.200}")
-        self.waiting = []
+        waiting, self.waiting = self.waiting, []
+        if not waiting:
+            return
+        server, statuses = Server(self.program, len(waiting), self.moment, folder=self.folder), []
+        try:
+            for request in waiting:
+                answer = server.ask(request)
+                found = re.match(rb"HTTP/1\.1 (\d+) .*?\r\n\r\n", answer, re.DOTALL)
+                if not found:
+                    raise OSError(f"no answer: {answer!r:.200}")
+                statuses.append(int(found[1]))
+                self.replies.append((OUTCOMES.get(statuses[-1], str(statuses[-1])), answer[found.end() :]))
+            ended, wanted = server.end(), (exit_of(statuses), lines_of(server.port, statuses), b"")
+            if ended != wanted:
+                raise OSError(f"serve: {ended!r:.300}, not {wanted!r:.300}")
+        finally:
+            server.child.kill()
+            server.child.communicate()
 
     def command(self, *words):
         """Gives a command, whose reply is what it prints."""
         self.ask()
         asked = over(words[0], self.caller, *words[1:], key=self.key, moment=self.moment)
         ran = subprocess.run([self.program, *asked], cwd=self.folder, capture_output=True, timeout=SECONDS)
-        if ran.stderr:
-            raise OSError(f"{words[0]}: {ran.stderr!r:.200}")
-        word = ran.stdout.split(b"\n")[-2].decode()
-        self.replies.append((word if word in OUTCOMES.values() else "done", ran.stdout))
+        word = (ran.stdout.splitlines() or [b""])[-1].decode("latin-1")
+        status = STATUSES.get(word, 1 if b"refused " in ran.stdout else 0)
+        if (ran.returncode, ran.stderr) != (status, b""):
+            raise OSError(f"{words[0]}: {ran.returncode}, {ran.stdout!r:.200}, {ran.stderr!r:.200}")
+        self.replies.append((word if word in STATUSES else "done", ran.stdout))
 
     def imported(self, text):
         """Uploads a text as the one file of a folder."""

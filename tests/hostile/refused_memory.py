@@ -17,7 +17,7 @@ from tests.harness.http_texts import response
 from tests.harness.hub_scripts import FIRST_MAIL, MOMENT, line_status
 from tests.harness.hub_steps import init, over, told
 from tests.harness.register_texts import ALPHA, BETA, RETAILER
-from tests.harness.servers import all_of, free_port, get, listed, post, send, upload
+from tests.harness.servers import all_of, exit_of, free_port, get, listed, post, send, upload
 from tests.harness.shims import REFUSE, built
 from tests.hostile.shared import FOUNDED, KNOWN, folder_with_file, folder_with_hub, folder_without_hub, in_words, on_all_processors, put
 from tests.hostile.shared import rows_of, run
@@ -162,23 +162,23 @@ def opening(program, shim, base):
     return shim.counted()
 
 
-def served_once(program, folder, request, variables):
-    """What comes of `serve` for one connection: its status, lines and standard error, and what the client was sent. It is started again if
-    another program took the port first."""
+def served_twice(program, folder, request, variables):
+    """What comes of `serve` for two connections that ask the same: its status, lines and standard error, and what each client was sent. It
+    is started again if another program took the port first."""
     how = {"stdout": subprocess.PIPE, "stderr": subprocess.PIPE, "env": {**os.environ, **variables}}
     for _ in range(3):
-        port = free_port()
-        words = ["serve", "--db", NAME, "--port", str(port), "--count", "1", "--moment", MOMENT]
-        child, found = subprocess.Popen([program, *words], cwd=folder, **how), b""
+        port, found = free_port(), []
+        words = ["serve", "--db", NAME, "--port", str(port), "--count", "2", "--moment", MOMENT]
+        child = subprocess.Popen([program, *words], cwd=folder, **how)
         first = child.stdout.readline()
-        if first:
+        for _ in range(2 if first else 0):
             with socket.create_connection(("127.0.0.1", port), 60) as one:
                 send(one, request, ends=True)
-                found = all_of(one)
+                found.append(all_of(one))
         printed, error = child.communicate(timeout=60)
         if error != b"listen\n":
             break
-    return child.returncode, (first + printed).replace(str(port).encode(), b"PORT"), error, found
+    return (child.returncode, (first + printed).replace(str(port).encode(), b"PORT"), error), found
 
 
 @dataclass
@@ -192,20 +192,30 @@ class Served:
     again: str
     stops: tuple
 
-    def ended(self, body):
-        return (0 if self.status == 200 else 1, LINES % self.status, b"", response(self.status, body))
+    def ended(self, *statuses):
+        """How `serve` ends that answers with these statuses."""
+        lines = "".join(f"connection {number} {status}\n" for number, status in enumerate(statuses, 1))
+        return exit_of(statuses), f"listening PORT\n{lines}".encode(), b""
 
-    def kinds(self):
-        """What came of it, by how `serve` ended."""
-        stops = [(3, LINES % 503, b"", response(503, text)) for text in self.stops]
-        faults = {(*fault, b""): kind for fault, kind in FAULTS.items()}
-        return {self.ended(self.body): "as ever", **dict.fromkeys(stops, "503"), **faults}
+    def kind(self, ended, found):
+        """What came of it: both connections are answered as ever, or one of them is stopped and the other does it; or the file could not be
+        opened. `None` if that is wrong."""
+        whole, again = (response(self.status, it) for it in (self.body, self.again))
+        stops = [response(503, it) for it in self.stops]
+        if (ended, found) == (self.ended(self.status, self.status), [whole, again]):
+            return "as ever"
+        if ended == self.ended(503, self.status) and found[0] in stops and found[1] == whole:
+            return "503, then done"
+        if ended == self.ended(self.status, 503) and found[0] == whole and found[1] in stops:
+            return "done, then 503"
+        return FAULTS.get(ended) if not found else None
 
 
-LINES = b"listening PORT\nconnection 1 %d\n"
 UPLOADED = "interchange 1001 messages 1"
 # a body of `stopped`, or none where there is no memory even for it
 STOPS = ("", "stopped\n")
+# of a request that takes memory, how many stops there are at least
+FEWEST_STOPS = 10
 
 
 def uploading():
@@ -215,13 +225,14 @@ def uploading():
 
 def of_uploaded():
     """What is asked once the order is there. The last three are refused, which takes no memory."""
-    lines = line_status("128576", "W", 48, 48, 0, 0, 0)
+    lines = told(line_status("128576", "W", 48, 48, 0, 0, 0), "end")
     cancel = post(RETAILER, "cancellations", f"{ALPHA}\nC5\n128576\n1\n7\n", 200, "accepted\n")
     for name, request, status, body in (
         get(ALPHA, "mail/item/1", 200, FIRST_MAIL),
         get(ALPHA, "mail/after/0", 200, listed((1, "ORDERS", "128576"))),
         post(ALPHA, "mail/item/1/taken", "", 200, "taken\n"),
-        get(RETAILER, f"status/{ALPHA}", 200, told(lines, "end")),
+        get(ALPHA, "status", 200, lines),
+        get(RETAILER, f"status/{ALPHA}", 200, lines),
     ):
         yield Served(name, request, status, body, body, STOPS)
     yield Served(*cancel, "repeated\n", STOPS)
@@ -234,37 +245,43 @@ def of_uploaded():
 
 
 def serving_refused(program, top):
-    """Refuses each allocation of `serve` in turn, for one connection of each request."""
+    """Refuses each allocation of `serve` in turn, for two connections that make the same request."""
     shim, base = Shim(top), folder_with_hub(program, top)
     why = request_refused(program, shim, uploading(), base)
     if not why:
-        served_once(program, base, uploading().request, {})
+        served_twice(program, base, uploading().request, {})
         why = next(filter(None, (request_refused(program, shim, it, base) for it in of_uploaded())), None)
     return why
 
 
 def request_refused(program, shim, served, base):
-    """Refuses each allocation in turn of a connection over a copy of the folder `base`, and asks again."""
+    """Refuses each allocation in turn of two connections over a copy of the folder `base`. If the file could not be opened, asks again."""
     end = shutil.copytree(base, f"{base}end")
-    whole, again, kinds = served.ended(served.body), served.ended(served.again), served.kinds()
-    if served_once(program, end, served.request, shim.counting()) != whole:
+    if served.kind(*served_twice(program, end, served.request, shim.counting())) != "as ever":
         return f"{served.name}, with ample memory"
     wanted, allocations = rows_of(end), shim.counted()
     shutil.rmtree(end)
 
     def tried(number):
         folder = shutil.copytree(base, f"{base}{number}")
-        found = served_once(program, folder, served.request, shim.refusing(number))
-        kind = kinds.get(found)
+        ended, found = served_twice(program, folder, served.request, shim.refusing(number))
+        kind, refused = served.kind(ended, found), f"{served.name}: allocation {number} refused"
         if not kind:
-            return kind, f"{served.name}: allocation {number} refused: {found!r:.300}"
-        later = served_once(program, folder, served.request, {})
-        if later != again and (found == whole or later != whole) or rows_of(folder) != wanted:
-            return kind, f"{served.name}: allocation {number} refused, {kind}, then: {later!r:.300}"
+            return kind, f"{refused}: {ended!r:.300}, {found!r:.300}"
+        if not found and served.kind(*served_twice(program, folder, served.request, {})) != "as ever":
+            return kind, f"{refused}, {kind}, then not as ever"
+        if rows_of(folder) != wanted:
+            return kind, f"{refused}, {kind}, then other rows"
         shutil.rmtree(folder)
         return kind, None
 
-    return each_told(tried, allocations, f"serve, {served.name}: {allocations} of {allocations} allocations refused in turn")
+    found = on_all_processors(tried, range(1, allocations + 1))
+    wrong, counts = [why for _, why in found if why], Counter(kind for kind, _ in found)
+    if wrong:
+        return f"{len(wrong)} of {allocations} wrong, first {wrong[0]}"
+    print(f"serve, {served.name} twice: {allocations} allocations refused in turn: {in_words(counts)}", flush=True)
+    few = served.stops and counts["503, then done"] + counts["done, then 503"] < FEWEST_STOPS
+    return f"{served.name}: too few stops" if few else None
 
 
 def script_refused(scripts, _):

@@ -1,7 +1,7 @@
 """Orders that are kept from one message of an upload to the next: what a supplier sends together in one upload, and what it sends alone
 under the same references, each message in an upload of its own, comes to the same replies, lines and pallets. Scripts drawn by chance,
-the same each time, in which messages touch the same orders again and again, over lists, over SQL in memory and, some of them, by
-`edihub` on a file; none stops."""
+the same each time, in which messages touch the same orders again and again, over lists, over SQL in memory, over files in memory and,
+some of them, by `edihub` on a file; none stops."""
 import os
 import random
 import re
@@ -11,7 +11,7 @@ from concurrent.futures import ThreadPoolExecutor
 
 from tests.harness.case import SECONDS
 from tests.harness.database_files import is_whole
-from tests.harness.hub_scripts import Play, interchange, message, parties
+from tests.harness.hub_scripts import IN_FILES, Play, interchange, message, parties
 from tests.harness.played_scripts import over_lists, wrong
 from tests.harness.random_inputs import ITEM, SECOND_ITEM, sscc
 from tests.harness.register_texts import ALPHA, BETA, RETAILER
@@ -103,7 +103,7 @@ def differences(program, seed):
     """Where a run differs, if anywhere, and what its messages are told."""
     together, apart = scripts_of(seed)
     lines, told, fault = played(program, apart, [])
-    for words in ([], ["sql"]):
+    for words in ([], ["sql"], IN_FILES):
         others, _, other_fault = played(program, together, words)
         if fault or other_fault or others != lines:
             at = next((pair for pair in zip(lines, others) if pair[0] != pair[1]), (len(lines), len(others)))

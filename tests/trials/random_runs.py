@@ -1,5 +1,5 @@
-"""Made runs: some hundred scripts of inputs drawn by chance, the same each time, played over lists and over SQL in memory, and some of
-them by `edihub` on a file. All answer alike, and none stops or says that memory gave out."""
+"""Made runs: some hundred scripts of inputs drawn by chance, the same each time, played over lists, over SQL in memory and over files in
+memory, and some of them by `edihub` on a file. All answer alike, and none stops or says that memory gave out."""
 import os
 import random
 import re
@@ -9,7 +9,7 @@ from concurrent.futures import ThreadPoolExecutor
 
 from tests.harness.case import SECONDS
 from tests.harness.database_files import is_whole
-from tests.harness.hub_scripts import Play
+from tests.harness.hub_scripts import IN_FILES, Play
 from tests.harness.played_scripts import over_lists, wrong
 from tests.harness.random_inputs import KEYS_OF_ALL, NUMBERS, PREFIXES, SUPPLIERS, upload_of
 from tests.harness.register_texts import BETA, DELTA, GAMMA, RETAILER
@@ -59,25 +59,26 @@ def script_of(seed):
 
 
 def answers(program, seed):
-    """What the two answer."""
-    return [subprocess.run([program, *words], input=script_of(seed), capture_output=True, timeout=SECONDS) for words in ([], ["sql"])]
+    """What the three answer."""
+    script = script_of(seed)
+    return [subprocess.run([program, *it], input=script, capture_output=True, timeout=SECONDS) for it in ([], ["sql"], IN_FILES)]
 
 
 def compared(program):
     with ThreadPoolExecutor(len(os.sched_getaffinity(0))) as pool:
         found = list(pool.map(lambda seed: answers(program, seed), range(RUNS)))
     told, alone, corrected = Counter(), Counter(), 0
-    for seed, both in enumerate(found):
-        printed = both[0].stdout
-        if any(it.returncode or it.stdout != printed for it in both):
-            return f"run {seed}: {[it.stdout[:200] for it in both]}"
-        if STOPPED.search(printed + both[0].stderr):
-            return f"run {seed} stops with ample memory: {STOPPED.search(printed + both[0].stderr)!r}"
+    for seed, three in enumerate(found):
+        printed = three[0].stdout
+        if any(it.returncode or it.stdout != printed for it in three):
+            return f"run {seed}: {[it.stdout[:200] for it in three]}"
+        if STOPPED.search(printed + three[0].stderr):
+            return f"run {seed} stops with ample memory: {STOPPED.search(printed + three[0].stderr)!r}"
         told.update(re.findall(rb"^\d \w+ (accepted|refused \w+|repeated)$", printed, re.MULTILINE))
         alone.update(re.findall(rb"^(accepted|refused B\w+|repeated)$", printed, re.MULTILINE))
         corrected += re.search(rb"^P \d{18} \d{14} C ", printed, re.MULTILINE) is not None
     print(
-        f"{RUNS} made runs alike over lists and SQL: "
+        f"{RUNS} made runs alike over lists, SQL and files: "
         + ", ".join(f"{count} {word.decode()}" for word, count in told.most_common())
         + f"; {corrected} of them show a pallet that was counted again"
     )

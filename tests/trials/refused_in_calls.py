@@ -31,7 +31,7 @@ def outcome(program, name, shim, number):
     ended, printed = ran(program, name, LD_PRELOAD=shim, REFUSE=str(number))
     if (ended, printed) == (WRONG, [name, "wrong"]) and name in OF_THEIR_OWN:
         return "of the test's own"
-    return {PASSES: "as ever", OUT_OF_MEMORY: "out of memory"}.get(ended)
+    return {(PASSES, (name,)): "as ever", (OUT_OF_MEMORY, ()): "out of memory"}.get((ended, tuple(printed)))
 
 
 def refused_in_turn(program, name, shim, count):

@@ -1,5 +1,5 @@
 """The scripts of `trial_script`, played on the built `edihub` with its hub in a file, over HTTP and by commands (played_scripts.py): the
-replies are those that lists and SQL in memory give, and the file then has the rows that it should have."""
+replies are those of the cases over lists and over SQL in memory, and the file then has the rows that it should have."""
 import os
 import subprocess
 from concurrent.futures import ThreadPoolExecutor

@@ -88,8 +88,7 @@ class Stops:
         return done if left == rows[1] else f"{what}: {done} was done, and given again it leaves other rows"
 
 
-def tried(program, top, names=None):
-    """What is wrong where the commands with these names, or all, are stopped, if anything."""
+def tried(program, top):
     stops, before, counts, number = Stops(program, top), os.path.join(top, "hub"), Counter(), 0
     os.mkdir(before)
     found(program, before)
@@ -103,7 +102,7 @@ def tried(program, top, names=None):
             after, of_command, wrong = stops.whole(command, before)
             if wrong:
                 return wrong
-            if command.name in names if names else command.name not in LIKE_OTHERS:
+            if command.name not in LIKE_OTHERS:
                 rows = stops.rows(before), stops.rows(after)
                 turns = [(turn, way) for way in WAYS for turn in range(1, of_command + 1)]
                 outcomes = list(pool.map(lambda turn: stops.stopped(command, before, rows, *turn), turns))
@@ -116,7 +115,7 @@ def tried(program, top, names=None):
         f"{number} changes of the files by commands stopped in turn, each in {len(WAYS)} ways: nothing was done in {counts['nothing']}, all "
         f"in {counts['all']}, and the first of two messages in {counts['a part']}"
     )
-    return None if names or number >= FEWEST and counts["a part"] else f"{number} changes, {counts}: too few"
+    return None if number >= FEWEST and counts["a part"] else f"{number} changes, {counts}: too few"
 
 
 def stops(program):

@@ -78,7 +78,7 @@ impl CallTest {
     }
 }
 
-// Makes a test, and prints its name, behind which stands `wrong` if it does not pass.
+// Makes a test, and prints its name, with `wrong` behind it if a call answers something else.
 fn tell<W: Sink>(alloc: Global, test: CallTest, out: &mut W) -> Result<(), CallFault> {
     let passed = test.passes(alloc);
     if let Err(CallFault::Memory) = passed {
@@ -90,8 +90,8 @@ fn tell<W: Sink>(alloc: Global, test: CallTest, out: &mut W) -> Result<(), CallF
     passed
 }
 
-/// Makes the tests with this name, or all, and prints the name of each on a line of its own. Stops at the first that does
-/// not pass, and prints `wrong` behind its name.
+/// Makes the tests with this name, or all, and prints the name of each that passes on a line of its own. Stops at the
+/// first that does not pass, and prints `wrong` behind its name unless memory ran out.
 ///
 /// # Errors
 ///

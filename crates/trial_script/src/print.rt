@@ -2,6 +2,7 @@
 use crate::fault::ScriptFault;
 use edi_base::{Sink, WriteFault, write_bytes};
 use hub_core::{Outcome, Reply};
+use hub_sql::FoundFault;
 use hub_store::StoreFault;
 use std::alloc::{AllocError, Global};
 
@@ -16,13 +17,14 @@ fn word_of(outcome: Outcome) -> &'static str {
     }
 }
 
-// Returns the word that is printed for a fault of the store.
-fn word_of_fault(fault: StoreFault) -> &'static str {
+// Returns the word that is printed for a fault of opening.
+fn word_of_fault(fault: FoundFault) -> &'static str {
     match fault {
-        StoreFault::Memory => "memory",
-        StoreFault::Disk => "disk",
-        StoreFault::Unclean => "unclean",
-        StoreFault::Version => "version",
+        FoundFault::Rows => "rows",
+        FoundFault::Store(StoreFault::Memory) => "memory",
+        FoundFault::Store(StoreFault::Disk) => "disk",
+        FoundFault::Store(StoreFault::Unclean) => "unclean",
+        FoundFault::Store(StoreFault::Version) => "version",
     }
 }
 
@@ -39,10 +41,10 @@ fn write_both<W: Sink>(line: &[u8], bytes: &[u8], out: &mut W) -> Result<(), Wri
     write_bytes(bytes, out)
 }
 
-/// Prints that the store cannot be used, and why.
+/// Prints that the store could not be opened, and why.
 pub fn write_fault<W: Sink>(
     alloc: Global,
-    fault: StoreFault,
+    fault: FoundFault,
     out: &mut W,
 ) -> Result<(), ScriptFault> {
     let word = word_of_fault(fault);

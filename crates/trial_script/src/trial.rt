@@ -3,7 +3,7 @@ ghost use Rattle.std.specs.Prelude.{◌≡◌};
 
 use crate::command::Command;
 use crate::fault::ScriptFault;
-use crate::founded::Founded;
+use crate::opening::Opener;
 use crate::print::{write_counts, write_fault, write_replies};
 use crate::request::{payload, request_of};
 use crate::script::{LineWords, Script};
@@ -12,6 +12,7 @@ use edi_envelope::Moment;
 use gs1_ids::Gln;
 use hub_core::{Hub, Input, Reply, Request};
 use hub_register::Register;
+use hub_sql::FoundFault;
 use hub_store::{Store, StoreFault};
 use std::alloc::Global;
 use std::{slice, str};
@@ -27,8 +28,9 @@ struct Asker {
 
 /// The hub, its current caller, the inputs of a run that is not made yet, and whether replies are printed.
 #[derive(Drop)]
-pub struct Trial<S: Founded> {
+pub struct Trial<S: Store + Drop, O: Opener<S>> {
     alloc: Global,
+    opener: O,
     hub: Option<Hub<TrialStore<S>>>,
     asker: Option<Asker>,
     run: Option<Vec<Input>>,
@@ -120,11 +122,12 @@ fn ran<S: Store>(hub: &mut Hub<S>, inputs: &[Input]) -> Result<Items<Reply>, Scr
     Ok(hub.run(inputs)?)
 }
 
-impl<S: Founded> Trial<S> {
+impl<S: Store + Drop, O: Opener<S>> Trial<S, O> {
     /// Begins without a hub.
-    pub fn new(alloc: Global) -> Self {
+    pub fn new(alloc: Global, opener: O) -> Self {
         Trial {
             alloc,
+            opener,
             hub: None,
             asker: None,
             run: None,
@@ -133,14 +136,19 @@ impl<S: Founded> Trial<S> {
     }
 
     /// Runs a script, and prints the replies.
-    pub fn play<W: Sink>(&mut self, text: &[u8], out: &mut W) -> Result<(), ScriptFault> {
+    pub fn play<W: Sink>(
+        &mut self,
+        rt: &HostRuntime,
+        text: &[u8],
+        out: &mut W,
+    ) -> Result<(), ScriptFault> {
         let mut script = Script::new(text);
         // each line takes at least one byte
         for _ in 0..text.len() {
             let Some(mut words) = script.next_line() else {
                 return Ok(());
             };
-            self.obey(&mut words, &mut script, out)?;
+            self.obey(rt, &mut words, &mut script, out)?;
         }
         Ok(())
     }
@@ -148,6 +156,7 @@ impl<S: Founded> Trial<S> {
     // Does what a line says.
     fn obey<W: Sink>(
         &mut self,
+        rt: &HostRuntime,
         words: &mut LineWords<'_>,
         script: &mut Script<'_>,
         out: &mut W,
@@ -155,24 +164,25 @@ impl<S: Founded> Trial<S> {
         let word = words.next_word();
         match request_of(self.alloc, word, words, script)? {
             Some(request) => self.ask(request, out),
-            None => self.command(Command::of(word)?, words, script, out),
+            None => self.command(rt, Command::of(word)?, words, script, out),
         }
     }
 
     // Runs a command.
     fn command<W: Sink>(
         &mut self,
+        rt: &HostRuntime,
         command: Command,
         words: &mut LineWords<'_>,
         script: &mut Script<'_>,
         out: &mut W,
     ) -> Result<(), ScriptFault> {
         match command {
-            Command::Hub => self.make_hub(words, script, out),
+            Command::Hub => self.make_hub(rt, words, script, out),
             Command::As => self.set_asker(words),
             Command::Run => self.begin_run(),
             Command::End => self.make_run(out),
-            Command::Mend => self.mend(out),
+            Command::Mend => self.mend(rt, out),
             Command::Counts => self.tell_counts(out),
             Command::Quiet(quiet) => {
                 self.quiet = quiet;
@@ -181,23 +191,32 @@ impl<S: Founded> Trial<S> {
         }
     }
 
-    // Makes a hub over a store that is founded with the register of the text.
+    // Makes a hub over its store, which is opened, or founded with the register of the text.
     fn make_hub<W: Sink>(
         &mut self,
+        rt: &HostRuntime,
         words: &mut LineWords<'_>,
         script: &mut Script<'_>,
         out: &mut W,
     ) -> Result<(), ScriptFault> {
         let register = register_of(self.alloc, payload(words, script)?)?;
         let failure = failure_of(words)?;
-        self.hub = None;
-        match S::founded(self.alloc, &register) {
+        self.close();
+        match self.opener.open(rt, &register) {
             Ok(plain) => self.set_hub(plain, failure, out),
             Err(fault) => write_fault(self.alloc, fault, out),
         }
     }
 
-    // Makes the hub of a store that fails in this way.
+    // Gives the hub's store back.
+    fn close(&mut self) {
+        if let Some(hub) = self.hub.take() {
+            let (_, store) = hub.into_store();
+            let _ = self.opener.take_back(store.into_store());
+        }
+    }
+
+    // Makes the hub of a store that was opened and fails in this way.
     fn set_hub<W: Sink>(
         &mut self,
         plain: S,
@@ -209,7 +228,10 @@ impl<S: Founded> Trial<S> {
                 self.hub = Some(hub);
                 Ok(())
             }
-            Err((_, fault)) => write_fault(self.alloc, fault, out),
+            Err((store, fault)) => {
+                let _ = self.opener.take_back(store.into_store());
+                write_fault(self.alloc, FoundFault::Store(fault), out)
+            }
         }
     }
 
@@ -267,16 +289,19 @@ impl<S: Founded> Trial<S> {
         write_replies(self.alloc, replies, out)
     }
 
-    // Makes a hub of the store with its rows; from then on no call of it fails. The register is read from it again.
-    fn mend<W: Sink>(&mut self, out: &mut W) -> Result<(), ScriptFault> {
+    // Reopens the store with what it keeps; from then on no call of it fails. The register is read from it again.
+    fn mend<W: Sink>(&mut self, rt: &HostRuntime, out: &mut W) -> Result<(), ScriptFault> {
         let Some(hub) = self.hub.take() else {
             return Err(ScriptFault::Line);
         };
-        let (_, store) = hub.into_store();
-        self.set_hub(store.into_store(), None, out)
+        let (register, store) = hub.into_store();
+        match self.opener.again(rt, &register, store.into_store()) {
+            Ok(plain) => self.set_hub(plain, None, out),
+            Err(fault) => write_fault(self.alloc, fault, out),
+        }
     }
 
-    // Prints how many look-ups and commits there were since the hub was made or its store was mended.
+    // Prints how many look-ups and commits there were since the hub was made or its store was reopened.
     fn tell_counts<W: Sink>(&mut self, out: &mut W) -> Result<(), ScriptFault> {
         let store = self.hub.as_ref().ok_or(ScriptFault::Line)?.store();
         write_counts(self.alloc, store.look_ups(), store.commits(), out)
