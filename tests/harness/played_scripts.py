@@ -109,11 +109,11 @@ class Player:
         try:
             for request in waiting:
                 answer = server.ask(request)
-                found = re.match(rb"HTTP/1\.1 (\d+) .*?\r\n\r\n", answer, re.DOTALL)
-                if not found:
+                head = re.match(rb"HTTP/1\.1 (\d+) .*?\r\n\r\n", answer, re.DOTALL)
+                if not head:
                     raise OSError(f"no answer: {answer!r:.200}")
-                statuses.append(int(found[1]))
-                self.replies.append((OUTCOMES.get(statuses[-1], str(statuses[-1])), answer[found.end() :]))
+                statuses.append(int(head[1]))
+                self.replies.append((OUTCOMES.get(statuses[-1], str(statuses[-1])), answer[head.end() :]))
             ended, wanted = server.end(), (exit_of(statuses), lines_of(server.port, statuses), b"")
             if ended != wanted:
                 raise OSError(f"serve: {ended!r:.300}, not {wanted!r:.300}")

@@ -247,19 +247,22 @@ def of_uploaded():
 def serving_refused(program, top):
     """Refuses each allocation of `serve` in turn, for two connections that make the same request."""
     shim, base = Shim(top), folder_with_hub(program, top)
-    why = request_refused(program, shim, uploading(), base)
-    if not why:
-        served_twice(program, base, uploading().request, {})
-        why = next(filter(None, (request_refused(program, shim, it, base) for it in of_uploaded())), None)
+    counts, why = request_refused(program, shim, uploading(), base, 0)
+    served_twice(program, base, uploading().request, {})
+    # those of opening the file are refused once
+    opening = sum(counts[it] for it in FAULTS.values())
+    for served in of_uploaded():
+        why = why or request_refused(program, shim, served, base, opening)[1]
     return why
 
 
-def request_refused(program, shim, served, base):
-    """Refuses each allocation in turn of two connections over a copy of the folder `base`. If the file could not be opened, asks again."""
+def request_refused(program, shim, served, base, passed_over):
+    """Refuses each allocation in turn of two connections over a copy of the folder `base`, but for the first so many. If the file could not
+    be opened, asks again. Returns the counts of what came of them, and what is wrong, if anything."""
     end = shutil.copytree(base, f"{base}end")
     if served.kind(*served_twice(program, end, served.request, shim.counting())) != "as ever":
-        return f"{served.name}, with ample memory"
-    wanted, allocations = rows_of(end), shim.counted()
+        return Counter(), f"{served.name}, with ample memory"
+    wanted, numbers = rows_of(end), range(passed_over + 1, shim.counted() + 1)
     shutil.rmtree(end)
 
     def tried(number):
@@ -275,13 +278,13 @@ def request_refused(program, shim, served, base):
         shutil.rmtree(folder)
         return kind, None
 
-    found = on_all_processors(tried, range(1, allocations + 1))
+    found = on_all_processors(tried, numbers)
     wrong, counts = [why for _, why in found if why], Counter(kind for kind, _ in found)
     if wrong:
-        return f"{len(wrong)} of {allocations} wrong, first {wrong[0]}"
-    print(f"serve, {served.name} twice: {allocations} allocations refused in turn: {in_words(counts)}", flush=True)
+        return counts, f"{len(wrong)} of {len(numbers)} wrong, first {wrong[0]}"
+    print(f"serve, {served.name} twice: {len(numbers)} allocations refused in turn: {in_words(counts)}", flush=True)
     few = served.stops and counts["503, then done"] + counts["done, then 503"] < FEWEST_STOPS
-    return f"{served.name}: too few stops" if few else None
+    return counts, f"{served.name}: too few stops" if few else None
 
 
 def script_refused(scripts, _):

@@ -4,6 +4,7 @@ of stands afterwards, and of what was not told of no message in part.
 The file then holds the rows that it had before the command or those that it has after it, or of an upload of two messages those with the
 first. The same command given again answers what is already there as repeated, and leaves the rows that it should have left. Each
 change is stopped in three ways: at once, with half of a write made, and with all lost that was not synced."""
+import contextlib
 import os
 import shutil
 import subprocess
@@ -45,11 +46,12 @@ class Stops:
         return shutil.copytree(folder, tempfile.mkdtemp(dir=self.top), dirs_exist_ok=True)
 
     def rows(self, folder):
-        """All rows of the file, and what SQLite finds wrong with it, read in a copy."""
-        copy = self.copied(folder)
-        found = rows_in(copy)
-        shutil.rmtree(copy)
-        return found
+        """All rows of the file, and what SQLite finds wrong with it, read in a copy of the file and its log."""
+        with tempfile.TemporaryDirectory(dir=self.top) as copy:
+            for name in (NAME, f"{NAME}-wal"):
+                with contextlib.suppress(FileNotFoundError):
+                    shutil.copyfile(os.path.join(folder, name), os.path.join(copy, name))
+            return rows_in(copy)
 
     def variables(self, folder, number, **way):
         return {"LD_PRELOAD": self.shim, "STOP_FILE": os.path.join(folder, NAME), "STOP": str(number), **way}
@@ -83,7 +85,8 @@ class Stops:
         part = (0, command.printed.replace(b"accepted", b"repeated", 1), b"")
         if again != {"all": command.answer_again(first), "nothing": first, "a part": part}[done]:
             return f"{what}: {done} was done, then {again!r:.300}"
-        left = self.rows(folder)
+        # nothing reads this folder afterwards
+        left = rows_in(folder)
         shutil.rmtree(folder)
         return done if left == rows[1] else f"{what}: {done} was done, and given again it leaves other rows"
 
