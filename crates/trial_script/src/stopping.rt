@@ -65,13 +65,25 @@ fn crashed<D: Stopping>(files: Files<D>) -> Files<D>
     Files { log, db }
 }
 
-// Returns the files of what came back with a fault.
+// Returns the pages of what came back with a fault. Of any pages, which costs the prover less than of those in files.
 #[inline(never)]
-fn returned<D: Stopping>(back: Returned<FileStore<D>>) -> Files<D> {
+fn pages_of<A: Alter + Drop>(back: Returned<A>) -> A {
     match back {
-        Returned::Connection(conn) => conn.into_store().close(),
-        Returned::Store(store) => store.close(),
+        Returned::Connection(conn) => conn.into_store(),
+        Returned::Store(pages) => pages,
     }
+}
+
+// Returns the pages of a store.
+#[inline(never)]
+fn taken<A: Alter + Drop>(store: SqliteStore<A>) -> A {
+    pages_of(Returned::Connection(store.into_connection()))
+}
+
+// Returns the files of pages.
+#[inline(never)]
+fn closed<D: Stopping>(pages: FileStore<D>) -> Files<D> {
+    pages.close()
 }
 
 // Copies the log into the file often, so that both are written while the script runs.
@@ -119,7 +131,7 @@ impl<D: Stopping> StoppingFiles<D> {
     // Keeps the files of a store.
     #[inline(never)]
     fn keep_files(&mut self, store: SqliteStore<FileStore<D>>) {
-        self.left = Some(returned(Returned::Connection(store.into_connection())));
+        self.left = Some(closed(taken(store)));
     }
 }
 
@@ -143,7 +155,7 @@ impl<D: Stopping> Opener<SqliteStore<FileStore<D>>> for StoppingFiles<D> {
         match found_store(rt.alloc(), conn, register) {
             Ok(store) => Ok(store),
             Err((back, fault)) => {
-                self.left = Some(returned(back));
+                self.left = Some(closed(pages_of(back)));
                 Err(fault)
             }
         }
