@@ -4,9 +4,10 @@ import os
 import re
 import subprocess
 import tempfile
+from concurrent.futures import ThreadPoolExecutor
 
 from tests.harness.case import SECONDS
-from tests.harness.database_files import NAME
+from tests.harness.database_files import NAME, is_whole
 from tests.harness.hub_steps import found, over
 from tests.harness.servers import Server, exit_of, lines_of
 
@@ -143,11 +144,6 @@ class Player:
         self.replies[-1] = ("bad" if reply.startswith(b"refused ") else outcome, reply)
 
 
-def over_lists(scripts, script):
-    """What the program `trial_script` prints of a script, over lists."""
-    return subprocess.run([scripts], input=script, capture_output=True, timeout=SECONDS, check=True).stdout
-
-
 def wrong(program, script, printed, files=(), after=None):
     """What is wrong where the program plays a script on a hub in a file, or begins with these files; `after` looks at the folder then."""
     with tempfile.TemporaryDirectory() as folder:
@@ -160,3 +156,22 @@ def wrong(program, script, printed, files=(), after=None):
         if not other and len(told) != len(wanted):
             other = f"{len(told)} replies, not {len(wanted)}"
         return other or (after(folder) if after else None)
+
+
+def runs_alike(program, scripts, script_of, count, what):
+    """Where the program `edihub`, on a file, does not answer the scripts of so many seeds as the program `scripts` does over lists, if
+    anywhere."""
+
+    def tried(seed):
+        script = script_of(seed)
+        over_lists = subprocess.run([scripts], input=script, capture_output=True, timeout=SECONDS, check=True)
+        return wrong(program, script, over_lists.stdout, after=is_whole)
+
+    try:
+        with ThreadPoolExecutor(len(os.sched_getaffinity(0))) as pool:
+            found = [(seed, why) for seed, why in enumerate(pool.map(tried, range(count))) if why]
+    except (OSError, subprocess.SubprocessError) as why:
+        return f"not tried: {why}"
+    if not found:
+        print(f"{count} {what} alike on files and over lists")
+    return f"{len(found)} of {count} {what}, first that of seed {found[0]}" if found else None

@@ -10,9 +10,8 @@ from collections import Counter
 from concurrent.futures import ThreadPoolExecutor
 
 from tests.harness.case import SECONDS
-from tests.harness.database_files import is_whole
 from tests.harness.hub_scripts import IN_FILES, Play, interchange, message, parties
-from tests.harness.played_scripts import over_lists, wrong
+from tests.harness.played_scripts import runs_alike
 from tests.harness.random_inputs import ITEM, SECOND_ITEM, sscc
 from tests.harness.register_texts import ALPHA, BETA, RETAILER
 
@@ -139,15 +138,4 @@ def kept_orders(program):
 
 def kept_on_files(program, scripts):
     """Where the program `edihub` on a file does not answer messages together as the program `scripts` over lists, if anywhere."""
-
-    def tried(seed):
-        together, _ = scripts_of(seed)
-        return wrong(program, together, over_lists(scripts, together), after=is_whole)
-
-    try:
-        with ThreadPoolExecutor(len(os.sched_getaffinity(0))) as pool:
-            found = [(seed, why) for seed, why in enumerate(pool.map(tried, range(ON_FILES))) if why]
-    except (OSError, subprocess.SubprocessError) as why:
-        return f"not tried: {why}"
-    print(f"{ON_FILES} runs of messages together on files")
-    return f"{len(found)} runs, first run {found[0]}" if found else None
+    return runs_alike(program, scripts, lambda seed: scripts_of(seed)[0], ON_FILES, "runs of messages together")

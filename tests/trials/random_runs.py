@@ -8,9 +8,8 @@ from collections import Counter
 from concurrent.futures import ThreadPoolExecutor
 
 from tests.harness.case import SECONDS
-from tests.harness.database_files import is_whole
 from tests.harness.hub_scripts import IN_FILES, Play
-from tests.harness.played_scripts import over_lists, wrong
+from tests.harness.played_scripts import runs_alike
 from tests.harness.random_inputs import KEYS_OF_ALL, NUMBERS, PREFIXES, SUPPLIERS, upload_of
 from tests.harness.register_texts import BETA, DELTA, GAMMA, RETAILER
 
@@ -101,15 +100,4 @@ def made_runs(program):
 
 def runs_on_files(program, scripts):
     """Where the program `edihub` on a file does not answer as the program `scripts` over lists, if anywhere."""
-
-    def tried(seed):
-        script = script_of(seed)
-        return wrong(program, script, over_lists(scripts, script), after=is_whole)
-
-    try:
-        with ThreadPoolExecutor(len(os.sched_getaffinity(0))) as pool:
-            found = [(seed, why) for seed, why in enumerate(pool.map(tried, range(ON_FILES))) if why]
-    except (OSError, subprocess.SubprocessError) as why:
-        return f"not tried: {why}"
-    print(f"{ON_FILES} made runs on files")
-    return f"{len(found)} runs, first run {found[0]}" if found else None
+    return runs_alike(program, scripts, script_of, ON_FILES, "made runs")
