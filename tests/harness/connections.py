@@ -31,8 +31,8 @@ class Connection:
     ending: object
 
 
-class Wire:
-    """Connections one after another."""
+class Connections:
+    """Connections that a new hub serves one after another."""
 
     def __init__(self):
         self.connections = []
@@ -46,7 +46,7 @@ class Wire:
         return self
 
     def wrong(self, program):
-        """What is wrong where a new hub serves these connections, if anything."""
+        """What is wrong with what is sent on them, printed or noted in the journal, if anything."""
         with tempfile.TemporaryDirectory() as folder:
             manner, journal = os.path.join(folder, "manner"), os.path.join(folder, "journal")
             env = {"LD_PRELOAD": built(WIRE, folder), "MANNER": manner}

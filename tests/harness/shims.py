@@ -1,6 +1,6 @@
 """Libraries in C between a program and the system, each with its source: one that ends the program at a change of its file, one that
-meddles with what it reads, one that cuts what connections read and write, one that refuses an allocation, one that counts the heap, and
-one that asks for large pages."""
+meddles with what it reads, one that cuts the reads and writes of connections and fails them, one that refuses an allocation, one that
+counts the heap, and one that asks for large pages."""
 import os
 import subprocess
 

@@ -31,7 +31,7 @@ int accept(int fd, struct sockaddr *address, socklen_t *length) {
     return accept4(fd, address, length, 0);
 }
 
-/* Whether a read or a write fails before which so many do not. */
+/* Counts a read or a write of which so many may succeed. Whether it fails, since none is left. */
 static int fails(long *left) {
     if ((*left)--) return 0;
     *left = 0;
@@ -55,7 +55,7 @@ ssize_t recv(int fd, void *bytes, size_t length, int flags) {
 
 ssize_t sendto(int fd, const void *bytes, size_t length, int flags, const struct sockaddr *address, socklen_t size) {
     if (fails(&writes)) return -1;
-    /* a write of no bytes is none */
+    /* the system would wait for room, and so is not asked to take nothing */
     return takes ? syscall(SYS_sendto, fd, bytes, least(length, takes), flags, address, size) : 0;
 }
 

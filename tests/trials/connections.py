@@ -1,5 +1,5 @@
 """Connections of HTTP that are read by pieces, or cut, or whose reads and writes fail, on the built program that serves them (wire.c)."""
-from tests.harness.connections import Wire
+from tests.harness.connections import Connections
 from tests.harness.first_order import ORDERS
 from tests.harness.http_texts import asking, response
 from tests.harness.hub_scripts import FIRST_MAIL
@@ -16,7 +16,7 @@ EMPTY = "end\n"
 
 def byte_by_byte():
     """Reads of one byte, and writes of one."""
-    play = Wire()
+    play = Connections()
     play.served(ORDER, 200, ORDER_TAKEN, "piece 1 takes 1")
     play.served(LIST, 200, LISTED, "piece 1 takes 1")
     play.served(asking("GET", f"/p/{ALPHA}/mail/item/1", ALPHA), 200, FIRST_MAIL, "takes 1")
@@ -25,7 +25,7 @@ def byte_by_byte():
 
 def reads_that_fail():
     """Each read fails in turn: nothing is written, and nothing taken."""
-    play = Wire()
+    play = Connections()
     for reads in range(len(ORDER)):
         play.failed(ORDER, "read", b"", f"piece 1 reads {reads}")
     play.served(LIST, 200, EMPTY)
@@ -35,7 +35,7 @@ def reads_that_fail():
 
 def faults_far_from_the_end():
     """A body that shows its fault at once is read to its end: cut, or with a read that fails behind the fault, it is not refused."""
-    play = Wire()
+    play = Connections()
     whole = asking("POST", f"/p/{RETAILER}/interchanges", RETAILER, "abc" + "x" * 297)
     for manner in ("", "piece 1"):
         play.served(whole[:-1], 400, "bad request\n", manner).served(whole, 400, "refused E05\n", manner)
@@ -46,7 +46,7 @@ def faults_far_from_the_end():
 
 def writes_that_fail():
     """Each write fails in turn, and what was sent is repeated; and a writer that takes nothing."""
-    play = Wire()
+    play = Connections()
     again = response(200, ORDER_AGAIN)
     play.failed(ORDER, "write", b"", "writes 0")
     for writes in range(len(again)):
@@ -58,7 +58,7 @@ def writes_that_fail():
 
 def interruptions():
     """A read or a write that is interrupted has failed."""
-    play = Wire()
+    play = Connections()
     for reads in (0, 1, 40, len(ORDER) - 1):
         play.failed(ORDER, "read", b"", f"piece 1 reads {reads} interrupted")
     play.served(LIST, 200, EMPTY)

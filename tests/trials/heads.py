@@ -1,5 +1,5 @@
 """Heads of requests: what is a head and what is none, on the built program that serves them, in reads of 1 to 10,000 bytes."""
-from tests.harness.connections import Wire
+from tests.harness.connections import Connections
 from tests.harness.hub_scripts import KEYS
 from tests.harness.register_texts import ALPHA
 from tests.trials.serving import tried_side_by_side
@@ -54,7 +54,7 @@ HEADS = [
 
 
 def in_steps(step):
-    play = Wire()
+    play = Connections()
     for _, head, (status, body) in HEADS:
         play.served(head.encode("latin-1") + BEHIND, status, body, f"piece {step}")
     return play

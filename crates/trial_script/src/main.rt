@@ -30,8 +30,8 @@
 //! For each reply it prints the outcome, `refused` if something was refused, the length of the body, a line end, and
 //! the body.
 //!
-//! `trial_script calls` reads no script: it makes the tests of calls (`trial_calls`), and prints the name of each;
-//! `calls NAME` makes only that one.
+//! `trial_script calls` reads no script: it makes the tests of calls (`trial_calls`), and prints the name of each, with
+//! `wrong` behind the first that does not pass, which is the last one made; `calls NAME` makes only that one.
 //!
 //! The exit status is 0; 1 if the script has a fault, or a call that is tested answers wrongly; or 3 if memory ran out,
 //! or a read or write failed.
