@@ -6,7 +6,7 @@ ghost use Rattle.hub_sql.specs.File.{AdoptsFiles};
 use crate::unopened::fault_at;
 use hub_sql::SqliteStore;
 use hub_store::StoreFault;
-use sqlite_disk::Start;
+use sqlite_disk::{Disk, Start};
 use sqlite_std_file::FileFrom;
 use sqlite_store::FileStore;
 
@@ -30,6 +30,6 @@ pub(crate) fn opened<S: Start>(
 
 /// Closes the file of a hub, together with everything in the log beside it. If that fails, what was accepted is kept.
 #[inline(never)]
-pub(crate) fn close<S: Start>(tables: SqliteStore<FileStore<FileFrom<S>>>) {
+pub(crate) fn close<D: Disk + Drop>(tables: SqliteStore<FileStore<D>>) {
     let _ = tables.into_connection().close();
 }

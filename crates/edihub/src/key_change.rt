@@ -1,6 +1,6 @@
 //! Changes the key of one party.
+use crate::database::{Work, over_a_hub};
 use crate::fault::BeginFault;
-use crate::hub_file::{close, opened};
 use crate::keys::key_at;
 use crate::tasks::status_if_written;
 use crate::tell;
@@ -10,22 +10,17 @@ use hub_app::RekeyWords;
 use hub_commands::{KeyOutcome, key_change_run};
 use hub_parties::Key;
 use hub_rekey::{KeyOwner, Rekeyed, rekey};
-use hub_store::StoreFault;
-use sqlite_disk::{Start, Unknown};
+use hub_store::Store;
 
-// Changes the key in the database file, and closes the file.
-#[inline(never)]
-fn rekey_file<S: Start>(
-    rt: &HostRuntime,
-    path: &str,
-    owner: &KeyOwner,
-    key: Key,
-    start: S,
-) -> Result<Rekeyed, StoreFault> {
-    let mut tables = opened(rt, path, start)?;
-    let told = rekey(&mut tables, owner, key);
-    close(tables);
-    told
+/// A new key for one party.
+#[derive(Drop)]
+pub(crate) struct KeyChange<'a> {
+    /// The path of the database's file.
+    pub(crate) db: &'a str,
+    /// Whose key is changed.
+    pub(crate) owner: KeyOwner,
+    /// The new key.
+    pub(crate) key: Key,
 }
 
 // Returns whose key the words name.
@@ -36,30 +31,52 @@ fn owner_of(words: &RekeyWords<'_>) -> KeyOwner {
     }
 }
 
-// Does what the words ask. The file with the key is read first, so that the database is opened only if there is a key.
-fn outcome_of(rt: &HostRuntime, words: &RekeyWords<'_>) -> Result<KeyOutcome, BeginFault> {
+// Reads the key, and returns the change that the words ask for, or `None` if the file holds no key.
+fn change_of<'a>(
+    rt: &HostRuntime,
+    words: &RekeyWords<'a>,
+) -> Result<Option<KeyChange<'a>>, BeginFault> {
     let text = key_at(rt, words.key_file)?;
     let Some(key) = Key::parse(text.as_slice()) else {
-        return Ok(KeyOutcome::NoKey);
+        return Ok(None);
     };
-    match rekey_file(rt, words.db, &owner_of(words), key, Unknown)? {
-        Rekeyed::Done => Ok(KeyOutcome::Done),
-        Rekeyed::Unknown => Ok(KeyOutcome::Unknown),
-    }
+    Ok(Some(KeyChange {
+        db: words.db,
+        owner: owner_of(words),
+        key,
+    }))
 }
 
-// Changes the key, and prints the outcome.
-fn print_outcome(rt: &HostRuntime, words: &RekeyWords<'_>) -> Result<u8, BeginFault> {
-    let outcome = outcome_of(rt, words)?;
+// Prints what became of the key, and returns the exit status.
+fn print_outcome(rt: &HostRuntime, outcome: KeyOutcome) -> Result<u8, BeginFault> {
     let mut out = OfWrite::new(rt.stdout());
     let status = key_change_run(outcome, &mut out);
     status_if_written(&out, status)
 }
 
-/// Changes the key of the party in the database file that the words name, and returns the exit status.
+/// Changes the key in a store, and prints the outcome.
+pub(crate) fn change_in<S: Store>(
+    rt: &HostRuntime,
+    store: &mut S,
+    change: KeyChange<'_>,
+) -> Result<u8, BeginFault> {
+    let KeyChange { db: _, owner, key } = change;
+    let outcome = match rekey(store, &owner, key)? {
+        Rekeyed::Done => KeyOutcome::Done,
+        Rekeyed::Unknown => KeyOutcome::Unknown,
+    };
+    print_outcome(rt, outcome)
+}
+
+/// Changes the key of the party in the database file that the words name, and returns the exit status. The file with
+/// the key is read first, so that the database is opened only if there is a key.
 pub(crate) fn change_key(rt: &HostRuntime, words: &RekeyWords<'_>) -> u8 {
-    match print_outcome(rt, words) {
-        Ok(status) => status,
+    match change_of(rt, words) {
+        Ok(Some(change)) => over_a_hub(rt, Work::Rekey(change)),
+        Ok(None) => match print_outcome(rt, KeyOutcome::NoKey) {
+            Ok(status) => status,
+            Err(fault) => tell(rt, fault, FAILED),
+        },
         Err(fault) => tell(rt, fault, FAILED),
     }
 }

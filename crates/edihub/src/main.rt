@@ -17,7 +17,7 @@ mod unopened;
 mod verify;
 
 use clap::Error;
-use database::{Work, over_a_hub};
+use database::{HubWork, Work, over_a_hub};
 use edi_base::exit::{FAILED, USAGE};
 use edi_relay::relay_run;
 use edi_tokens::{OfRead, OfWrite};
@@ -58,7 +58,7 @@ fn tell_refused(rt: &HostRuntime, fault: &WordsFault) -> u8 {
 // Runs a command over a hub, once its keys are read.
 fn with_the_hub(rt: &HostRuntime, given: &[String], words: HubWords<'_>) -> u8 {
     match with_keys(rt, words) {
-        Ok(asked) => over_a_hub(rt, Work::Command(asked)),
+        Ok(asked) => over_a_hub(rt, Work::Hub(HubWork::Command(asked))),
         Err(KeyFault::Unread(fault)) => tell(rt, fault, FAILED),
         Err(KeyFault::Refused) => tell_refused(rt, &file_key_refused(rt.alloc(), given)),
     }
@@ -98,7 +98,7 @@ fn run(rt: &HostRuntime, given: &[String]) -> u8 {
         Ok(Words::Rekey(words)) => change_key(rt, &words),
         Ok(Words::Verify(words)) => verify_database(rt, &words),
         Ok(Words::Hub(words)) => with_the_hub(rt, given, words),
-        Ok(Words::Serve(words)) => over_a_hub(rt, Work::Serve(words)),
+        Ok(Words::Serve(words)) => over_a_hub(rt, Work::Hub(HubWork::Serve(words))),
         Err(fault) => tell_refused(rt, &fault),
     }
 }

@@ -7,8 +7,8 @@ use hub_app::ServeWords;
 use hub_commands::Hub;
 use hub_journal::Journaled;
 use hub_serve::{
-    ClockMoments, Connections, Listening, Moments, NamedOr, OnBroken, Paths, print_listening,
-    serve_on,
+    ClockMoments, Connections, Listener, Listening, Moments, NamedOr, OnBroken, Paths,
+    print_listening, serve_on,
 };
 use hub_store::Store;
 
@@ -60,28 +60,13 @@ fn serve_journaled<L: Connections + Drop, S: Store, M: Moments, W: Sink>(
     (status, journaled.into_connections())
 }
 
-/// Serves connections from the network. If a fault ends that, it is printed.
-pub(crate) fn serve_over<S: Store>(
-    rt: &HostRuntime,
-    hub: &mut Hub<S>,
+// Returns the fault that ended serving, if one did.
+fn check_ending<L, C, S: Store>(
+    hub: &Hub<S>,
     words: &ServeWords<'_>,
-) -> Result<u8, BeginFault> {
-    let paths = Paths::new(rt.alloc())?;
-    let connections = Listening::on(rt, words.port).map_err(|_| BeginFault::Listen)?;
-    let mut moments = NamedOr::new(words.moment, ClockMoments::new(rt));
-    let mut out = OfWrite::new(rt.stdout());
-    if print_listening(&mut out, words.port).is_err() {
-        return Err(BeginFault::File);
-    }
-    let (status, connections) = serve_journaled(
-        rt,
-        &paths,
-        connections,
-        hub,
-        &mut moments,
-        words,
-        &mut out,
-    );
+    moments: &NamedOr<ClockMoments<'_, C>>,
+    connections: &Listening<L>,
+) -> Result<(), BeginFault> {
     if words.stop_when_broken {
         if let Some(fault) = hub.fault() {
             return Err(BeginFault::from(fault));
@@ -93,5 +78,42 @@ pub(crate) fn serve_over<S: Store>(
     if connections.has_failed() {
         return Err(BeginFault::Listen);
     }
+    Ok(())
+}
+
+// Serves the connections of a port that is open, which is printed first.
+fn serve_listening<L: Listener + Drop, S: Store>(
+    rt: &HostRuntime,
+    hub: &mut Hub<S>,
+    words: &ServeWords<'_>,
+    paths: &Paths,
+    connections: Listening<L>,
+) -> Result<u8, BeginFault> {
+    let mut moments = NamedOr::new(words.moment, ClockMoments::new(rt));
+    let mut out = OfWrite::new(rt.stdout());
+    if print_listening(&mut out, words.port).is_err() {
+        return Err(BeginFault::File);
+    }
+    let (status, connections) = serve_journaled(
+        rt,
+        paths,
+        connections,
+        hub,
+        &mut moments,
+        words,
+        &mut out,
+    );
+    check_ending(hub, words, &moments, &connections)?;
     status_if_written(&out, status)
+}
+
+/// Serves connections from the network. If a fault ends that, it is returned.
+pub(crate) fn serve_over<S: Store>(
+    rt: &HostRuntime,
+    hub: &mut Hub<S>,
+    words: &ServeWords<'_>,
+) -> Result<u8, BeginFault> {
+    let paths = Paths::new(rt.alloc())?;
+    let connections = Listening::on(rt, words.port).map_err(|_| BeginFault::Listen)?;
+    serve_listening(rt, hub, words, &paths, connections)
 }

@@ -261,67 +261,56 @@ despatch_alike s used known despatch state number there told =
 -- the code's decision on one line, then on the rest with what it left
 pub despatched_next :
     (sscc : List ℕ) (n : ℕ) (said : DespatchLine) (rest : List DespatchLine) (before : List Change)
-    (lines after : Orders) (line : LineFacts) (row : LineRow) (number : List ℕ) (next : Orders → Verdict)
+    (lines after : Orders) (line : LineFacts) (row : LineRow) (next : Orders → Verdict)
     → not (has_order lines said.order) ≡ false
     → facts_among (lines_in lines said.order) said.order_line said.gtin ≡ Some line
     → ((verdict : Verdict) → despatch_checks said line verdict ≡ verdict)
     → row ≡ line.row
-    → number ≡ row.number
     → after ≡ with_row (answered_row line.row (row.open_qty - said.quantity) row.refused row.cancelled row.answer) lines
     → joined before (lines_from sscc n (said ∷ rest) lines next)
-    ≡ joined ((before ++ SetLine (record row { open_qty = row.open_qty - said.quantity }) ∷ [])
-    ++ AddContent (record { sscc = sscc; place = n + 1; number = number; line = row.line; quantity = said.quantity })
-    ∷ []) (lines_from sscc (n + 1) rest after next)
-despatched_next sscc n said rest before lines after line row number next known found pass is number_is set =
-    let set_line : Change = SetLine (after_despatch said line) in
-    let content : Change = new_content sscc (n + 1) said line in
+    ≡ joined (before ++ SetLine (record row { open_qty = row.open_qty - said.quantity }) ∷ AddContent
+    (record { sscc = sscc; place = n + 1; number = row.number; line = row.line; quantity = said.quantity }) ∷ [])
+    (lines_from sscc (n + 1) rest after next)
+despatched_next sscc n said rest before lines after line row next known found pass is set =
+    let both : List Change = SetLine (after_despatch said line) ∷ new_content sscc (n + 1) said line ∷ [] in
     let left : with_row (after_despatch said line) lines ≡ after =
     sym (set
     ∙ ap (λ (r : LineRow).
     with_row (answered_row line.row (r.open_qty - said.quantity) r.refused r.cancelled r.answer) lines) is) in
     let tail : Verdict = lines_from sscc (n + 1) rest after next in
-    let named : number ≡ line.row.number = number_is ∙ ap (λ (r : LineRow). r.number) is in
     ap₂ (λ v one. joined before (refuse_if v NoOrder (given one NoLine (λ line.
     despatch_checks said line (joined (SetLine (after_despatch said line) ∷ new_content sscc (n + 1) said line ∷ [])
     (lines_from sscc (n + 1) rest (with_row (after_despatch said line) lines) next)))))) known found
-    ∙ ap (joined before) (pass (joined (set_line ∷ content ∷ [])
+    ∙ ap (joined before) (pass (joined both
     (lines_from sscc (n + 1) rest (with_row (after_despatch said line) lines) next)))
-    ∙ ap (λ ls. joined before (joined (set_line ∷ content ∷ []) (lines_from sscc (n + 1) rest ls next))) left
-    ∙ ap (joined before) (joined_grouped (set_line ∷ []) (content ∷ []) tail)
-    ∙ sym (joined_grouped (before ++ set_line ∷ []) (content ∷ []) tail
-    ∙ joined_grouped before (set_line ∷ []) (joined (content ∷ []) tail))
-    ∙ ap₂ (λ (r : LineRow) (name : List ℕ).
-    joined ((before ++ SetLine (record r { open_qty = r.open_qty - said.quantity }) ∷ [])
-    ++ AddContent (record { sscc = sscc; place = n + 1; number = name; line = r.line; quantity = said.quantity }) ∷ [])
-    tail) (sym is) (sym named)
+    ∙ ap (λ ls. joined before (joined both (lines_from sscc (n + 1) rest ls next))) left
+    ∙ sym (joined_grouped before both tail)
+    ∙ ap (λ (r : LineRow).
+    joined (before ++ SetLine (record r { open_qty = r.open_qty - said.quantity }) ∷ AddContent
+    (record { sscc = sscc; place = n + 1; number = r.number; line = r.line; quantity = said.quantity }) ∷ [])
+    tail) (sym is)
 
--- the code's decision on the next unit, up to its lines
+-- the code's decision on the next unit, then what follows it
 pub unit_next : (s : SupplierRow) (advice : List ℕ) (came later : List ℕ → Bool)
     (ahead units : List Unit) (flags rest : List Bool) (lines : Orders) (unit : Unit) (flag taken : Bool)
-    (number : List ℕ) (pallet : Change) (before pushed : List Change)
+    (number : List ℕ) (before : List Change)
     → ahead ≡ unit ∷ units
     → flags ≡ flag ∷ rest
     → taken ≡ (flag || came unit.sscc)
     → ((sscc : List ℕ) → later sscc ≡ and_sscc came unit.sscc sscc)
-    → ((verdict : Verdict) → unit_checks s unit.sscc taken verdict ≡ verdict)
     → number ≡ advice
-    → pallet ≡ new_pallet s number unit.sscc
-    → pushed ≡ before ++ pallet ∷ []
     → joined before (units_from s advice came ahead flags lines)
-    ≡ joined pushed (lines_from unit.sscc 0 unit.lines lines (λ left. units_from s advice later units rest left))
-unit_next s advice came later ahead units flags rest lines unit flag taken number pallet before pushed is is_flag
-    is_taken more pass named made put_on =
+    ≡ joined before (unit_checks s unit.sscc taken (joined (new_pallet s number unit.sscc ∷ [])
+    (lines_from unit.sscc 0 unit.lines lines (λ left. units_from s advice later units rest left))))
+unit_next s advice came later ahead units flags rest lines unit flag taken number before is is_flag is_taken more named =
     let of : (List ℕ → Bool) → Verdict =
     λ among. lines_from unit.sscc 0 unit.lines lines (λ left. units_from s advice among units rest left) in
-    let behind : Verdict = joined (new_pallet s advice unit.sscc ∷ []) (of (and_sscc came unit.sscc)) in
     let same_came : and_sscc came unit.sscc ≡ later = λ i sscc. sym (more sscc) i in
     ap₂ (λ us flags. joined before (units_from s advice came us flags lines)) is is_flag
-    ∙ ap (λ v. joined before (unit_checks s unit.sscc v behind)) (sym is_taken)
-    ∙ ap (joined before) (pass behind)
-    ∙ sym (joined_grouped before (new_pallet s advice unit.sscc ∷ []) (of (and_sscc came unit.sscc)))
-    ∙ ap₂ (λ changes among. joined changes (of among))
-    (sym (put_on ∙ ap (λ change. before ++ change ∷ []) (made ∙ ap (λ number. new_pallet s number unit.sscc) named)))
-    same_came
+    ∙ ap₂ (λ v among. joined before (unit_checks s unit.sscc v (joined (new_pallet s advice unit.sscc ∷ []) (of among))))
+    (sym is_taken) same_came
+    ∙ ap (λ number. joined before (unit_checks s unit.sscc taken (joined (new_pallet s number unit.sscc ∷ []) (of later))))
+    (sym named)
 
 -- after the last unit
 pub units_end : (s : SupplierRow) (advice : List ℕ) (came : List ℕ → Bool) (units : List Unit)

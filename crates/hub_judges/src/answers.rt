@@ -1,7 +1,8 @@
 //! Applies answers to order lines.
-ghost use Rattle.std.specs.Prelude.{◌≡◌, ◌+◌, ◌≤◌, ◌++◌, ℕ, false, not, map, IfOk};
+ghost use Rattle.std.specs.Prelude.{◌≡◌, ◌+◌, ◌≤◌, ◌++◌, ℕ, List, ◌∷◌, false, not, map, IfOk};
 ghost use Rattle.std.specs.List.{AllByRecursion};
 ghost use Rattle.std.specs.Option.{IfSome, IfNone};
+ghost use Rattle.edi_orders.specs.declared.response.AnswerLine.{AnswerLine};
 ghost use Rattle.hub_tables.specs.State.{waits};
 ghost use Rattle.hub_tables.specs.declared.change.Change.TheVariants.{SetLine};
 ghost use Rattle.hub_tables.specs.declared.rows.LineRow.{LineRow};
@@ -12,6 +13,7 @@ ghost use Rattle.hub_rules.specs.declared.verdict.Verdict.{Verdict};
 ghost use Rattle.hub_rules.specs.declared.verdict.Verdict.TheVariants.{Refuse};
 ghost use Rattle.hub_judges.specs.FromFacts.{answer_checks, after_answer, answers_from, waiting};
 
+use crate::changes::append;
 use edi_base::{Items, MemoryFault};
 use edi_orders::{AnswerLine, LineAnswer};
 use hub_order_lines::{Book, LineFacts, copied_row};
@@ -113,10 +115,38 @@ pub(crate) fn answer_all(
 {
     for line in lines {
         if line.row.number.as_slice() == order && is_waiting(line) {
-            changes.push(Change::SetLine(answered_line(alloc, answer, line)?))?;
+            let row = answered_line(alloc, answer, line)?;
+            append(changes, Change::SetLine(row))?;
         }
     }
     Ok(())
+}
+
+// Appends the change for an answer to a line, and sets the line in the book; or returns the rule that the answer
+// breaks: B06, B07, B08 or B09.
+fn answer_line(
+    alloc: Global,
+    order: &[u8],
+    said: &AnswerLine,
+    book: &mut Book<'_>,
+    changes: &mut Items<Change>,
+) -> Result<Option<Code>, MemoryFault>
+    ensures refused { IfOk result (λ fault. IfSome fault (λ code. (rest : List AnswerLine) →
+        joined changes.old (answers_from order.now (said.now ∷ rest) book.old) ≡ Refuse code)) }
+    ensures answered { IfOk result (λ fault. IfNone fault ((rest : List AnswerLine) →
+        joined changes.old (answers_from order.now (said.now ∷ rest) book.old)
+        ≡ joined changes.new (answers_from order.now rest book.new))) }
+{
+    let Some(line) = book.line(order, said.order_line, &said.gtin) else {
+        return Ok(Some(Code::NoLine));
+    };
+    if let Some(code) = answer_fault(said, line) {
+        return Ok(Some(code));
+    }
+    let row = answered_line(alloc, said.answer, line)?;
+    book.set(alloc, order, said.order_line, &said.gtin, &row)?;
+    append(changes, Change::SetLine(row))?;
+    Ok(None)
 }
 
 /// Decides on the answers to an order's lines, and appends their changes. B06 to B09 are checked for each line, on what
@@ -133,15 +163,9 @@ pub(crate) fn answer_lines(
     let mut book = book;
     let mut changes = changes;
     for answer in said {
-        let Some(line) = book.line(order, answer.order_line, &answer.gtin) else {
-            return Ok(Verdict::Refuse(Code::NoLine));
-        };
-        if let Some(code) = answer_fault(answer, line) {
+        if let Some(code) = answer_line(alloc, order, answer, &mut book, &mut changes)? {
             return Ok(Verdict::Refuse(code));
         }
-        let row = answered_line(alloc, answer.answer, line)?;
-        book.set(alloc, order, answer.order_line, &answer.gtin, &row)?;
-        changes.push(Change::SetLine(row))?;
     }
     Ok(Verdict::Accept(changes))
 }

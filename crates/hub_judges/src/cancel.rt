@@ -1,10 +1,13 @@
 //! Decides on cancellations.
-ghost use Rattle.std.specs.Prelude.{◌≡◌, IfOk, option_copied};
+ghost use Rattle.std.specs.Prelude.{◌≡◌, [], ◌∷◌, IfOk, option_copied};
 ghost use Rattle.hub_tables.specs.Tables.{Tables};
+ghost use Rattle.hub_tables.specs.declared.change.Change.TheVariants.{Remember, SetLine};
+ghost use Rattle.hub_rules.specs.RepeatRules.{remembered};
 ghost use Rattle.hub_rules.specs.Rules as rules;
 ghost use Rattle.hub_judges.specs.FromFacts.{of_line, cancelled_from};
 ghost use Rattle.hub_judges.specs.Known.{TellsForCancel};
 
+use crate::changes::both;
 use crate::known::Known;
 use crate::party::registered_supplier;
 use crate::remembering::repeats;
@@ -40,6 +43,28 @@ fn cancelled_line(
     Ok(Ok(after))
 }
 
+// Returns the changes for a cancellation that is accepted: it is remembered, and its line is set.
+fn remember_and_set(
+    alloc: Global,
+    row: &SupplierRow,
+    cancel: &Cancel,
+    content: Items<u8>,
+    after: LineRow,
+) -> Result<Items<Change>, MemoryFault>
+    ensures { IfOk result (λ changes.
+        changes ≡ Remember (remembered (rules.cancelled_by row.now cancel.now) content) ∷ SetLine after ∷ []) }
+{
+    let remembered = RememberedRow {
+        supplier: row.gln,
+        side: Column::of(Side::Cancellation),
+        control: copy_bytes(alloc, cancel.reference.as_slice())?,
+        message: Items::new(alloc),
+        content,
+    };
+    let changes = both(alloc, Change::Remember(remembered), Change::SetLine(after))?;
+    Ok(changes)
+}
+
 /// Decides on a cancellation: checks B02, B03, B05, B06 and B17 in this order. `MemoryFault` if memory ran out.
 #[tactic(auto, using(crate::proofs::Cancelled::cancel_alike))]
 pub fn judge_cancel(
@@ -63,14 +88,6 @@ pub fn judge_cancel(
         Ok(after) => after,
         Err(code) => return Ok(Verdict::Refuse(code)),
     };
-    let mut changes = Items::new(alloc);
-    changes.push(Change::Remember(RememberedRow {
-        supplier: row.gln,
-        side: Column::of(Side::Cancellation),
-        control: copy_bytes(alloc, cancel.reference.as_slice())?,
-        message: Items::new(alloc),
-        content,
-    }))?;
-    changes.push(Change::SetLine(after))?;
+    let changes = remember_and_set(alloc, row, cancel, content, after)?;
     Ok(Verdict::Accept(changes))
 }

@@ -4,6 +4,7 @@
 
 mod answers;
 mod cancel;
+mod changes;
 mod despatch;
 mod earlier;
 mod join;

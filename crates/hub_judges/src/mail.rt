@@ -6,6 +6,7 @@ ghost use Rattle.hub_rules.specs.MailboxRules as mailbox;
 ghost use Rattle.hub_rules.specs.RepeatRules.{remembered};
 ghost use Rattle.hub_rules.specs.Rules.{referred_by};
 
+use crate::changes::both;
 use crate::remembering::remember;
 use edi_base::{Items, MemoryFault, copy_bytes};
 use edi_envelope::LAST_MAIL_NUMBER;
@@ -66,8 +67,7 @@ pub(crate) fn remember_and_mail(
         ∷ mailbox.mail_entry row.now.gln (mails + 1) incoming kind document.now body ∷ []) }
 {
     let mail = new_mail(alloc, row.gln, mails, &incoming, kind, document, body)?;
-    let mut changes = Items::new(alloc);
-    changes.push(remember(row.gln, Side::Retailer, incoming))?;
-    changes.push(mail)?;
+    let first = remember(row.gln, Side::Retailer, incoming);
+    let changes = both(alloc, first, mail)?;
     Ok(changes)
 }

@@ -1,11 +1,18 @@
 //! Decides on RECADV messages.
-ghost use Rattle.std.specs.Prelude.{◌≡◌, ◌&&◌, ◌||◌, ◌++◌, not, map, IfOk, option_copied};
+ghost use Rattle.std.specs.Prelude.{◌≡◌, ◌&&◌, ◌||◌, ◌+◌, ◌<◌, ◌++◌, [], ◌∷◌, ℕ, List};
+ghost use Rattle.std.specs.Prelude.{not, map, IfOk, IfErr, option_copied};
 ghost use Rattle.std.specs.List.{AllByRecursion};
 ghost use Rattle.hub_tables.specs.State.{is_announced};
 ghost use Rattle.hub_tables.specs.Tables.{Tables};
+ghost use Rattle.hub_tables.specs.declared.cases.MailKind.TheVariants as kinds;
+ghost use Rattle.hub_tables.specs.declared.cases.Side.TheVariants as sides;
+ghost use Rattle.hub_tables.specs.declared.change.Change.TheVariants.{Remember};
 ghost use Rattle.hub_rules.specs.Judging.{joined};
+ghost use Rattle.hub_rules.specs.MailboxRules.{mail_entry};
 ghost use Rattle.hub_rules.specs.ReceiptRules.{gtins, new_receipt};
+ghost use Rattle.hub_rules.specs.RepeatRules.{remembered};
 ghost use Rattle.hub_rules.specs.Rules as rules;
+ghost use Rattle.hub_rules.specs.declared.incoming.IncomingMessage.{IncomingMessage};
 ghost use Rattle.hub_judges.specs.FromFacts.{no_sscc, received, receipts_from};
 ghost use Rattle.hub_judges.specs.Known.{TellsForReceipt};
 ghost use Rattle.hub_judges.specs.Totals.{RowsHold};
@@ -17,6 +24,7 @@ use crate::party::admitted_supplier;
 use crate::remembering::repeats;
 use crate::totals::totals_of;
 use edi_base::{Items, MemoryFault, Seen, copy_bytes};
+use edi_envelope::LAST_MAIL_NUMBER;
 use edi_goods::{Receipt, ReceiptUnit};
 use gs1_ids::Gln;
 use hub_parties::SupplierRow;
@@ -122,6 +130,39 @@ fn judge_units(
     Ok(Verdict::Accept(changes))
 }
 
+// Returns the supplier of a receiving advice that is new and passes B01, B02 and B16; otherwise the verdict: a
+// repetition, or the first of B01, B02, B03 and B16 that the advice breaks.
+fn receipt_supplier<'a>(
+    alloc: Global,
+    retailer: &Gln,
+    supplier: Option<&'a SupplierRow>,
+    known: &Known,
+    receipt: &Receipt,
+) -> Result<&'a SupplierRow, Verdict>
+    ensures ok { IfOk result (λ row. (incoming : IncomingMessage) (body : List ℕ) (state : Tables) →
+        TellsForReceipt known.now incoming receipt.now state →
+        rules.judge_receipt retailer.now (option_copied supplier.entry) incoming body receipt.now state
+        ≡ joined (Remember (remembered (rules.referred_by row.now sides.Retailer incoming) incoming.content)
+        ∷ mail_entry row.now.gln (known.now.mails + 1) incoming kinds.Receipt receipt.now.number body ∷ [])
+        (receipts_from receipt.now.replaces no_sscc receipt.now.units known.now.pallets)) }
+    ensures room { IfOk result (λ _. known.now.mails < LAST_MAIL_NUMBER) }
+    ensures err { IfErr result (λ verdict. (incoming : IncomingMessage) (body : List ℕ) (state : Tables) →
+        TellsForReceipt known.now incoming receipt.now state →
+        verdict ≡ rules.judge_receipt retailer.now (option_copied supplier.entry) incoming body receipt.now state) }
+{
+    let row = match admitted_supplier(retailer, supplier, receipt.buyer, &receipt.supplier) {
+        Ok(row) => row,
+        Err(code) => return Err(Verdict::Refuse(code)),
+    };
+    if let Some(verdict) = repeats(alloc, known.remembered) {
+        return Err(verdict);
+    }
+    if is_full(known.mails) {
+        return Err(Verdict::Refuse(Code::MailboxFull));
+    }
+    Ok(row)
+}
+
 /// Decides on a RECADV: checks B01, B02, B03 and B16 in this order; then B14 for each unit, and B15 if the advice does
 /// not replace. If it replaces, all earlier receipts of its units' pallets are deleted. If two units have the same
 /// SSCC, the second finds the pallet received: it breaks B15, or its totals replace those of the first. The total of
@@ -143,16 +184,10 @@ pub fn judge_receipt(
         verdict ≡ rules.judge_receipt retailer.now
         (option_copied supplier.entry) incoming body receipt.now state) }
 {
-    let row = match admitted_supplier(retailer, supplier, receipt.buyer, &receipt.supplier) {
+    let row = match receipt_supplier(alloc, retailer, supplier, known, receipt) {
         Ok(row) => row,
-        Err(code) => return Ok(Verdict::Refuse(code)),
+        Err(verdict) => return Ok(verdict),
     };
-    if let Some(verdict) = repeats(alloc, known.remembered) {
-        return Ok(verdict);
-    }
-    if is_full(known.mails) {
-        return Ok(Verdict::Refuse(Code::MailboxFull));
-    }
     let number = receipt.number.as_slice();
     let kind = MailKind::Receipt;
     let changes = remember_and_mail(alloc, row, known.mails, incoming, kind, number, body)?;

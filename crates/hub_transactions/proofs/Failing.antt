@@ -9,7 +9,7 @@ use Rattle.hub_tables.specs.Tables.{Tables}
 use Rattle.hub_acts.specs.HubLaw.Told.{Act}
 use Rattle.hub_acts.specs.HubTexts.Decision.{told_of}
 use Rattle.hub_acts.specs.HubTexts.declared.decision.Decision.{Decision}
-use Rattle.hub_acts.specs.Acts.{BreaksBy, FailsWith, OfAny}
+use Rattle.hub_acts.specs.Acts.{BreaksBy, FailsWith, OfAny, no_answer}
 use Rattle.hub_transactions.specs.Judged.{UnreadOf, act_of}
 use Rattle.hub_transactions.specs.declared.judged.Judged.{Judged}
 
@@ -110,3 +110,18 @@ fails_with plain cause other may may_also before old new fault result same is we
         → IfSome o (λ broken. (fault ≡ Memory) ⊎ (fault ≡ fault_of broken))
         → IfSome o (λ broken. (fault ≡ Memory) ⊎ (fault ≡ fault_of broken))
     again o h = h
+
+-- a call that cannot answer over a broken store fails the same way as one that may answer
+pub fails_as : {X : Type 0} (plain : Bool) (cause other : Type 0) (may : X → Type 0) (old new : Option LastingFault)
+    (result : Result X StoreFault)
+    → (cause → other)
+    → FailsWith plain cause no_answer old new result
+    → FailsWith plain other may old new result
+fails_as plain cause other may None new (Ok x) weaker fails = record {
+  again = tt;
+  after = fails.after;
+  only_memory = fails.only_memory;
+}
+fails_as plain cause other may (Some broken) new (Ok x) weaker fails = absurd fails.again
+fails_as plain cause other may old new (Err fault) weaker fails =
+    fails_with plain cause other no_answer may old old new fault (Err fault) refl refl weaker fails

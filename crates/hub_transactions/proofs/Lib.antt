@@ -8,7 +8,6 @@ pub mod ByNumber
 pub mod CancelWithin
 pub mod Failing
 pub mod Fitted
-pub mod Judging
 pub mod KeptOrders
 pub mod LookUps
 pub mod Named

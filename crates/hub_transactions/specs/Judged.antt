@@ -1,11 +1,13 @@
 -- Defines the decision on a message, and what it does to the tables.
-use Rattle.std.specs.Prelude.{◌≡◌, ⊤, Option, Result, Err, IfOk}
+use Rattle.std.specs.Prelude.{◌≡◌, ◌≢◌, ⊤, Option, Result, Err, IfOk, IfErr}
 use Rattle.edi_messages.specs.Fault as message_faults
 use Rattle.edi_messages.specs.declared.fault.MessageFault.{MessageFault}
+use Rattle.edi_messages.specs.declared.fault.MessageFault.TheVariants as message_fault
 use Rattle.edi_envelope.specs.declared.interchange.RawMessage.{RawMessage}
 use Rattle.hub_parties.specs.Rows.{Parties, RegisterRows, parties_of, supplier_row}
 use Rattle.hub_parties.specs.declared.row.SupplierRow.{SupplierRow}
 use Rattle.hub_store.specs.declared.fault.StoreFault.{StoreFault}
+use Rattle.hub_store.specs.declared.fault.StoreFault.TheVariants.{Memory}
 use Rattle.hub_store.specs.declared.store.Store.{Ghosts}
 use Rattle.hub_tables.specs.Tables.{Tables, view}
 use Rattle.hub_rules.specs.Laws.{SoundUnder, Registered, PartiesRise}
@@ -37,6 +39,11 @@ pub record CannotBeRead {X : Type 0} (read : Result X MessageFault) (judged : Ju
   pub fault : MessageFault
   pub read_as : read ≡ Err fault
   pub is : judged ≡ Unread fault
+
+-- the decision on a message that cannot be read for this fault says so; if memory ran out, there is none
+pub record UnreadFor (fault : MessageFault) (result : Result Judged StoreFault) : Type 0 where
+  pub ok : IfOk result (λ judged. (judged ≡ Unread fault) × (fault ≢ message_fault.Memory))
+  pub err : IfErr result (λ error. (error ≡ Memory) × (fault ≡ message_fault.Memory))
 
 -- the decision is what the act does to any tables, and nothing is changed
 pub record UnreadOf (deliver : Act) (judged : Judged) : Type 0 where

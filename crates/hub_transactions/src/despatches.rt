@@ -7,11 +7,12 @@ ghost use Rattle.hub_store.specs.Clean.{are_clean};
 ghost use Rattle.hub_store.specs.Lines.{lines_at};
 ghost use Rattle.hub_store.specs.declared.fault.StoreFault.TheVariants.{Unclean};
 ghost use Rattle.hub_acts.specs.Acts.{FailsOver, NoCause, Stays, any_answer, no_answer};
+ghost use Rattle.hub_judges.specs.Known.{names_order};
 ghost use Rattle.hub_order_lines.specs.Book.{Orders};
 ghost use Rattle.hub_order_lines.specs.KnownLines.{AreUnclean};
 ghost use Rattle.hub_order_lines.specs.KnownOrders.{is_kept, AddsOrder};
 ghost use Rattle.hub_transactions.specs.Named.{NamedUnclean, SomeUnclean};
-ghost use Rattle.hub_transactions.specs.Knowing.{KeepsNamed, KnowsForDespatch};
+ghost use Rattle.hub_transactions.specs.Knowing.{KeepsNamed, KnowsForDespatch, KnowsNamed};
 ghost use Rattle.hub_transactions.specs.Orders.{ForgetsOrders, KeepsOrders};
 
 use crate::knowing::{is_repetition, keep_order, known_for_message};
@@ -162,6 +163,36 @@ fn index_units(alloc: Global, units: &[Unit], orders: &mut KnownOrders) -> Resul
     Ok(())
 }
 
+// Looks up each order that the units name and that is not yet known, and builds an index for each of which they name a
+// line by its article. Returns the orders that are known only by the lines that are named.
+fn know_named<'a, S: Store>(
+    alloc: Global,
+    store: &mut S,
+    supplier: &Gln,
+    units: &'a [Unit],
+    orders: &mut KnownOrders,
+) -> Result<Items<&'a [u8]>, StoreFault>
+    ensures known { S.honest store.new → KeepsOrders orders.old (view supplier.now (S.content store.old)) →
+        IfOk result (λ apart. KnowsNamed units.now orders.new apart supplier.now (S.content store.old)) }
+    ensures all { OnOk result ((order : List ℕ) →
+        names_order units.now order ≡ true → is_kept orders.new order ≡ true) }
+    ensures unclean { S.honest store.new → S.broken store.old ≡ None →
+        are_clean (S.content store.old) ≡ true →
+        result ≡ Err Unclean → NamedUnclean units.now (view supplier.now (S.content store.old)) }
+    ensures goes_on { OnOk result (S.broken store.new ≡ S.broken store.old) }
+    ensures fails { FailsOver S.Store (S.honest store.new →
+        NamedUnclean units.now (view supplier.now (S.content store.old)))
+        any_answer store.old store.new result }
+    ensures stays { Stays S.Store store.old store.new }
+{
+    let numbers = orders_named(alloc, units)?;
+    let named = lines_named(alloc, units)?;
+    let mut apart = Items::new(alloc);
+    know_orders(alloc, store, supplier, &numbers, &named, orders, &mut apart)?;
+    index_units(alloc, units, orders)?;
+    Ok(apart)
+}
+
 // Appends an answer.
 fn put_answer(answers: &mut Items<bool>, answer: bool) -> Result<(), MemoryFault>
     ensures { OnOk result (answers.new ≡ answers.old ++ answer ∷ []) }
@@ -218,30 +249,16 @@ pub(crate) fn known_for_despatch<'a, S: Store>(
         no_answer store.old store.new result }
     ensures stays { Stays S.Store store.old store.new }
 {
-    let units = despatch.units.as_slice();
-    let mut apart = Items::new(alloc);
     let remembered = is_repetition(store, supplier, Side::Supplier, incoming)?;
     let number = despatch.number.as_slice();
     let number_known = store.advice_known(supplier, number)?;
     if remembered.is_some() || number_known {
-        return Ok((
-            known_for_message(alloc, remembered, number_known, orders),
-            apart,
-        ));
+        let known = known_for_message(alloc, remembered, number_known, orders);
+        return Ok((known, Items::new(alloc)));
     }
+    let units = despatch.units.as_slice();
     let used = units_in_use(alloc, store, units)?;
-    let numbers = orders_named(alloc, units)?;
-    let named = lines_named(alloc, units)?;
-    know_orders(
-        alloc,
-        store,
-        supplier,
-        &numbers,
-        &named,
-        &mut orders,
-        &mut apart,
-    )?;
-    index_units(alloc, units, &mut orders)?;
+    let apart = know_named(alloc, store, supplier, units, &mut orders)?;
     let known = Known {
         remembered,
         orders,

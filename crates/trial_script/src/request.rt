@@ -6,9 +6,14 @@ use gs1_ids::Prefix;
 use hub_core::{Join, Request, read_cancel};
 use std::alloc::Global;
 
-// Reads the number of a mailbox entry.
-fn number(words: &mut LineWords<'_>) -> Result<u64, ScriptFault> {
-    words.next_number().ok_or(ScriptFault::Line)
+// Returns the request with this word that names the number of a mailbox entry.
+fn on_entry(word: &[u8], words: &mut LineWords<'_>) -> Result<Option<Request>, ScriptFault> {
+    let number = words.next_number().ok_or(ScriptFault::Line)?;
+    Ok(Some(match word {
+        b"after" => Request::MailAfter(number),
+        b"item" => Request::MailItem(number),
+        _ => Request::MailTaken(number),
+    }))
 }
 
 fn upload(
@@ -67,9 +72,7 @@ pub fn request_of(
 ) -> Result<Option<Request>, ScriptFault> {
     match word {
         b"upload" => upload(alloc, words, script),
-        b"after" => Ok(Some(Request::MailAfter(number(words)?))),
-        b"item" => Ok(Some(Request::MailItem(number(words)?))),
-        b"taken" => Ok(Some(Request::MailTaken(number(words)?))),
+        b"after" | b"item" | b"taken" => on_entry(word, words),
         b"status" => Ok(Some(Request::Status)),
         b"status-of" => status_of(words),
         b"cancel" => cancel(alloc, words, script),

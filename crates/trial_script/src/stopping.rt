@@ -94,22 +94,25 @@ fn options() -> Options {
 }
 
 // Returns the store over a connection: with the rows that it has, or founded with those of a register if it has no
-// tables or those of schema 1.
+// tables or those of schema 1. If that fails, the pages come back.
 #[inline(never)]
 fn found_store<A: Alter + Drop>(
     alloc: Global,
     conn: Connection<A>,
     register: &Register,
-) -> Result<SqliteStore<A>, (Returned<A>, FoundFault)>
+) -> Result<SqliteStore<A>, (A, FoundFault)>
     requires idle { conn.in_transaction ≡ false }
     requires unlimited { conn.step_limit ≡ None }
 {
     if is_no_schema(conn.schema()) || is_old_schema(conn.schema()) {
-        return SqliteStore::found(alloc, conn, register);
+        return match SqliteStore::found(alloc, conn, register) {
+            Ok(store) => Ok(store),
+            Err((back, fault)) => Err((pages_of(back), fault)),
+        };
     }
     match SqliteStore::adopt(alloc, conn) {
         Ok(store) => Ok(store),
-        Err((back, fault)) => Err((back, FoundFault::Store(fault))),
+        Err((back, fault)) => Err((pages_of(back), FoundFault::Store(fault))),
     }
 }
 
@@ -154,8 +157,8 @@ impl<D: Stopping> Opener<SqliteStore<FileStore<D>>> for StoppingFiles<D> {
         };
         match found_store(rt.alloc(), conn, register) {
             Ok(store) => Ok(store),
-            Err((back, fault)) => {
-                self.left = Some(closed(pages_of(back)));
+            Err((pages, fault)) => {
+                self.left = Some(closed(pages));
                 Err(fault)
             }
         }

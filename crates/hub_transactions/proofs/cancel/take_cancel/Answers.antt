@@ -1,10 +1,9 @@
-use Rattle.std.proofs.Common.{rules, ◌≡◌, Err, sym, subst, ap, ◌∙◌}
+use Rattle.std.proofs.Common.{rules, ◌≡◌, Err, sym, subst, ap}
 use Rattle.hub_parties.specs.Rows.{supplier_row}
 use Rattle.hub_tables.specs.State.{lines_of}
 use Rattle.hub_tables.specs.Tables.{Tables, view}
 use Rattle.hub_order_lines.specs.KnownLines.{AreUnclean}
 use Rattle.hub_rules.specs.Rules.{judge_cancel}
-use Rattle.hub_judges.specs.Known.{TellsForCancel}
 use Rattle.hub_acts.specs.HubLaw.CancelText.{cancel_text}
 use Rattle.hub_acts.specs.HubLaw.Mark.{Whole}
 use Rattle.hub_acts.specs.HubLaw.Replies.{act_reply}
@@ -28,18 +27,14 @@ returns-clause-carried g c = λ hub rise.
     let t = g.S.Store.content c.args.store.now in
     let state = view cancel.supplier t in
     let does : Tables → Reply × Tables = λ t. answered Whole (cancel_named register cancel t) t in
-    let supplier = c.supplier-supplier.ensures.value in
-    let content = c.in_ok-content.ensures in
-    let verdict : g.S.Store.honest c.known_for_cancel.new.store →
+    let verdict : g.S.Store.honest c.decide_cancel.new.store →
     c.in_ok-verdict.verdict ≡ judge_cancel (supplier_row register.suppliers cancel.supplier) (cancel_text cancel) cancel state =
-    λ honest. c.in_ok-verdict.ensures state (subst (λ content. TellsForCancel c.in_ok-known.known content cancel state) c.as_slice.ensures
-    (c.in_ok-known.ensures.told honest))
-    ∙ (λ i. judge_cancel (supplier i) (content i) cancel state) in
+    c.in_ok-verdict.ensures.verdict in
     after_looking g.S.Store c.args.store.now
-    c.known_for_cancel.new.store c.commit_and_reply.new.store
+    c.decide_cancel.new.store c.commit_and_reply.new.store
     does (λ t. replied_by act_reply (act c.in_ok-verdict.verdict t)) as_told
     (VerdictFits c.in_ok-verdict.verdict)
-    c.in_ok-known.ensures.stays c.commit_and_reply.ensures.unharmed.was_honest
+    c.in_ok-verdict.ensures.stays c.commit_and_reply.ensures.unharmed.was_honest
     (λ honest. ap (λ verdict. replied_by act_reply (act verdict t)) (sym (verdict honest)))
     (λ honest. subst (λ verdict. VerdictFits verdict t) (sym (verdict honest)) (named_fits register.suppliers cancel.supplier t
     (λ supplier. judge_cancel supplier (cancel_text cancel) cancel) hub tt
@@ -53,33 +48,29 @@ returns-clause-clean g c = λ hub rise within.
     let cancel = c.args.cancel.now in
     let t = g.S.Store.content c.args.store.now in
     let state = view cancel.supplier t in
-    let supplier = c.supplier-supplier.ensures.value in
-    let content = c.in_ok-content.ensures in
-    let verdict : g.S.Store.honest c.known_for_cancel.new.store →
+    let verdict : g.S.Store.honest c.decide_cancel.new.store →
     c.in_ok-verdict.verdict ≡ judge_cancel (supplier_row register.suppliers cancel.supplier) (cancel_text cancel) cancel state =
-    λ honest. c.in_ok-verdict.ensures state (subst (λ content. TellsForCancel c.in_ok-known.known content cancel state) c.as_slice.ensures
-    (c.in_ok-known.ensures.told honest))
-    ∙ (λ i. judge_cancel (supplier i) (content i) cancel state) in
+    c.in_ok-verdict.ensures.verdict in
     clean_after_looking g.S.Store c.args.store.now
-    c.known_for_cancel.new.store c.commit_and_reply.new.store
-    c.in_ok-known.ensures.stays c.commit_and_reply.ensures.unharmed.was_honest c.in_ok-known.ensures.fails.after
+    c.decide_cancel.new.store c.commit_and_reply.new.store
+    c.in_ok-verdict.ensures.stays c.commit_and_reply.ensures.unharmed.was_honest c.in_ok-verdict.ensures.fails.after
     (VerdictFits c.in_ok-verdict.verdict) (VerdictClean c.in_ok-verdict.verdict)
     (λ honest. subst (λ verdict. VerdictFits verdict t) (sym (verdict honest)) (named_fits register.suppliers cancel.supplier t
     (λ supplier. judge_cancel supplier (cancel_text cancel) cancel) hub tt
     (λ s here changes accepted. c.accepted_changes_fit.ensures register.suppliers s t (Cancels (cancel_text cancel) cancel) changes
     here rise tt accepted)))
     (λ honest clean. subst (λ verdict. VerdictClean verdict t) (sym (verdict honest))
-    (cancel_clean register t cancel c.supplier-supplier.ensures.register hub within clean))
+    (cancel_clean register t cancel c.in_ok-verdict.ensures.register hub within clean))
     c.commit_and_reply.result c.commit_and_reply.ensures.clean
 
-pub returns-in_err-known-clause-clean : goal.returns-in_err-known-clause-clean
-returns-in_err-known-clause-clean g c = λ hub rise within.
+pub returns-in_err-verdict-clause-clean : goal.returns-in_err-verdict-clause-clean
+returns-in_err-verdict-clause-clean g c = λ hub rise within.
     let register = c.args.register.now in
     let cancel = c.args.cancel.now in
     let t = g.S.Store.content c.args.store.now in
-    let fault = c.in_err-known.field-0.0 in
-    let is : c.from_residual-in_err-known.result ≡ Err fault = search rules in
-    failed_stays g.S.Store c.args.store.now c.known_for_cancel.new.store
+    let fault = c.in_err-verdict.field-0.0 in
+    let is : c.from_residual.result ≡ Err fault = search rules in
+    failed_stays g.S.Store c.args.store.now c.decide_cancel.new.store
     (AreUnclean (lines_of (view cancel.supplier t) cancel.order))
     (c.lines_of_sound_tables_are_known.ensures.order register.suppliers cancel.supplier cancel.order t hub.sound)
-    fault c.in_err-known.ensures.unclean c.from_residual-in_err-known.result is c.in_err-known.ensures.stays.content_stays
+    fault c.in_err-verdict.ensures.unclean c.from_residual.result is c.in_err-verdict.ensures.stays.content_stays

@@ -4,7 +4,7 @@ use Rattle.std.specs.Slice.Iter.{iter_rest}
 use Rattle.edi_base.specs.Seen.{is_among}
 use Rattle.hub_rules.specs.Judging.{joined}
 use Rattle.hub_judges.specs.FromFacts.{no_sscc, units_from}
-use Rattle.hub_judges.proofs.despatch.judge_units.Given as goal
+use Rattle.hub_judges.proofs.despatch.load_units.Given as goal
 
 -- the remaining units, on what the earlier ones left
 abbrev pub invariant-loop-unit : goal.invariant-loop-unit
