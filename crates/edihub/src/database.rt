@@ -7,9 +7,8 @@ use crate::hub_file::{close, opened};
 use crate::key_change::{KeyChange, change_in};
 use crate::keys::KeyRequest;
 use crate::serve::serve_over;
+use crate::status_of;
 use crate::tasks::obey;
-use crate::tell;
-use edi_base::exit::FAILED;
 use hub_app::ServeWords;
 use hub_commands::Hub;
 use hub_sql::SqliteStore;
@@ -86,8 +85,8 @@ fn over_store<S: Store + Drop>(
     }
 }
 
-// Does the work over these tables, and gives them back. Of any tables, which costs the prover less than of those in
-// files.
+// Does the work over these tables, and gives them back. Generic over where they are kept, because the prover takes longer
+// for tables in files.
 #[inline(never)]
 fn over_tables<A: Alter + Drop>(
     rt: &HostRuntime,
@@ -108,10 +107,7 @@ fn over_file<S: Start>(rt: &HostRuntime, work: Work<'_>, start: S) -> Result<u8,
     status
 }
 
-/// Does the work over the hub in the database file that its words name, and returns the exit status.
+/// Does the work over the hub in the database file that it names, and returns the exit status.
 pub(crate) fn over_a_hub(rt: &HostRuntime, work: Work<'_>) -> u8 {
-    match over_file(rt, work, Unknown) {
-        Ok(status) => status,
-        Err(fault) => tell(rt, fault, FAILED),
-    }
+    status_of(rt, over_file(rt, work, Unknown))
 }

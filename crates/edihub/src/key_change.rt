@@ -1,11 +1,8 @@
 //! Changes the key of one party.
-use crate::database::{Work, over_a_hub};
 use crate::fault::BeginFault;
 use crate::keys::key_at;
 use crate::tasks::status_if_written;
-use crate::tell;
 use edi_base::OfWrite;
-use edi_base::exit::FAILED;
 use hub_app::RekeyWords;
 use hub_commands::{KeyOutcome, key_change_run};
 use hub_parties::Key;
@@ -31,8 +28,8 @@ fn owner_of(words: &RekeyWords<'_>) -> KeyOwner {
     }
 }
 
-// Reads the key, and returns the change that the words ask for, or `None` if the file holds no key.
-fn change_of<'a>(
+/// Reads the key, and returns the change that the words ask for, or `None` if the file holds no key.
+pub(crate) fn change_of<'a>(
     rt: &HostRuntime,
     words: &RekeyWords<'a>,
 ) -> Result<Option<KeyChange<'a>>, BeginFault> {
@@ -47,8 +44,8 @@ fn change_of<'a>(
     }))
 }
 
-// Prints what became of the key, and returns the exit status.
-fn print_outcome(rt: &HostRuntime, outcome: KeyOutcome) -> Result<u8, BeginFault> {
+/// Prints what became of the key, and returns the exit status.
+pub(crate) fn print_outcome(rt: &HostRuntime, outcome: KeyOutcome) -> Result<u8, BeginFault> {
     let mut out = OfWrite::new(rt.stdout());
     let status = key_change_run(outcome, &mut out);
     status_if_written(&out, status)
@@ -66,17 +63,4 @@ pub(crate) fn change_in<S: Store>(
         Rekeyed::Unknown => KeyOutcome::Unknown,
     };
     print_outcome(rt, outcome)
-}
-
-/// Changes the key of the party in the database file that the words name, and returns the exit status. The file with
-/// the key is read first, so that the database is opened only if there is a key.
-pub(crate) fn change_key(rt: &HostRuntime, words: &RekeyWords<'_>) -> u8 {
-    match change_of(rt, words) {
-        Ok(Some(change)) => over_a_hub(rt, Work::Rekey(change)),
-        Ok(None) => match print_outcome(rt, KeyOutcome::NoKey) {
-            Ok(status) => status,
-            Err(fault) => tell(rt, fault, FAILED),
-        },
-        Err(fault) => tell(rt, fault, FAILED),
-    }
 }

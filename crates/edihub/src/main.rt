@@ -21,11 +21,11 @@ use database::{HubWork, Work, over_a_hub};
 use edi_base::exit::{FAILED, USAGE};
 use edi_relay::relay_run;
 use edi_tokens::{OfRead, OfWrite};
-use fault::KeyFault;
-use hub_app::{HubWords, Words, WordsFault, file_key_refused, read_words};
-use hub_commands::{check_run, show_run};
+use fault::{BeginFault, KeyFault};
+use hub_app::{HubWords, RekeyWords, Words, WordsFault, file_key_refused, read_words};
+use hub_commands::{KeyOutcome, check_run, show_run};
 use init::init;
-use key_change::change_key;
+use key_change::{change_of, print_outcome};
 use keys::with_keys;
 use register::register_text;
 use std::fmt::Display;
@@ -37,6 +37,14 @@ use verify::verify_database;
 pub(crate) fn tell<T: Display + Drop>(rt: &HostRuntime, line: T, status: u8) -> u8 {
     let _ = rt.eprintln(line);
     status
+}
+
+// Returns the exit status of what was done; if it failed, prints the fault.
+pub(crate) fn status_of(rt: &HostRuntime, done: Result<u8, BeginFault>) -> u8 {
+    match done {
+        Ok(status) => status,
+        Err(fault) => tell(rt, fault, FAILED),
+    }
 }
 
 // Prints what is wrong with the words, or the help that they ask for.
@@ -61,6 +69,15 @@ fn with_the_hub(rt: &HostRuntime, given: &[String], words: HubWords<'_>) -> u8 {
         Ok(asked) => over_a_hub(rt, Work::Hub(HubWork::Command(asked))),
         Err(KeyFault::Unread(fault)) => tell(rt, fault, FAILED),
         Err(KeyFault::Refused) => tell_refused(rt, &file_key_refused(rt.alloc(), given)),
+    }
+}
+
+// Changes a key. The file that holds the new one is read first, so that the database is opened only if there is one.
+fn change_key(rt: &HostRuntime, words: &RekeyWords<'_>) -> u8 {
+    match change_of(rt, words) {
+        Ok(Some(change)) => over_a_hub(rt, Work::Rekey(change)),
+        Ok(None) => status_of(rt, print_outcome(rt, KeyOutcome::NoKey)),
+        Err(fault) => tell(rt, fault, FAILED),
     }
 }
 

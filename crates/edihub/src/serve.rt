@@ -81,7 +81,7 @@ fn check_ending<L, C, S: Store>(
     Ok(())
 }
 
-// Serves the connections of a port that is open, which is printed first.
+// Prints that the port is open, and serves its connections; a fault that ends that is returned.
 fn serve_listening<L: Listener + Drop, S: Store>(
     rt: &HostRuntime,
     hub: &mut Hub<S>,

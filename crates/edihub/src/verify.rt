@@ -1,9 +1,8 @@
 //! Checking whether a database is a sound start.
 use crate::fault::BeginFault;
+use crate::status_of;
 use crate::tasks::status_if_written;
-use crate::tell;
 use crate::unopened::fault_at;
-use edi_base::exit::FAILED;
 use edi_base::{OfWrite, write_bytes};
 use hub_app::VerifyWords;
 use hub_audit::{Audit, check_file, report_status, report_text};
@@ -42,8 +41,5 @@ fn print_audit(rt: &HostRuntime, words: &VerifyWords<'_>) -> Result<u8, BeginFau
 
 /// Checks the database file that the words name, and returns the exit status.
 pub(crate) fn verify_database(rt: &HostRuntime, words: &VerifyWords<'_>) -> u8 {
-    match print_audit(rt, words) {
-        Ok(status) => status,
-        Err(fault) => tell(rt, fault, FAILED),
-    }
+    status_of(rt, print_audit(rt, words))
 }

@@ -6,14 +6,21 @@ use gs1_ids::Prefix;
 use hub_core::{Join, Request, read_cancel};
 use std::alloc::Global;
 
-// Returns the request with this word that names the number of a mailbox entry.
-fn on_entry(word: &[u8], words: &mut LineWords<'_>) -> Result<Option<Request>, ScriptFault> {
-    let number = words.next_number().ok_or(ScriptFault::Line)?;
-    Ok(Some(match word {
-        b"after" => Request::MailAfter(number),
-        b"item" => Request::MailItem(number),
-        _ => Request::MailTaken(number),
-    }))
+// Reads the number of a mailbox entry.
+fn number(words: &mut LineWords<'_>) -> Result<u64, ScriptFault> {
+    words.next_number().ok_or(ScriptFault::Line)
+}
+
+fn after(words: &mut LineWords<'_>) -> Result<Option<Request>, ScriptFault> {
+    Ok(Some(Request::MailAfter(number(words)?)))
+}
+
+fn item(words: &mut LineWords<'_>) -> Result<Option<Request>, ScriptFault> {
+    Ok(Some(Request::MailItem(number(words)?)))
+}
+
+fn taken(words: &mut LineWords<'_>) -> Result<Option<Request>, ScriptFault> {
+    Ok(Some(Request::MailTaken(number(words)?)))
 }
 
 fn upload(
@@ -72,7 +79,9 @@ pub fn request_of(
 ) -> Result<Option<Request>, ScriptFault> {
     match word {
         b"upload" => upload(alloc, words, script),
-        b"after" | b"item" | b"taken" => on_entry(word, words),
+        b"after" => after(words),
+        b"item" => item(words),
+        b"taken" => taken(words),
         b"status" => Ok(Some(Request::Status)),
         b"status-of" => status_of(words),
         b"cancel" => cancel(alloc, words, script),
